@@ -7,7 +7,8 @@ program=${1:-build/aspcheck}
 passed=0
 failed=0
 notes=$(mktemp) || exit 1
-trap 'rm -f "$notes"' EXIT
+ended=$(mktemp) || exit 1
+trap 'rm -f "$notes" "$ended"' EXIT
 
 # tell WHAT STATUS OUTPUT NOTE CODE GIVEN: counts a run by what was wanted and what came.
 tell() {
@@ -38,6 +39,9 @@ printf '%b' "$right" | "$program" > /dev/full 2> "$notes"
 tell 'write to a full device' 74 '' 'aspcheck: write failed' "${PIPESTATUS[1]}" ''
 "$program" --help > /dev/full 2> "$notes"
 tell 'help to a full device' 74 '' 'aspcheck: write failed' $? ''
+# where nobody reads any more the status alone tells it
+{ sleep 1; printf '%b' "$right" | "$program" 2> "$notes"; echo "${PIPESTATUS[1]}" > "$ended"; } | true
+tell 'closed pipe' 74 '' '' "$(cat "$ended")" ''
 given=$(head -c 268435457 /dev/zero | "$program" 2> "$notes")
 tell 'input of 2^28 and one bytes' 67 '' 'aspcheck: input too long' $? "$given"
 given=$(ulimit -v 60000; head -c 100000000 /dev/zero | "$program" 2> "$notes")

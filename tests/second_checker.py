@@ -149,28 +149,34 @@ def read_smodels(text):
     return program.finish()
 
 
-# ---- proofs: whether an optimum was sought, the sets, and the other lines, each with its set and its nogood
+# ---- proofs: the lines after the first two, as they come, each with its set and its nogood
 def counted(numbers):
     need(numbers and 0 <= numbers[0] < len(numbers), PROOF)
     return numbers[1:numbers[0] + 1], numbers[numbers[0] + 1:]
 
 
-def read_proof(text):
-    lines = text.split(b"\n")
-    need(len(lines) > 3 and lines[1] in (b"enum", b"opt") and lines[-2:] == [b"0", b""], PROOF)
-    sets, others = [], []
-    for line in lines[2:-2]:
+def lines_of_proof(text):
+    *lines, rest = text.split(b"\n")
+    are_sets = True
+    for number, line in enumerate(lines, 1):
+        need(len(line) <= MOST_BYTES, TOO_LONG)
+        if line == b"0":
+            yield line, [], []
+            need(number == len(lines) and not rest, PROOF)
+            return
         need(re.fullmatch(rb"[aolc]( (0|-?[1-9][0-9]*))+", line), PROOF)
         kind, numbers, atoms, nogood = line[:1], [int(word) for word in line.split()[1:]], [], []
-        need(max(map(abs, numbers)) <= MOST and (kind != b"a" or not others), PROOF)
+        need(max(map(abs, numbers)) <= MOST and (kind != b"a" or are_sets), PROOF)
         if kind in b"ao":
             atoms, numbers = counted(numbers)
             need(atoms == sorted(set(atoms)) and all(atom > 0 for atom in atoms) and (atoms or kind == b"a"), PROOF)
         if kind != b"a":
             nogood, numbers = counted(numbers)
         need(not numbers and 0 not in nogood, PROOF)
-        sets.append(atoms) if kind == b"a" else others.append((kind, atoms, nogood))
-    return lines[1] == b"opt", sets, others
+        are_sets = kind == b"a"
+        yield kind, atoms, nogood
+    need(len(rest) <= MOST_BYTES, TOO_LONG)
+    sys.exit(PROOF)
 
 
 # ---- stable models
@@ -292,15 +298,7 @@ def is_loop(known, atoms, nogood):
         is_answered(body) for heads, _, body in known.rules if atoms & set(heads))
 
 
-def judge(program, is_opt, sets, others):
-    """Nothing, or the reason and the line of the first fault."""
-    for number, atoms in enumerate(sets, 3):
-        if number > 3 and (is_opt or min(set(atoms) ^ set(sets[number - 4]), default=0) not in atoms):
-            return 2, number
-        if not program.atoms >= set(atoms):
-            return 3, number
-        if not is_stable(program, set(atoms)):
-            return 1, number
+def known_at_first(program, is_opt, sets):
     known = Known(program)
     for atoms in map(set, sets):
         if is_opt:
@@ -309,8 +307,32 @@ def judge(program, is_opt, sets, others):
         else:
             known.add_nogood([variable if atom in atoms else -variable for atom, variable in known.atom.items()])
     known.fails = known.propagate(known.values, [known.forced({}, it) for it in known.sums] + [known.priced({})])
-    assumed, is_whole = {known.of(literal) for literal in program.assumptions}, False
-    for number, (kind, atoms, nogood) in enumerate(others, len(sets) + 3):
+    return known
+
+
+def judge(program, text):
+    """Nothing, or the reason and the line of the first fault. A line that is none ends all, if no line before it is wrong."""
+    _, mode, *rest = text.split(b"\n", 2)
+    need(mode in (b"enum", b"opt") and rest, PROOF)
+    is_opt, sets, known, is_whole = mode == b"opt", [], None, False
+    assumed = set()
+    for number, (kind, atoms, nogood) in enumerate(lines_of_proof(rest[0]), 3):
+        if kind == b"a":
+            if sets and (is_opt or min(set(atoms) ^ set(sets[-1]), default=0) not in atoms):
+                return 2, number
+            if not program.atoms >= set(atoms):
+                return 3, number
+            if not is_stable(program, set(atoms)):
+                return 1, number
+            sets.append(atoms)
+            continue
+        if not known:
+            known = known_at_first(program, is_opt, sets)
+            assumed = {known.of(literal) for literal in program.assumptions}
+        if kind == b"0":
+            if not is_whole:
+                return 6, number
+            continue
         if not program.atoms >= set(atoms) or any(abs(literal) > known.count for literal in nogood):
             return 3, number
         if kind == b"o" and not is_loop(known, set(atoms), set(nogood)):
@@ -320,18 +342,18 @@ def judge(program, is_opt, sets, others):
         is_whole = is_whole or kind != b"o" and assumed >= set(nogood)
         known.add_nogood(nogood)
         known.fails = known.fails or known.propagate(known.values, [known.forced(known.values, known.sums[-1])])
-    return None if is_whole else (6, len(sets) + len(others) + 3)
+    return None
 
 
 def main():
     words = [part for word in sys.argv[1:] for part in word.split("=", 1)]
     need(words in ([], ["--format", "aspif"], ["--format", "smodels"]), USAGE)
     text = sys.stdin.buffer.read()
-    need(len(text) <= MOST_BYTES, TOO_LONG)
     start = re.search(rb"^proof 1\n", text, re.M)
+    need((start.start() if start else len(text)) <= MOST_BYTES, TOO_LONG)
     need(start, PROOF)
     program = (read_smodels if words[1:] == ["smodels"] else read_aspif)(text[:start.start()])
-    fault = judge(program, *read_proof(text[start.start():]))
+    fault = judge(program, text[start.start():])
     print("NO %d %d" % fault if fault else "YES")
     sys.exit(NO if fault else 0)
 

@@ -5,8 +5,9 @@ use Rattle.std.specs.List.{list_any, list_all}
 use Rattle.std.specs.declared.cmp.Ordering.{Ordering}
 use Rattle.std.specs.declared.cmp.Ordering.TheVariants.{Less}
 use Rattle.std.proofs.lemmas.Bool.{false≢true, cases_order, cases_lt}
-use Rattle.std.proofs.lemmas.List.{take_all, take_more, length_push, get_or_default, map-append}
-use Rattle.std.proofs.lemmas.List.Folds.{list_any_more}
+use Rattle.std.proofs.lemmas.List.{take_all, take_more, length_push, get_or_push, get_or_default, map-append}
+use Rattle.std.proofs.lemmas.List.Folds.{list_any-append}
+use Rattle.std.proofs.Math.Seq.{take-append_seam}
 use Rattle.std.proofs.lemmas.List.Elements.{recursion_from_All, All-from_recursion}
 use Rattle.std.proofs.lemmas.List.Quantifiers.{all_pairs_push}
 use Rattle.asp_model.specs.declared.program.Program.{Program}
@@ -28,12 +29,11 @@ use Rattle.asp_proof.specs.declared.proof.Proof.{Proof}
 use Rattle.asp_checker.specs.declared.bounds.Bound.{Bound}
 use Rattle.asp_checker.specs.declared.judge.Why.{Why}
 use Rattle.asp_checker.specs.declared.judge.Why.TheVariants as why
-use Rattle.asp_checker.specs.declared.judge.Judgement.TheVariants as judgement
 use Rattle.asp_checker.specs.Propagation.{Known, LeadsToConflict}
 use Rattle.asp_checker.specs.Lines.{AreOf, IsLoop, AreConfirmed, IsConfirmed, literals_of, nogood_of, nogood_of_answer, with_nogood, bound_of, known_at_first}
-use Rattle.asp_checker.specs.Right.{closes, IsRight}
+use Rattle.asp_checker.specs.Right.{closes}
 use Rattle.asp_checker.specs.Blocks.{known_by, known_with, cost_of_bound}
-use Rattle.asp_checker.specs.Judging.{IsWrongAnswer, HasAnswerFault, IsWrongLine, HasLineFault, IsJudged, IsInOrder, AreRightAnswers, IsRightAnswer, HasLiterals, HasLoopLiterals, known_after, AreRightLines, no_line}
+use Rattle.asp_checker.specs.Judging.{IsWrongAnswer, HasAnswerFault, IsWrongLine, HasLineFault, IsInOrder, AreRightAnswers, IsRightAnswer, HasLiterals, HasLoopLiterals, known_after, no_line}
 
 -- ---- the order of sets
 before_then : (S T U : Atoms) → IsBefore S T → IsBefore T U → IsBefore S U
@@ -81,20 +81,21 @@ not_member p S e h = false≢true (sym e ∙ ((answers-are p S).0 h).0)
 pub not_assumed : (p : Program) (S : Atoms) → all_hold S p.assumptions ≡ false → Contains (answers p) S → ⊥
 not_assumed p S e h = false≢true (sym e ∙ ((answers-are p S).0 h).1)
 
-pub none_listed : (p : Program) (opt : Bool) (listed : List Atoms) → AreRightAnswers p opt (take 0 listed)
-none_listed p opt listed = record { members = tt; order = λ i j d lt within. absurd (omega arith); single = λ o. omega arith }
+pub answers_push : (p : Program) (opt : Bool) (before : List Atoms) (S : Atoms) → AreRightAnswers p opt before → IsRightAnswer p opt before S → AreRightAnswers p opt (before ++ S ∷ [])
+answers_push p opt before S h now = record {
+  members = each-append (Contains (answers p)) before (S ∷ []) h.members (now.member, tt);
+  order = all_pairs_push IsBefore before S h.order (All-from_recursion (λ T. IsBefore T S) before now.order.later);
+  single = λ o. let none : length before ≡ 0 = ap length (now.order.single o) in omega (arith, none, length_push before S);
+}
 
-pub answers_more : (p : Program) (opt : Bool) (listed : List Atoms) (i : ℕ) (S : Atoms) → i < length listed → S ≡ get_or listed i S → AreRightAnswers p opt (take i listed) → IsRightAnswer p opt (take i listed) S → AreRightAnswers p opt (take (i + 1) listed)
-answers_more p opt listed i S lt is before now =
-    let list : take (i + 1) listed ≡ take i listed ++ S ∷ [] = take_more listed i S lt ∙ ap (λ T. take i listed ++ T ∷ []) (sym is) in
-    subst (AreRightAnswers p opt) (sym list) (record {
-      members = each-append (Contains (answers p)) (take i listed) (S ∷ []) before.members (now.member, tt);
-      order = all_pairs_push IsBefore (take i listed) S before.order (All-from_recursion (λ T. IsBefore T S) (take i listed) now.order.later);
-      single = λ o. let none : length (take i listed) ≡ 0 = ap length (now.order.single o) in omega (arith, none, length_push (take i listed) S);
-    })
-
-pub answers_whole : (p : Program) (opt : Bool) (listed : List Atoms) (i : ℕ) → length listed ≤ i → AreRightAnswers p opt (take i listed) → AreRightAnswers p opt listed
-answers_whole p opt listed i le h = subst (AreRightAnswers p opt) (take_all i listed le) h
+pub wrong_pushed : (p : Program) (opt : Bool) (before : List Atoms) (S : Atoms) (w : Why) → AreRightAnswers p opt before → HasAnswerFault p opt before S w → IsWrongAnswer p opt (before ++ S ∷ []) w (length before)
+wrong_pushed p opt before S w right fault =
+    let front : take (length before) (before ++ S ∷ []) ≡ before = take-append_seam before (S ∷ []) in
+    record {
+      within = omega (arith, length_push before S);
+      before = subst (AreRightAnswers p opt) (sym front) right;
+      fault = subst (λ Ts. HasAnswerFault p opt Ts (get_or (before ++ S ∷ []) (length before) []) w) (sym front) (subst (λ T. HasAnswerFault p opt before T w) (sym (get_or_push before S [] (length before) refl)) fault);
+    }
 
 -- ---- what is known at first
 lits_pure : (ns : List (List Literal)) → map (λ (n : Nogood). n.lits) (map pure ns) ≡ ns
@@ -122,52 +123,35 @@ has_of p (line.Loop set nogood) h = h.1
 has_of p (line.Learned nogood) h = h
 has_of p (line.Cube nogood) h = h
 
-known_push : (k : Known) (lines : List Line) (l : Line) → known_after k (lines ++ l ∷ []) ≡ with_nogood (known_after k lines) (nogood_of l)
+pub known_push : (k : Known) (lines : List Line) (l : Line) → known_after k (lines ++ l ∷ []) ≡ with_nogood (known_after k lines) (nogood_of l)
 known_push k [] l = refl
 known_push k (m ∷ lines) l = known_push (with_nogood k (nogood_of m)) lines l
 
-confirmed_push : (p : Program) (k : Known) (lines : List Line) (l : Line) → AreConfirmed p k lines → AreOf p (nogood_of l) → IsConfirmed p (known_after k lines) l → AreConfirmed p k (lines ++ l ∷ [])
+pub confirmed_push : (p : Program) (k : Known) (lines : List Line) (l : Line) → AreConfirmed p k lines → AreOf p (nogood_of l) → IsConfirmed p (known_after k lines) l → AreConfirmed p k (lines ++ l ∷ [])
 confirmed_push p k [] l h of now = (of, now, tt)
 confirmed_push p k (m ∷ lines) l h of now = (h.0, h.1, confirmed_push p (with_nogood k (nogood_of m)) lines l h.2 of now)
 
-line_more : (lines : List Line) (i : ℕ) (l : Line) → i < length lines → l ≡ get_or lines i l → take (i + 1) lines ≡ take i lines ++ l ∷ []
-line_more lines i l lt is = take_more lines i l lt ∙ ap (λ m. take i lines ++ m ∷ []) (sym is)
+or_no : (b : Bool) → (b || false) ≡ b
+or_no true = refl
+or_no false = refl
 
-pub known_more : (k now : Known) (lines : List Line) (i : ℕ) (l : Line) → i < length lines → l ≡ get_or lines i l → now ≡ known_after k (take i lines) → with_nogood now (nogood_of l) ≡ known_after k (take (i + 1) lines)
-known_more k now lines i l lt is e = ap (λ m. with_nogood m (nogood_of l)) e ∙ sym (known_push k (take i lines) l) ∙ ap (known_after k) (sym (line_more lines i l lt is))
+pub closes_push : (p : Program) (lines : List Line) (l : Line) (whole closing both : Bool) → whole ≡ list_any (closes p) lines → closing ≡ closes p l → both ≡ (whole || closing) → both ≡ list_any (closes p) (lines ++ l ∷ [])
+closes_push p lines l whole closing both e f g =
+    g ∙ ap (λ b. b || closing) e ∙ ap (λ b. list_any (closes p) lines || b) (f ∙ sym (or_no (closes p l))) ∙ sym (list_any-append (closes p) lines (l ∷ []))
 
-pub confirmed_more : (p : Program) (k now : Known) (lines : List Line) (i : ℕ) (l : Line) → i < length lines → l ≡ get_or lines i l → now ≡ known_after k (take i lines) → AreConfirmed p k (take i lines) → HasLiterals p l → IsConfirmed p now l → AreConfirmed p k (take (i + 1) lines)
-confirmed_more p k now lines i l lt is e h literals confirmed =
-    subst (AreConfirmed p k) (sym (line_more lines i l lt is)) (confirmed_push p k (take i lines) l h (has_of p l literals) (subst (λ m. IsConfirmed p m l) e confirmed))
-
-pub closes_more : (p : Program) (lines : List Line) (i : ℕ) (l : Line) (before now whole : Bool) → i < length lines → l ≡ get_or lines i l → before ≡ list_any (closes p) (take i lines) → now ≡ closes p l → whole ≡ (before || now) → whole ≡ list_any (closes p) (take (i + 1) lines)
-closes_more p lines i l before now whole lt is e f g =
-    g ∙ ap (λ b. b || now) e ∙ ap (λ b. list_any (closes p) (take i lines) || b) (f ∙ ap (closes p) is) ∙ sym (list_any_more (closes p) lines i l lt)
-
-pub lines_whole : (p : Program) (k : Known) (lines : List Line) (i : ℕ) (whole : Bool) → length lines ≤ i → AreConfirmed p k (take i lines) → whole ≡ list_any (closes p) (take i lines) → AreRightLines p k lines whole
-lines_whole p k lines i whole le h e =
-    let all = take_all i lines le in
-    record { confirmed = subst (AreConfirmed p k) all h; whole_is = e ∙ ap (list_any (closes p)) all }
-
-pub is_right : (p : Program) (proof : Proof) (k : Known) → AreRightAnswers p proof.opt proof.answers → k ≡ known_at_first p proof → AreRightLines p k proof.lines true → IsRight p proof
-is_right p proof k answers e lines = record {
-  members = answers.members;
-  order = answers.order;
-  single = answers.single;
-  lines = subst (λ m. AreConfirmed p m proof.lines) e lines.confirmed;
-  whole = sym lines.whole_is;
-}
+pub pushed_line_wrong : (p : Program) (k now : Known) (lines : List Line) (l : Line) (w : Why) → now ≡ known_after k lines → AreConfirmed p k lines → HasLineFault p now l w → IsWrongLine p k (lines ++ l ∷ []) w (length lines)
+pushed_line_wrong p k now lines l w e h fault =
+    let front : take (length lines) (lines ++ l ∷ []) ≡ lines = take-append_seam lines (l ∷ []) in
+    record {
+      within = omega (arith, length_push lines l);
+      before = subst (AreConfirmed p k) (sym front) h;
+      fault = subst (λ ms. HasLineFault p (known_after k ms) (get_or (lines ++ l ∷ []) (length lines) no_line) w) (sym front)
+          (subst (λ m. HasLineFault p (known_after k lines) m w) (sym (get_or_push lines l no_line (length lines) refl)) (subst (λ (m : Known). HasLineFault p m l w) e fault));
+    }
 
 pub empty_in_order : (opt : Bool) (before : List Atoms) (S : Atoms) → length before ≡ 0 → IsInOrder opt before S
 empty_in_order opt [] S e = first_in_order opt S
 empty_in_order opt (T ∷ before) S e = absurd (omega arith)
-
-pub wrong_answer : (p : Program) (opt : Bool) (listed : List Atoms) (i : ℕ) (S : Atoms) (w : Why) → i < length listed → S ≡ get_or listed i S → AreRightAnswers p opt (take i listed) → HasAnswerFault p opt (take i listed) S w → IsWrongAnswer p opt listed w i
-wrong_answer p opt listed i S w lt is before fault = record {
-  within = lt;
-  before = before;
-  fault = subst (λ T. HasAnswerFault p opt (take i listed) T w) (is ∙ get_or_default listed i S [] lt) fault;
-}
 
 -- ---- lists that are made one after another
 pub map_more : {X Y : Type 0} (f : X → Y) (xs : List X) (i : ℕ) (d : X) (y : Y) (old new : List Y) → i < length xs → old ≡ map f (take i xs) → new ≡ old ++ y ∷ [] → y ≡ f (get_or xs i d) → new ≡ map f (take (i + 1) xs)
@@ -237,16 +221,8 @@ lits_are_of p l lits e of = subst (AreOf p) (sym e) (has_of p l of)
 pub loop_stands : (p : Program) (l : Line) (set : Atoms) {n : List ℤ} → l ≡ line.Loop set n → HasLiterals p l → list_all (has (atoms_of p)) set ≡ true
 loop_stands p l set e of = (subst (HasLiterals p) e of).0
 
-pub known_next : (k : Known) (lines : List Line) (i : ℕ) (l : Line) (rows new : List (List Literal)) (b : Option Bound) (lits : List Literal) → i < length lines → l ≡ get_or lines i l → known_by rows b ≡ known_after k (take i lines) → new ≡ rows ++ lits ∷ [] → lits ≡ nogood_of l → known_by new b ≡ known_after k (take (i + 1) lines)
-known_next k lines i l rows new b lits lt is e made f =
-    ap (λ (ns : List (List Literal)). known_by ns b) made ∙ ap (λ n. with_nogood (known_by rows b) n) f ∙ known_more k (known_by rows b) lines i l lt is e
-
-pub wrong_line : (p : Program) (k now : Known) (lines : List Line) (i : ℕ) (l : Line) (w : Why) → i < length lines → l ≡ get_or lines i l → now ≡ known_after k (take i lines) → AreConfirmed p k (take i lines) → HasLineFault p now l w → IsWrongLine p k lines w i
-wrong_line p k now lines i l w lt is e before fault = record {
-  within = lt;
-  before = before;
-  fault = subst (λ m. HasLineFault p (known_after k (take i lines)) m w) (is ∙ get_or_default lines i l no_line lt) (subst (λ m. HasLineFault p m l w) e fault);
-}
+pub known_next : (rows new : List (List Literal)) (b : Option Bound) (lits n : List Literal) → new ≡ rows ++ lits ∷ [] → lits ≡ n → known_by new b ≡ with_nogood (known_by rows b) n
+known_next rows new b lits n made f = ap (λ (ns : List (List Literal)). known_by ns b) made ∙ ap (λ (m : List Literal). with_nogood (known_by rows b) m) f
 
 -- ---- the bound at first
 pub no_bound : (p : Program) (opt : Bool) (listed : List Atoms) → length listed ≡ 0 → (let o : Option (List ℤ) = None in o) ≡ cond opt (bound_of p listed) None
@@ -257,28 +233,3 @@ no_bound p opt (S ∷ listed) e = absurd (omega arith)
 pub first_bound : (p : Program) (opt : Bool) (listed : List Atoms) (S : Atoms) (c : List ℤ) → opt ≡ true → 0 < length listed → S ≡ get_or listed 0 S → c ≡ cost p S → Some c ≡ cond opt (bound_of p listed) None
 first_bound p opt [] S c e lt is f = absurd (omega arith)
 first_bound p opt (T ∷ listed) S c e lt is f = ap (λ d. let o : Option (List ℤ) = Some d in o) (f ∙ ap (cost p) is) ∙ sym (ap (λ b. cond b (bound_of p (T ∷ listed)) None) e)
-
--- ---- the whole, where the proof's lists are read as slices
-pub judged_answer : (p : Program) (proof : Proof) (L : List Atoms) (w : Why) (i n : ℕ) → L ≡ proof.answers → IsWrongAnswer p proof.opt L w i → n ≡ i + 3 → IsJudged p proof (judgement.No w n)
-judged_answer p proof L w i n e h is = inl (record { place = i; wrong = subst (λ M. IsWrongAnswer p proof.opt M w i) e h; is = is })
-
-pub judged_line : (p : Program) (proof : Proof) (L : List Atoms) (Ls : List Line) (k : Known) (w : Why) (i n : ℕ) → L ≡ proof.answers → Ls ≡ proof.lines → AreRightAnswers p proof.opt L → k ≡ known_at_first p proof → IsWrongLine p k Ls w i → n ≡ length L + i + 3 → IsJudged p proof (judgement.No w n)
-judged_line p proof L Ls k w i n e f answers known h is = inr (inl (record {
-  answers = subst (AreRightAnswers p proof.opt) e answers;
-  place = i;
-  wrong = subst (λ Ms. IsWrongLine p (known_at_first p proof) Ms w i) f (subst (λ m. IsWrongLine p m Ls w i) known h);
-  is = is ∙ ap (λ M. length M + i + 3) e;
-}))
-
-pub judged_not_whole : (p : Program) (proof : Proof) (L : List Atoms) (Ls : List Line) (k : Known) (n : ℕ) → L ≡ proof.answers → Ls ≡ proof.lines → AreRightAnswers p proof.opt L → k ≡ known_at_first p proof → (whole : Bool) → whole ≡ false → AreRightLines p k Ls whole → n ≡ length L + length Ls + 3 → IsJudged p proof (judgement.No why.NotWhole n)
-judged_not_whole p proof L Ls k n e f answers known whole not_whole right is = let h = subst (AreRightLines p k Ls) not_whole right in inr (inr (record {
-  answers = subst (AreRightAnswers p proof.opt) e answers;
-  lines = subst (λ Ms. AreRightLines p (known_at_first p proof) Ms false) f (subst (λ m. AreRightLines p m Ls false) known h);
-  why = refl;
-  is = is ∙ ap (λ M. length M + length Ls + 3) e ∙ ap (λ Ms. length proof.answers + length Ms + 3) f;
-}))
-
-pub judged_right : (p : Program) (proof : Proof) (L : List Atoms) (Ls : List Line) (k : Known) → L ≡ proof.answers → Ls ≡ proof.lines → AreRightAnswers p proof.opt L → k ≡ known_at_first p proof → (whole : Bool) → whole ≡ true → AreRightLines p k Ls whole → IsRight p proof
-judged_right p proof L Ls k e f answers known whole is_whole right =
-    let h = subst (AreRightLines p k Ls) is_whole right in
-    is_right p proof k (subst (AreRightAnswers p proof.opt) e answers) known (subst (λ Ms. AreRightLines p k Ms true) f h)

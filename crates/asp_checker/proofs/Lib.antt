@@ -14,6 +14,8 @@ pub mod AssumeLaws
 pub mod BoundLaws
 pub mod FoundLaws
 pub mod JudgeLaws
+pub mod StreamLaws
 pub mod RunLaws
 pub mod WrongLaws
+pub mod ToldLaws
 pub mod ChaseLaws

@@ -1,5 +1,5 @@
 -- What a judgement of a proof says: that it is right, or the first line that isn't, and why.
-use Rattle.std.specs.Prelude.{◌≡◌, ℕ, ◌+◌, ◌<◌, ◌≤◌, Bool, true, false, ◌⊎◌, List, [], ◌∷◌, take, length, slice_index_or, Option, AllPairs, Contains, IsTrue, MatchOption, ℤ}
+use Rattle.std.specs.Prelude.{◌≡◌, ◌≢◌, ℕ, ◌+◌, ◌<◌, ◌≤◌, Bool, true, false, ◌⊎◌, List, [], ◌∷◌, ◌++◌, codes, take, length, slice_index_or, Option, AllPairs, Contains, IsTrue, ℤ}
 use Rattle.std.specs.List.{list_all, list_any, AllByRecursion}
 use Rattle.asp_model.specs.declared.program.Program.{Program}
 use Rattle.asp_model.specs.Sets.{Atoms, has, IsBefore}
@@ -13,11 +13,20 @@ use Rattle.asp_checker.specs.declared.judge.Judgement.{Judgement}
 use Rattle.asp_checker.specs.declared.judge.Judgement.TheVariants as judgement
 use Rattle.asp_checker.specs.declared.judge.Step.{Step}
 use Rattle.asp_checker.specs.declared.judge.Step.TheVariants as step
-use Rattle.asp_checker.specs.declared.judge.Outcome.{Outcome}
-use Rattle.asp_checker.specs.declared.judge.Outcome.TheVariants as outcome
+use Rattle.asp_checker.specs.declared.judge.Listed.{Listed}
+use Rattle.asp_checker.specs.declared.judge.Listed.TheVariants as seen
+use Rattle.asp_checker.specs.declared.judge.Read.{Read}
+use Rattle.asp_checker.specs.declared.judge.Read.TheVariants as read
+use Rattle.asp_proof.specs.Texts.{answer_text, line_text}
+use Rattle.asp_proof.specs.Grammar.{IsSet, IsLine}
+use Rattle.asp_proof.specs.Fields.{IsNone, IsWhole}
+use Rattle.asp_checker.specs.declared.bounds.Bound.{Bound}
 use Rattle.asp_checker.specs.Propagation.{Known, LeadsToConflict}
 use Rattle.asp_checker.specs.Lines.{AreOf, IsLoop, IsConfirmed, AreConfirmed, literals_of, nogood_of, with_nogood, known_at_first}
 use Rattle.asp_checker.specs.Right.{closes, IsRight}
+use Rattle.asp_checker.specs.Blocks.{known_with}
+use Rattle.asp_checker.specs.Chasing.{IsRoot}
+use Rattle.asp_vars.specs.Literals.{Literal}
 
 -- ---- answers
 -- The set comes after those before it, and there is none before it where an optimum is sought.
@@ -45,14 +54,17 @@ HasAnswerFault p opt before S why.Loop = ⊥
 HasAnswerFault p opt before S why.NotImplied = ⊥
 HasAnswerFault p opt before S why.NotWhole = ⊥
 
+-- what the bytes of a line came to where an answer may come: one that is right, and listed now, or is wrong, or none
+abbrev pub IsAnswerRead : Program → Bool → List Atoms → List Atoms → List ℕ → Listed → Type 0
+IsAnswerRead p opt before now bytes seen.Right = (S : Atoms) × IsWhole IsSet answer_text bytes S × IsRightAnswer p opt before S × (now ≡ before ++ S ∷ [])
+IsAnswerRead p opt before now bytes (seen.Wrong w) = (S : Atoms) × IsWhole IsSet answer_text bytes S × HasAnswerFault p opt before S w × (now ≡ before)
+IsAnswerRead p opt before now bytes seen.Other = IsNone IsSet answer_text bytes × (now ≡ before)
+
 -- the first set that is wrong
 pub record IsWrongAnswer (p : Program) (opt : Bool) (listed : List Atoms) (w : Why) (place : ℕ) : Type 0 where
   pub within : place < length listed
   pub before : AreRightAnswers p opt (take place listed)
   pub fault : HasAnswerFault p opt (take place listed) (slice_index_or listed place []) w
-
-abbrev pub AreAnswersJudged : Program → Bool → List Atoms → Option (Why × ℕ) → Type 0
-AreAnswersJudged p opt listed o = MatchOption o (AreRightAnswers p opt listed) (λ f. IsWrongAnswer p opt listed f.0 f.1)
 
 -- ---- lines
 -- The program has the variables of a loop's literals and the atoms of its set.
@@ -90,6 +102,22 @@ abbrev pub IsLineJudged : Program → Known → Line → Step → Type 0
 IsLineJudged p k l (step.Wrong w) = HasLineFault p k l w
 IsLineJudged p k l (step.Known n) = (n ≡ nogood_of l) × HasLiterals p l × IsConfirmed p k l
 
+-- A line was right, and is known now, with the values that follow.
+pub record IsKnownNow (p : Program) (listed : List Atoms) (bound : Option Bound) (rows now : List (List Literal)) (l : Line) (x : List (Option Bool)) (closing : Bool) : Type 0 where
+  pub literals : HasLiterals p l
+  pub confirmed : IsConfirmed p (known_with p listed rows bound) l
+  pub of : AllByRecursion (AreOf p) now
+  pub known : known_with p listed now bound ≡ with_nogood (known_with p listed rows bound) (nogood_of l)
+  pub root : IsRoot p (known_with p listed now bound) x
+  pub closing_is : closing ≡ closes p l
+
+-- what the bytes of a line came to: the last one, no line of a proof, or one that was judged
+abbrev pub IsLineRead : Program → List Atoms → Option Bound → List (List Literal) → List (List Literal) → List ℕ → List (Option Bool) → Read → Type 0
+IsLineRead p listed bound rows now bytes x read.Last = bytes ≡ codes "0"
+IsLineRead p listed bound rows now bytes x read.Refused = (bytes ≢ codes "0") × IsNone IsLine line_text bytes
+IsLineRead p listed bound rows now bytes x (read.Wrong w) = (l : Line) × IsWhole IsLine line_text bytes l × HasLineFault p (known_with p listed rows bound) l w
+IsLineRead p listed bound rows now bytes x (read.Right closing) = (l : Line) × IsWhole IsLine line_text bytes l × IsKnownNow p listed bound rows now l x closing
+
 -- what is known behind these lines
 abbrev pub known_after : Known → List Line → Known
 known_after k [] = k
@@ -109,10 +137,6 @@ pub record IsWrongLine (p : Program) (k : Known) (lines : List Line) (w : Why) (
 pub record AreRightLines (p : Program) (k : Known) (lines : List Line) (whole : Bool) : Type 0 where
   pub confirmed : AreConfirmed p k lines
   pub whole_is : whole ≡ list_any (closes p) lines
-
-abbrev pub AreLinesJudged : Program → Known → List Line → Outcome → Type 0
-AreLinesJudged p k lines (outcome.Wrong w place) = IsWrongLine p k lines w place
-AreLinesJudged p k lines (outcome.Right whole) = AreRightLines p k lines whole
 
 -- ---- the whole
 -- In the text the first answer is on line 3, the answers are followed by the lines, and these by the line 0.

@@ -12,3 +12,5 @@ pub mod Runs
 pub mod Chasing
 pub mod Codes
 pub mod Formats
+pub mod Errors
+pub mod Streams

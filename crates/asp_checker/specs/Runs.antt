@@ -1,82 +1,37 @@
 -- What is said of a program's text and a proof's text.
-use Rattle.std.specs.Prelude.{◌≡◌, ℕ, suc, ◌<◌, ◌==◌, nat_eq, Bool, true, ◌&&◌, if◌then◌else◌, List, [], ◌∷◌, ◌++◌, take, drop, length, Option, Result, IfSome, codes, decimal}
+use Rattle.std.specs.Prelude.{◌≡◌, ◌⊎◌, ℕ, suc, ◌+◌, ◌<◌, ◌≤◌, ◌==◌, nat_eq, Bool, true, ◌&&◌, if◌then◌else◌, List, [], ◌∷◌, ◌++◌, take, drop, length, Option, Some, None, Result, IfSome, codes, decimal}
 use Rattle.std.specs.List.{starts_with}
 use Rattle.std.specs.declared.result.Result.TheVariants.{Ok, Err}
 use Rattle.std.specs.Io.KnownBytes.{Appends, Keeps}
 use Rattle.asp_model.specs.declared.program.Program.{Program}
-use Rattle.asp_proof.specs.declared.proof.Proof.{Proof}
-use Rattle.asp_proof.specs.Outcome.{Reads}
-use Rattle.asp_proof.specs.Grammar.{IsFirstFault, most_bytes}
+use Rattle.asp_proof.specs.Grammar.{most_bytes}
+use Rattle.asp_proof.specs.Reading.{Comes, HasLongLine, Moves, Window, held}
 use Rattle.asp_checker.specs.declared.judge.Why.{Why}
 use Rattle.asp_checker.specs.declared.judge.Why.TheVariants as why
 use Rattle.asp_checker.specs.declared.judge.Judgement.{Judgement}
 use Rattle.asp_checker.specs.declared.judge.Judgement.TheVariants as judgement
 use Rattle.asp_io.specs.Causes.{AppendsFront}
-use Rattle.asp_read.specs.declared.fault.ReadError.{ReadError}
 use Rattle.asp_read.specs.declared.fault.ReadError.TheVariants as read
 use Rattle.asp_proof.specs.declared.error.ProofError.{ProofError}
 use Rattle.asp_proof.specs.declared.error.ProofError.TheVariants as proof
 use Rattle.asp_checker.specs.declared.run.CheckStatus.{CheckStatus}
 use Rattle.asp_checker.specs.declared.run.CheckStatus.TheVariants as status
-use Rattle.asp_checker.specs.declared.run.CheckError.{CheckError}
-use Rattle.asp_checker.specs.declared.run.CheckError.TheVariants as error
+use Rattle.asp_checker.specs.declared.error.CheckError.{CheckError}
+use Rattle.asp_checker.specs.declared.error.CheckError.TheVariants as error
 use Rattle.asp_checker.specs.declared.run.Format.{Format}
 use Rattle.asp_checker.specs.Formats.{outcome_for}
-use Rattle.asp_checker.specs.Right.{Shows}
-use Rattle.asp_checker.specs.Judging.{IsJudged}
+use Rattle.asp_checker.specs.Streams.{IsFaultAt, Judges}
 
--- The judgement is the proof's, and where it is yes, the proof shows what it lists.
-pub record IsProofChecked (p : Program) (text : List ℕ) (j : Judgement) : Type 0 where
-  pub proof : Proof
-  pub reads : Reads text proof
-  pub judged : IsJudged p proof j
-  pub shows : j ≡ judgement.Yes → Shows p proof
-
--- the same, of the program of a text in this format
-pub record IsChecked (format : Format) (program proof : List ℕ) (j : Judgement) : Type 0 where
-  pub p : Program
-  pub reads : outcome_for format program ≡ Ok p
-  pub checked : IsProofChecked p proof j
-
--- why a text is no proof's
-abbrev pub RefusesProof : List ℕ → ProofError → Type 0
-RefusesProof text proof.Memory = ⊥
-RefusesProof text proof.ReadFault = ⊥
-RefusesProof text proof.TooLong = ⊥
-RefusesProof text (proof.Refused number) = IsFirstFault text number
-
--- what is said of a program and a proof
-abbrev pub ReadSays : Program → Proof → Result Judgement CheckError → Type 0
-ReadSays p proof (Ok j) = IsJudged p proof j × (j ≡ judgement.Yes → Shows p proof)
-ReadSays p proof (Err error.Memory) = Unit {0}
-ReadSays p proof (Err (error.Program e)) = ⊥
-ReadSays p proof (Err (error.Proof e)) = ⊥
-
--- of a program and a proof's text
-abbrev pub ProofSays : Program → List ℕ → Result Judgement CheckError → Type 0
-ProofSays p text (Ok j) = IsProofChecked p text j
-ProofSays p text (Err error.Memory) = Unit {0}
-ProofSays p text (Err (error.Program e)) = ⊥
-ProofSays p text (Err (error.Proof e)) = RefusesProof text e
-
--- of two texts
-abbrev pub CheckSays : Format → List ℕ → List ℕ → Result Judgement CheckError → Type 0
-CheckSays format program proof (Ok j) = IsChecked format program proof j
-CheckSays format program proof (Err error.Memory) = Unit {0}
-CheckSays format program proof (Err (error.Program e)) = outcome_for format program ≡ Err e
-CheckSays format program proof (Err (error.Proof e)) = RefusesProof proof e
-
-abbrev pub program_error : ReadError → CheckError
-program_error read.Memory = error.Memory
-program_error read.ReadFault = error.Program read.ReadFault
-program_error read.TooLong = error.Program read.TooLong
-program_error (read.Refused f n) = error.Program (read.Refused f n)
-
-abbrev pub proof_error : ProofError → CheckError
-proof_error proof.Memory = error.Memory
-proof_error proof.ReadFault = error.Proof proof.ReadFault
-proof_error proof.TooLong = error.Proof proof.TooLong
-proof_error (proof.Refused n) = error.Proof (proof.Refused n)
+-- what is said of a program's text and of the proof's text after it
+abbrev pub TextsSay : Format → List ℕ → List ℕ → Result Judgement CheckError → Type 0
+TextsSay format program text (Ok j) = (p : Program) × (outcome_for format program ≡ Ok p) × Judges p text (Ok j)
+TextsSay format program text (Err error.Memory) = Unit {0}
+TextsSay format program text (Err error.NoProof) = ⊥
+TextsSay format program text (Err (error.Program e)) = outcome_for format program ≡ Err e
+TextsSay format program text (Err (error.Proof proof.Memory)) = ⊥
+TextsSay format program text (Err (error.Proof proof.ReadFault)) = Unit {0}
+TextsSay format program text (Err (error.Proof proof.TooLong)) = HasLongLine text
+TextsSay format program text (Err (error.Proof (proof.Refused number))) = (p : Program) × (outcome_for format program ≡ Ok p) × IsFaultAt p text number
 
 -- ---- one text
 -- The text begins with a proof's first line.
@@ -104,16 +59,17 @@ abbrev pub said : Judgement → List ℕ
 said judgement.Yes = codes "YES\n"
 said (judgement.No w line) = codes "NO " ++ decimal (number_of w) ++ codes " " ++ decimal line ++ codes "\n"
 
+abbrev pub proof_status : ProofError → CheckStatus
+proof_status proof.Memory = status.Memory
+proof_status proof.ReadFault = status.ReadFault
+proof_status proof.TooLong = status.TooLong
+proof_status (proof.Refused number) = status.Proof (proof.Refused number)
+
 abbrev pub status_of : CheckError → CheckStatus
 status_of error.Memory = status.Memory
 status_of (error.Program e) = status.Program e
-status_of (error.Proof e) = status.Proof e
-
-abbrev pub read_status : ProofError → CheckStatus
-read_status proof.Memory = status.Memory
-read_status proof.TooLong = status.TooLong
-read_status proof.ReadFault = status.ReadFault
-read_status (proof.Refused n) = status.ReadFault
+status_of error.NoProof = status.NoProof
+status_of (error.Proof e) = proof_status e
 
 abbrev pub status_said : Judgement → CheckStatus
 status_said judgement.Yes = status.Yes
@@ -144,20 +100,55 @@ program_part text = take (proof_place text) text
 abbrev pub proof_part : List ℕ → List ℕ
 proof_part text = drop (proof_place text) text
 
--- what a text comes to, whose program is in this format
+-- a line is too long, or the program
+abbrev pub IsTooLong : List ℕ → Type 0
+IsTooLong text = HasLongLine text ⊎ (most_bytes < length (program_part text))
+
+-- what is said of a text, whose program is in this format
+abbrev pub InputSays : Format → List ℕ → Result Judgement CheckError → Type 0
+InputSays format text (Ok j) = TextsSay format (program_part text) (proof_part text) (Ok j)
+InputSays format text (Err error.Memory) = Unit {0}
+InputSays format text (Err error.NoProof) = proof_place text ≡ length text
+InputSays format text (Err (error.Program e)) = outcome_for format (program_part text) ≡ Err e
+InputSays format text (Err (error.Proof proof.Memory)) = ⊥
+InputSays format text (Err (error.Proof proof.ReadFault)) = Unit {0}
+InputSays format text (Err (error.Proof proof.TooLong)) = IsTooLong text
+InputSays format text (Err (error.Proof (proof.Refused number))) = TextsSay format (program_part text) (proof_part text) (Err (error.Proof (proof.Refused number)))
+
+-- what a text comes to
 abbrev pub TextSays : Format → List ℕ → Option (List ℕ) → Option (List ℕ) → CheckStatus → Type 0
-TextSays format text old new status.Yes = IsChecked format (program_part text) (proof_part text) judgement.Yes × Appends old new (said judgement.Yes)
-TextSays format text old new (status.No w n) = IsChecked format (program_part text) (proof_part text) (judgement.No w n) × Appends old new (said (judgement.No w n))
+TextSays format text old new status.Yes = InputSays format text (Ok judgement.Yes) × Appends old new (said judgement.Yes)
+TextSays format text old new (status.No w n) = InputSays format text (Ok (judgement.No w n)) × Appends old new (said (judgement.No w n))
 TextSays format text old new status.Memory = Keeps old new
-TextSays format text old new (status.Program e) = (outcome_for format (program_part text) ≡ Err e) × Keeps old new
+TextSays format text old new (status.Program e) = InputSays format text (Err (error.Program e)) × Keeps old new
 TextSays format text old new status.ReadFault = Keeps old new
-TextSays format text old new status.TooLong = (most_bytes < length text) × Keeps old new
+TextSays format text old new status.TooLong = IsTooLong text × Keeps old new
 TextSays format text old new status.NoProof = (proof_place text ≡ length text) × Keeps old new
-TextSays format text old new (status.Proof e) = RefusesProof (proof_part text) e × Keeps old new
-TextSays format text old new status.WriteFault = (j : Judgement) × IsChecked format (program_part text) (proof_part text) j × AppendsFront old new (said j)
+TextSays format text old new (status.Proof e) = InputSays format text (Err (error.Proof e)) × Keeps old new
+TextSays format text old new status.WriteFault = (j : Judgement) × InputSays format text (Ok j) × AppendsFront old new (said j)
 
 -- There is a text, the source's where it tells its bytes, that comes to this.
 pub record RunSays (format : Format) (source old new : Option (List ℕ)) (s : CheckStatus) : Type 0 where
   pub text : List ℕ
   pub told : IfSome source (λ t. t ≡ text)
   pub says : TextSays format text old new s
+
+-- ---- on the way
+-- a text with one line more, or why it hasn't
+abbrev pub AddsLine : {U : Type 0} → List ℕ → List ℕ → List ℕ → Result U CheckError → Type 0
+AddsLine old new line (Ok u) = (new ≡ old ++ (line ++ 10 ∷ [])) × (length new ≤ most_bytes)
+AddsLine old new line (Err error.Memory) = Unit {0}
+AddsLine old new line (Err error.NoProof) = ⊥
+AddsLine old new line (Err (error.Program e)) = ⊥
+AddsLine old new line (Err (error.Proof e)) = (e ≡ proof.TooLong) × (most_bytes < length old + length line + 1)
+
+abbrev pub found_text : {V : Type 0} → (V → List ℕ) → Result (Option V) CheckError → Result (Option (List ℕ)) CheckError
+found_text items (Ok (Some v)) = Ok (Some (items v))
+found_text items (Ok None) = Ok None
+found_text items (Err e) = Err e
+
+-- The program's text, and what was read has the first line of a proof behind it; or there is no such line, or no text.
+abbrev pub FindsProof : Option (List ℕ) → Option (List ℕ) → Window → Result (Option (List ℕ)) CheckError → Type 0
+FindsProof source now w (Ok (Some program)) = (w.line ≡ codes "proof 1") × Moves source now [] (program ++ held w) × ((rest : List ℕ) → proof_place (program ++ (codes "proof 1" ++ 10 ∷ rest)) ≡ length program)
+FindsProof source now w (Ok None) = Comes source [] (λ text. (format : Format) → InputSays format text (Err error.NoProof))
+FindsProof source now w (Err e) = Comes source [] (λ text. (format : Format) → InputSays format text (Err e))

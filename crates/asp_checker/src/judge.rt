@@ -1,37 +1,40 @@
-//! The judgement of a proof: that it is right, or the first line that isn't, and why.
-ghost use Rattle.std.specs.Prelude.{◌≡◌, ◌+◌, ◌<◌, ◌≤◌, ◌||◌, true, false, length, if◌then◌else◌, IfOk, OnOk, MatchOption, AllPairs, Contains, map, [], None};
+//! The judgement of an answer and of a line of a proof: that it is right, or why it isn't.
+ghost use Rattle.std.specs.Prelude.{◌≡◌, ℕ, List, true, false, if◌then◌else◌, IfOk, OnOk, MatchOption, AllPairs, Contains, map, [], None};
 ghost use Rattle.std.specs.List.{AllByRecursion, list_all};
 ghost use Rattle.asp_model.specs.Sets.{IsBefore, has};
 ghost use Rattle.asp_model.specs.Models.{answers, atoms_of};
 ghost use Rattle.asp_model.specs.declared.program.Program.{Program};
 ghost use Rattle.asp_vars.specs.Numbering.{literal_of};
+ghost use Rattle.asp_proof.specs.Texts.{line_text};
+ghost use Rattle.asp_proof.specs.Grammar.{IsLine};
+ghost use Rattle.asp_proof.specs.Fields.{IsWhole};
 ghost use Rattle.asp_checker.specs.Right.{closes};
 ghost use Rattle.asp_vars.specs.Completion.{completion};
 ghost use Rattle.asp_checker.specs.Propagation.{LeadsToConflict};
 ghost use Rattle.asp_checker.specs.Lines.{AreOf, IsConfirmed, IsLoop, literals_of, nogood_of, bound_of};
 ghost use Rattle.asp_checker.specs.Blocks.{HasLevels, known_with, cost_of_bound};
 ghost use Rattle.asp_checker.specs.Chasing.{IsRoot};
-ghost use Rattle.asp_checker.specs.Judging.{IsInOrder, AreRightAnswers, IsRightAnswer, HasAnswerFault, AreAnswersJudged, HasLiterals, HasLineFault, AreLinesJudged, IsJudged, HasLoopLiterals, IsLineJudged};
+ghost use Rattle.asp_checker.specs.Judging.{IsInOrder, AreRightAnswers, IsRightAnswer, HasAnswerFault, HasLiterals, HasLineFault, HasLoopLiterals, IsLineJudged, IsAnswerRead, IsLineRead};
 
 use crate::bounds::Bound;
 use crate::confirm::confirms;
-use crate::lines::{are_assumed, are_atoms, assumptions, lits_of};
+use crate::lines::{are_assumed, are_atoms, lits_of};
 use crate::loops::is_loop;
-use crate::root::{first_root, learn};
+use crate::root::learn;
 use crate::watches::Watches;
 use asp_complete::completion::completion;
 use asp_member::stable::is_stable;
 use asp_model::holding::all_hold;
 use asp_model::interp::Interp;
 use asp_model::seq::Seq;
-use asp_proof::proof::{Line, Proof};
+use asp_proof::lines::{answer, is_last, line};
+use asp_proof::proof::Line;
 use asp_vars::assign::Assign;
 use asp_vars::compiled::Compiled;
 use asp_vars::lit::Lit;
 use asp_vars::nogood::Nogood;
 use std::alloc::{AllocError, Global};
 use std::cmp::Ordering;
-use std::mem;
 
 /// Why a line of a proof isn't right.
 #[derive(Clone, Copy)]
@@ -131,24 +134,40 @@ fn fault_of_answer(
     Ok(None)
 }
 
-// The first listed set that is wrong, and its place.
-fn fault_of_answers(
+/// What the bytes of a line came to where an answer may come.
+#[derive(Clone, Copy)]
+pub enum Listed {
+    /// An answer that is right behind those before it, and one of them now.
+    Right,
+    /// A set, and what is wrong with it.
+    Wrong(Why),
+    /// No set.
+    Other,
+}
+
+/// Reads a line that may be an answer's, and judges the answer behind those before it.
+pub(crate) fn read_answer(
     alloc: Global,
     compiled: &Compiled,
     opt: bool,
-    listed: &[Interp],
-) -> Result<Option<(Why, usize)>, AllocError>
-    ensures { IfOk result (AreAnswersJudged compiled.now opt listed.now) }
+    answers: &mut Vec<Interp>,
+    bytes: &[u8],
+) -> Result<Listed, AllocError>
+    requires { AreRightAnswers compiled.now opt answers.old.items }
+    ensures { IfOk result (IsAnswerRead compiled.now opt answers.old.items answers.new.items bytes.now) }
 {
-    for at in 0..listed.len() {
-        let set = &listed[at];
-        let fault = fault_of_answer(alloc, compiled, opt, &listed[..at], set)?;
-        match fault {
-            Some(why) => return Ok(Some((why, at))),
-            None => {}
+    let Some(set) = answer(alloc, bytes)? else {
+        return Ok(Listed::Other);
+    };
+    let before = answers.as_slice();
+    let fault = fault_of_answer(alloc, compiled, opt, before, &set)?;
+    match fault {
+        Some(why) => Ok(Listed::Wrong(why)),
+        None => {
+            answers.push(set)?;
+            Ok(Listed::Right)
         }
     }
-    Ok(None)
 }
 
 // ---- what is known at first
@@ -166,7 +185,7 @@ fn copied(alloc: Global, nogoods: &[Nogood]) -> Result<Vec<Seq<Lit>>, AllocError
 }
 
 // The completion.
-fn completed(alloc: Global, compiled: &Compiled) -> Result<Vec<Seq<Lit>>, AllocError>
+pub(crate) fn completed(alloc: Global, compiled: &Compiled) -> Result<Vec<Seq<Lit>>, AllocError>
     ensures { IfOk result (λ rows. rows.items ≡ completion compiled.now) }
 {
     let nogoods = completion(alloc, compiled)?;
@@ -175,14 +194,14 @@ fn completed(alloc: Global, compiled: &Compiled) -> Result<Vec<Seq<Lit>>, AllocE
 }
 
 // The answers that are avoided: the listed ones, where no optimum is sought.
-fn avoided(opt: bool, listed: &[Interp]) -> &[Interp]
+pub(crate) fn avoided(opt: bool, listed: &[Interp]) -> &[Interp]
     ensures { result.now ≡ (if opt then [] else listed.now) }
 {
     if opt { &listed[..0] } else { listed }
 }
 
 // The bound of an optimisation that lists an answer.
-fn bound_at_first(
+pub(crate) fn bound_at_first(
     alloc: Global,
     compiled: &Compiled,
     opt: bool,
@@ -396,17 +415,21 @@ fn judge_line(
     }
 }
 
-// What the lines of a proof came to.
+/// What the bytes of a line came to.
 #[derive(Clone, Copy)]
-enum Outcome {
-    // The first line that is wrong, by its place.
-    Wrong(Why, usize),
-    // All are right; whether one of them says that there is nothing else.
+pub enum Read {
+    /// They are the last line.
+    Last,
+    /// They are no line of a proof.
+    Refused,
+    /// A line, and what is wrong with it.
+    Wrong(Why),
+    /// A line that is right, and known now; whether it says that there is nothing else.
     Right(bool),
 }
 
-// Judges the lines one after another. Each that is right is known to the later ones.
-fn judge_each(
+// Judges a line. Where it is right, it is known to the later ones.
+fn take_line(
     compiled: &Compiled,
     listed: &[Interp],
     rows: &mut Vec<Seq<Lit>>,
@@ -414,129 +437,56 @@ fn judge_each(
     assumed: &[Lit],
     watches: &mut Watches,
     values: &mut Assign,
-    lines: &[Line],
-) -> Result<Outcome, AllocError>
+    line: &Line,
+) -> Result<Read, AllocError>
     requires rows { AllByRecursion (AreOf compiled.now) rows.old.items }
     requires levels { HasLevels compiled.now bound.now }
     requires assumed { assumed.now ≡ map (literal_of compiled.now) compiled.now.assumptions }
     requires root { IsRoot compiled.now (known_with compiled.now listed.now rows.old.items bound.now) values.old }
-    ensures { IfOk result (AreLinesJudged compiled.now (known_with compiled.now listed.now rows.old.items bound.now) lines.now) }
+    ensures { (bytes : List ℕ) → IsWhole IsLine line_text bytes line.now →
+        IfOk result (IsLineRead compiled.now listed.now bound.now rows.old.items rows.new.items bytes values.new) }
 {
     let alloc = watches.allocator();
-    let mut whole = false;
-    for at in 0..lines.len() {
-        let line = &lines[at];
-        let known = rows.as_slice();
-        let step = judge_line(alloc, compiled, listed, known, bound, watches, values, line)?;
-        match step {
-            Step::Wrong(why) => return Ok(Outcome::Wrong(why, at)),
-            Step::Known(lits) => {
-                let own = lits.as_slice();
-                let closing = closes(assumed, line, own);
-                whole = either(whole, closing);
-                rows.push(lits)?;
-                let more = rows.as_slice();
-                learn(alloc, compiled, listed, more, bound, watches, values)?;
-            }
+    let known = rows.as_slice();
+    let step = judge_line(alloc, compiled, listed, known, bound, watches, values, line)?;
+    match step {
+        Step::Wrong(why) => Ok(Read::Wrong(why)),
+        Step::Known(lits) => {
+            let own = lits.as_slice();
+            let closing = closes(assumed, line, own);
+            rows.push(lits)?;
+            let more = rows.as_slice();
+            learn(alloc, compiled, listed, more, bound, watches, values)?;
+            Ok(Read::Right(closing))
         }
     }
-    Ok(Outcome::Right(whole))
 }
 
-// Judges the lines behind these nogoods. What is made for that is dropped here alone.
-fn judge_lines(
-    alloc: Global,
+/// Reads a line that comes after the answers, and judges it. Where it is right, it is known to the later ones.
+pub(crate) fn read_line(
     compiled: &Compiled,
     listed: &[Interp],
-    mut rows: Vec<Seq<Lit>>,
+    rows: &mut Vec<Seq<Lit>>,
     bound: &Option<Bound>,
-    lines: &[Line],
-) -> Result<Outcome, AllocError>
-    requires rows { AllByRecursion (AreOf compiled.now) rows.items }
+    assumed: &[Lit],
+    watches: &mut Watches,
+    values: &mut Assign,
+    bytes: &[u8],
+) -> Result<Read, AllocError>
+    requires rows { AllByRecursion (AreOf compiled.now) rows.old.items }
     requires levels { HasLevels compiled.now bound.now }
-    ensures { IfOk result (AreLinesJudged compiled.now (known_with compiled.now listed.now rows.items bound.now) lines.now) }
+    requires assumed { assumed.now ≡ map (literal_of compiled.now) compiled.now.assumptions }
+    requires root { IsRoot compiled.now (known_with compiled.now listed.now rows.old.items bound.now) values.old }
+    ensures { IfOk result (IsLineRead compiled.now listed.now bound.now rows.old.items rows.new.items bytes.now values.new) }
 {
-    let assumptions = assumptions(alloc, compiled)?;
-    let mut watches = Watches::new(alloc, compiled, bound)?;
-    let first = rows.as_slice();
-    let mut values = first_root(alloc, compiled, listed, first, bound, &mut watches)?;
-    let assumed = assumptions.as_slice();
-    let outcome = judge_each(
-        compiled,
-        listed,
-        &mut rows,
-        bound,
-        assumed,
-        &mut watches,
-        &mut values,
-        lines,
-    );
-    mem::drop(watches);
-    outcome
-}
-
-fn either(one: bool, other: bool) -> bool
-    ensures { result ≡ (one || other) }
-{
-    one || other
-}
-
-// ---- the whole
-
-// The number of an answer's line: the first two lines say what is sought.
-fn number_of_answer(listed: &[Interp], at: usize) -> usize
-    requires { at < length listed.now }
-    ensures { result ≡ at + 3 }
-{
-    at + 3
-}
-
-// The number of a line behind the answers, or of the line 0 behind them all.
-fn number_of_line(listed: &[Interp], lines: &[Line], at: usize) -> usize
-    requires { at ≤ length lines.now }
-    ensures { result ≡ length listed.now + at + 3 }
-{
-    listed.len() + at + 3
-}
-
-// Judges a proof behind its answers, which are right.
-fn judge_behind(alloc: Global, compiled: &Compiled, proof: &Proof) -> Result<Judgement, AllocError>
-    requires { AreRightAnswers compiled.now proof.now.opt proof.now.answers }
-    ensures { IfOk result (IsJudged compiled.now proof.now) }
-{
-    let listed = proof.answers.as_slice();
-    let lines = proof.lines.as_slice();
-    let avoided = avoided(proof.opt, listed);
-    let rows = completed(alloc, compiled)?;
-    let bound = bound_at_first(alloc, compiled, proof.opt, listed)?;
-    let outcome = judge_lines(alloc, compiled, avoided, rows, &bound, lines)?;
-    match outcome {
-        Outcome::Wrong(why, at) => {
-            let number = number_of_line(listed, lines, at);
-            Ok(Judgement::No(why, number))
-        }
-        Outcome::Right(whole) => {
-            if whole {
-                return Ok(Judgement::Yes);
-            }
-            let number = number_of_line(listed, lines, lines.len());
-            Ok(Judgement::No(Why::NotWhole, number))
-        }
+    if is_last(bytes) {
+        return Ok(Read::Last);
     }
-}
-
-/// Whether the proof is right, or the first of its lines that isn't. On a line with several faults the order comes
-/// first, then the literals, then what the line is to show.
-pub fn judge(alloc: Global, compiled: &Compiled, proof: &Proof) -> Result<Judgement, AllocError>
-    ensures { IfOk result (IsJudged compiled.now proof.now) }
-{
-    let listed = proof.answers.as_slice();
-    let fault = fault_of_answers(alloc, compiled, proof.opt, listed)?;
-    match fault {
-        Some((why, at)) => {
-            let number = number_of_answer(listed, at);
-            Ok(Judgement::No(why, number))
-        }
-        None => judge_behind(alloc, compiled, proof),
+    let found = line(watches.allocator(), bytes)?;
+    match found {
+        Some(line) => take_line(
+            compiled, listed, rows, bound, assumed, watches, values, &line,
+        ),
+        None => Ok(Read::Refused),
     }
 }

@@ -20,6 +20,9 @@ ghost use Rattle.asp_checker.specs.Right.{IsRight, Shows};
 ghost use Rattle.asp_checker.specs.Steps.{Follow, Forced, IsKnown, is_unit};
 ghost use Rattle.asp_checker.specs.declared.judge.Why.{Why};
 ghost use Rattle.asp_checker.specs.Judging.{IsRefused};
+ghost use Rattle.asp_checker.specs.Streams.{IsFaultAt, IsWrongAt};
+ghost use Rattle.asp_proof.specs.Texts.{text_of};
+ghost use Rattle.asp_proof.specs.Grammar.{IsProof};
 
 /// A right proof lists all answers, each once and in order, or in an optimisation one that none betters, and none only
 /// where there is none.
@@ -30,6 +33,12 @@ pub fn right_proofs_show_what_they_list()
 /// A proof that is refused isn't right.
 pub fn refused_proofs_are_not_right()
     ensures { (p : Program) (proof : Proof) (w : Why) (number : ℕ) → IsRight p proof → IsRefused p proof w number → ⊥ }
+{}
+
+/// A proof of whose text it is told that a line is wrong, or that no proof has it there, isn't right, or is no proof.
+pub fn proofs_that_are_told_wrong_are_not_right()
+    ensures wrong { (p : Program) (proof : Proof) (w : Why) (number : ℕ) → IsProof proof → IsRight p proof → IsWrongAt p (text_of proof) w number → ⊥ }
+    ensures refused { (p : Program) (proof : Proof) (number : ℕ) → IsProof proof → IsFaultAt p (text_of proof) number → ⊥ }
 {}
 
 /// Where each nogood that is known hits excused models alone, and so does what costs too much, a line from which a conflict

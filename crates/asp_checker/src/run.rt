@@ -1,28 +1,34 @@
 //! A program's text and a proof's text, and what is said of them.
-ghost use Rattle.std.specs.Prelude.{◌≡◌, ◌<◌, ◌≤◌, ◌&&◌, ◌==◌, length, take, drop, slice_index, true, IfOk, OnErr, OnOk};
+ghost use Rattle.std.specs.Prelude.{◌≡◌, ◌≤◌, [], codes, length, true, IfOk, IsErrOf, OnErr, OnOk};
 ghost use Rattle.std.specs.Io.KnownBytes.{Appends};
 ghost use Rattle.asp_io.specs.Causes.{AppendsFront, Rose};
 ghost use Rattle.asp_model.specs.Sound.{IsSound};
 ghost use Rattle.asp_proof.specs.Grammar.{most_bytes};
+ghost use Rattle.asp_proof.specs.Reading.{Comes, held, window};
 ghost use Rattle.asp_read.specs.Stream.{ReadsText};
-ghost use Rattle.asp_checker.specs.Right.{Shows};
-ghost use Rattle.asp_checker.specs.Judging.{IsJudged};
 ghost use Rattle.asp_checker.specs.Codes.{code_of};
+ghost use Rattle.asp_checker.specs.Errors.{program_error, read_fault};
 ghost use Rattle.asp_checker.specs.Formats.{outcome_for};
-ghost use Rattle.asp_checker.specs.Runs.{CheckSays, ProofSays, ReadSays, program_error, proof_error, proof_place, is_proof_line, number_of, said, status_said, status_of, read_status, IsSentOn, Writes, TextSays, RunSays};
+ghost use Rattle.asp_checker.specs.Streams.{Judges};
+ghost use Rattle.asp_checker.specs.Runs.{AddsLine, FindsProof, InputSays, IsSentOn, RunSays, TextsSay, Writes, found_text, number_of, proof_status, said, status_of, status_said};
 
-use crate::judge::{Judgement, Why, judge};
+use crate::error::CheckError;
+use crate::judge::{Judgement, Why};
+use crate::stream::{judge, next_line};
 use asp_compile::compile::compile;
 use asp_io::{CleanSource, Failed, Sink, Source, write_all};
 use asp_model::program::Program;
-use asp_proof::proof::Proof;
-use asp_proof::{ProofError, parse, read_all};
+use asp_proof::lines::is_head;
+use asp_proof::{LineReader, ProofError};
 use asp_read::fault::ReadError;
 use asp_read::read_program;
 use asp_smodels::read_smodels;
 use itoa::Buffer;
 use std::alloc::{AllocError, Global};
 use std::mem;
+
+/// The greatest length of a program's text.
+const MOST_BYTES: usize = 268_435_456;
 
 /// The format of a program's text.
 #[derive(Clone, Copy, Debug, PartialEq, Eq)]
@@ -31,17 +37,6 @@ pub enum Format {
     Aspif,
     /// That of smodels and lparse.
     Smodels,
-}
-
-/// Why no proof was judged.
-#[derive(Clone, Copy)]
-pub enum CheckError {
-    /// Memory ran out.
-    Memory,
-    /// The program's text was refused.
-    Program(ReadError),
-    /// The proof's text was refused.
-    Proof(ProofError),
 }
 
 /// How a run ended.
@@ -85,58 +80,25 @@ impl CheckStatus {
     }
 }
 
-// ---- two texts
+// ---- the program and the proof
 
-// Judges a proof by its program. What a right proof lists is so.
-fn judge_by(alloc: Global, program: Program, proof: &Proof) -> Result<Judgement, AllocError>
-    requires { IsSound program }
-    ensures judged { IfOk result (IsJudged program proof.now) }
-    ensures shows { IfOk result (λ j. j ≡ Judgement.Yes → Shows program proof.now) }
+// Judges the proof whose first line the reader is at by a program. What a right proof lists is so.
+fn judge_by<S: Source>(
+    alloc: Global,
+    program: Program,
+    reader: &mut LineReader,
+    source: &mut S,
+) -> Result<Judgement, CheckError>
+    requires sound { IsSound program }
+    requires head { reader.old.line ≡ codes "proof 1" }
+    ensures says { Comes (S.left source.old) (held reader.old) (λ text. Judges program text result) }
+    ensures cause { IsErrOf result read_fault → Rose (S.faults source.old) (S.faults source.new) }
+    ensures quiet { ¬ IsErrOf result read_fault → S.faults source.new ≡ S.faults source.old }
 {
     let compiled = compile(alloc, program)?;
-    let judgement = judge(alloc, &compiled, proof);
+    let judged = judge(alloc, &compiled, reader, source);
     mem::drop(compiled);
-    judgement
-}
-
-fn judge_read(alloc: Global, program: Program, proof: &Proof) -> Result<Judgement, CheckError>
-    requires { IsSound program }
-    ensures { ReadSays program proof.now result }
-{
-    match judge_by(alloc, program, proof) {
-        Ok(judgement) => Ok(judgement),
-        Err(AllocError) => Err(CheckError::Memory),
-    }
-}
-
-fn proof_error(error: ProofError) -> CheckError
-    ensures { result ≡ proof_error error }
-{
-    match error {
-        ProofError::Memory => CheckError::Memory,
-        ProofError::ReadFault => CheckError::Proof(ProofError::ReadFault),
-        ProofError::TooLong => CheckError::Proof(ProofError::TooLong),
-        ProofError::Refused(line) => CheckError::Proof(ProofError::Refused(line)),
-    }
-}
-
-// Judges the proof of a text by a program.
-fn check_read(alloc: Global, program: Program, proof: &[u8]) -> Result<Judgement, CheckError>
-    requires sound { IsSound program }
-    requires short { length proof.now ≤ most_bytes }
-    ensures { ProofSays program proof.now result }
-{
-    match parse(alloc, proof) {
-        Ok(read) => {
-            let judged = judge_read(alloc, program, &read);
-            mem::drop(read);
-            judged
-        }
-        Err(error) => {
-            mem::drop(program);
-            Err(proof_error(error))
-        }
-    }
+    judged
 }
 
 fn program_error(error: ReadError) -> CheckError
@@ -163,74 +125,86 @@ fn read_text(alloc: Global, format: Format, text: &[u8]) -> Result<Program, Read
     }
 }
 
-/// Judges the proof of one text by the program of another: where it is right, what it lists is so.
-pub fn check_proof(
+// Judges the proof whose first line the reader is at by the program of a text.
+fn judge_behind<S: Source>(
     alloc: Global,
     format: Format,
-    program: &[u8],
-    proof: &[u8],
+    program: Vec<u8>,
+    reader: &mut LineReader,
+    source: &mut S,
 ) -> Result<Judgement, CheckError>
-    requires { length proof.now ≤ most_bytes }
-    ensures { CheckSays format program.now proof.now result }
+    requires head { reader.old.line ≡ codes "proof 1" }
+    ensures says { Comes (S.left source.old) (held reader.old) (λ text. TextsSay format program.items text result) }
+    ensures cause { IsErrOf result read_fault → Rose (S.faults source.old) (S.faults source.new) }
+    ensures quiet { ¬ IsErrOf result read_fault → S.faults source.new ≡ S.faults source.old }
 {
-    match read_text(alloc, format, program) {
-        Ok(read) => check_read(alloc, read, proof),
+    let read = read_text(alloc, format, program.as_slice());
+    mem::drop(program);
+    match read {
+        Ok(program) => judge_by(alloc, program, reader, source),
         Err(error) => Err(program_error(error)),
     }
 }
 
-// ---- one text
-
-// Whether the text begins with the first line of a proof.
-fn is_proof_line(text: &[u8]) -> bool
-    ensures { result ≡ is_proof_line text.now }
+// The program's text with one line more.
+fn add_line(text: &mut Vec<u8>, line: &[u8]) -> Result<(), CheckError>
+    requires { length text.old.items ≤ most_bytes }
+    ensures { AddsLine text.old.items text.new.items line.now result }
 {
-    text.starts_with(b"proof 1\n")
-}
-
-fn begins(at_start: bool, text: &[u8]) -> bool
-    ensures { result ≡ (at_start && is_proof_line text.now) }
-{
-    at_start && is_proof_line(text)
-}
-
-fn before(text: &[u8], at: usize) -> &[u8]
-    requires { at ≤ length text.now }
-    ensures { result.now ≡ take at text.now }
-{
-    text.split_at(at).0
-}
-
-fn behind(text: &[u8], at: usize) -> &[u8]
-    requires { at ≤ length text.now }
-    ensures { result.now ≡ drop at text.now }
-{
-    text.split_at(at).1
-}
-
-// Whether a line ends with this byte.
-fn ends_line(text: &[u8], at: usize) -> bool
-    requires { at < length text.now }
-    ensures { result ≡ (slice_index text.now at == 10) }
-{
-    text[at] == b'\n'
-}
-
-// Where the proof's text begins: at its first line, or at the end.
-fn proof_place(text: &[u8]) -> usize
-    ensures place { result ≡ proof_place text.now }
-    ensures within { result ≤ length text.now }
-{
-    let mut at_start = true;
-    for at in 0..text.len() {
-        let rest = behind(text, at);
-        if begins(at_start, rest) {
-            return at;
-        }
-        at_start = ends_line(text, at);
+    if line.len() >= MOST_BYTES - text.len() {
+        return Err(CheckError::Proof(ProofError::TooLong));
     }
-    text.len()
+    text.extend_from_slice(line)?;
+    text.push(b'\n')?;
+    Ok(())
 }
+
+// The program's text: what comes before the first line of a proof, if there is one.
+fn program_text<S: Source>(
+    alloc: Global,
+    reader: &mut LineReader,
+    source: &mut S,
+) -> Result<Option<Vec<u8>>, CheckError>
+    requires { reader.old ≡ window [] [] }
+    ensures finds { FindsProof (S.left source.old) (S.left source.new) reader.new (found_text (λ v. v.items) result) }
+    ensures cause { IsErrOf result read_fault → Rose (S.faults source.old) (S.faults source.new) }
+    ensures quiet { ¬ IsErrOf result read_fault → S.faults source.new ≡ S.faults source.old }
+{
+    let mut text = Vec::new(alloc);
+    'lines: for _ in 0..usize::MAX {
+        let next = next_line(reader, source)?;
+        if !next {
+            return Ok(None);
+        }
+        if is_head(reader.line()) {
+            return Ok(Some(text));
+        }
+        let line = reader.line();
+        add_line(&mut text, line)?;
+    }
+    Err(CheckError::Memory)
+}
+
+/// Judges the proof that a source gives after its program, which is in this format. The proof begins with the first line
+/// `proof 1`.
+pub fn check_proof<S: Source>(
+    alloc: Global,
+    format: Format,
+    source: &mut S,
+) -> Result<Judgement, CheckError>
+    ensures says { Comes (S.left source.old) [] (λ text. InputSays format text result) }
+    ensures cause { IsErrOf result read_fault → Rose (S.faults source.old) (S.faults source.new) }
+    ensures quiet { ¬ IsErrOf result read_fault → S.faults source.new ≡ S.faults source.old }
+{
+    let mut reader = LineReader::new(alloc)?;
+    let found = program_text(alloc, &mut reader, source)?;
+    match found {
+        Some(program) => judge_behind(alloc, format, program, &mut reader, source),
+        None => Err(CheckError::NoProof),
+    }
+}
+
+// ---- what is said
 
 fn number_of(why: Why) -> u8
     ensures { result ≡ number_of why }
@@ -311,6 +285,18 @@ fn write_judgement<K: Sink>(alloc: Global, sink: &mut K, judgement: Judgement) -
     }
 }
 
+// How a run ends where the proof's text was refused, or not had.
+fn proof_status(error: ProofError) -> CheckStatus
+    ensures { result ≡ proof_status error }
+{
+    match error {
+        ProofError::Memory => CheckStatus::Memory,
+        ProofError::ReadFault => CheckStatus::ReadFault,
+        ProofError::TooLong => CheckStatus::TooLong,
+        ProofError::Refused(line) => CheckStatus::Proof(ProofError::Refused(line)),
+    }
+}
+
 // How a run ends where no proof was judged.
 fn status_of(error: CheckError) -> CheckStatus
     ensures { result ≡ status_of error }
@@ -318,40 +304,8 @@ fn status_of(error: CheckError) -> CheckStatus
     match error {
         CheckError::Memory => CheckStatus::Memory,
         CheckError::Program(error) => CheckStatus::Program(error),
-        CheckError::Proof(error) => CheckStatus::Proof(error),
-    }
-}
-
-// Judges the proof in a text by the program before it, and writes what is said of it.
-fn answer<K: Sink>(alloc: Global, format: Format, text: &[u8], sink: &mut K) -> CheckStatus
-    requires { length text.now ≤ most_bytes }
-    ensures says { TextSays format text.now (K.held sink.old) (K.held sink.new) result }
-    ensures sent { IsSentOn (K.is_sent sink.new) result }
-    ensures cause { result ≡ CheckStatus.WriteFault → Rose (K.faults sink.old) (K.faults sink.new) }
-    ensures quiet { (result ≡ CheckStatus.WriteFault → ⊥) → K.faults sink.new ≡ K.faults sink.old }
-    ensures no_read { result ≡ CheckStatus.ReadFault → ⊥ }
-{
-    let place = proof_place(text);
-    if place == text.len() {
-        return CheckStatus::NoProof;
-    }
-    let program = before(text, place);
-    let proof = behind(text, place);
-    match check_proof(alloc, format, program, proof) {
-        Ok(judgement) => write_judgement(alloc, sink, judgement),
-        Err(error) => status_of(error),
-    }
-}
-
-// How a run ends where no text was read.
-fn read_status(error: ProofError) -> CheckStatus
-    ensures { result ≡ read_status error }
-{
-    match error {
-        ProofError::Memory => CheckStatus::Memory,
-        ProofError::TooLong => CheckStatus::TooLong,
-        ProofError::ReadFault => CheckStatus::ReadFault,
-        ProofError::Refused(_) => CheckStatus::ReadFault,
+        CheckError::NoProof => CheckStatus::NoProof,
+        CheckError::Proof(error) => proof_status(error),
     }
 }
 
@@ -375,8 +329,8 @@ pub fn run_check<S: Source, K: Sink>(
     ensures write { result ≡ CheckStatus.WriteFault → Rose (K.faults sink.old) (K.faults sink.new) }
     ensures write_quiet { (result ≡ CheckStatus.WriteFault → ⊥) → K.faults sink.new ≡ K.faults sink.old }
 {
-    match read_all(alloc, source) {
-        Ok(text) => answer(alloc, format, text.as_slice(), sink),
-        Err(error) => read_status(error),
+    match check_proof(alloc, format, source) {
+        Ok(judgement) => write_judgement(alloc, sink, judgement),
+        Err(error) => status_of(error),
     }
 }

@@ -1,5 +1,5 @@
 -- What is said on standard error.
-use Rattle.std.specs.Prelude.{ℕ, List, [], ◌++◌, codes, decimal}
+use Rattle.std.specs.Prelude.{ℕ, Bool, List, [], ◌++◌, codes, decimal, if◌then◌else◌}
 use Rattle.asp_checker.specs.declared.judge.Why.{Why}
 use Rattle.asp_checker.specs.declared.judge.Why.TheVariants as why
 use Rattle.asp_checker.specs.declared.run.CheckStatus.{CheckStatus}
@@ -41,24 +41,28 @@ proof_note proof.ReadFault = codes "aspcheck: read failed\n"
 proof_note proof.TooLong = codes "aspcheck: input too long\n"
 proof_note (proof.Refused n) = proof_line n (codes "wrong or missing")
 
-abbrev pub check_note : CheckStatus → List ℕ
-check_note check.Yes = []
-check_note (check.No w n) = proof_line n (why_text w)
-check_note check.Memory = codes "aspcheck: out of memory\n"
-check_note (check.Program e) = program_note e
-check_note check.ReadFault = codes "aspcheck: read failed\n"
-check_note check.TooLong = codes "aspcheck: input too long\n"
-check_note check.NoProof = codes "aspcheck: no line is 'proof 1', with which a proof begins (the program's last line needs its line feed)\n"
-check_note (check.Proof e) = proof_note e
-check_note check.WriteFault = codes "aspcheck: write failed\n"
+-- where nobody reads any more, the status alone tells of a failed write
+abbrev pub write_note : Bool → List ℕ
+write_note closed = if closed then [] else codes "aspcheck: write failed\n"
 
--- the lines for a status; Usage is here that of arguments that can't be had
-abbrev pub note_of : Status → List ℕ
-note_of (status.Checked s) = check_note s
-note_of status.Told = []
-note_of status.Memory = codes "aspcheck: out of memory\n"
-note_of status.Usage = codes "aspcheck: an argument is not UTF-8\n" ++ usage_line
-note_of status.WriteFault = codes "aspcheck: write failed\n"
+abbrev pub check_note : Bool → CheckStatus → List ℕ
+check_note closed check.Yes = []
+check_note closed (check.No w n) = proof_line n (why_text w)
+check_note closed check.Memory = codes "aspcheck: out of memory\n"
+check_note closed (check.Program e) = program_note e
+check_note closed check.ReadFault = codes "aspcheck: read failed\n"
+check_note closed check.TooLong = codes "aspcheck: input too long\n"
+check_note closed check.NoProof = codes "aspcheck: no line is 'proof 1', with which a proof begins (the program's last line needs its line feed)\n"
+check_note closed (check.Proof e) = proof_note e
+check_note closed check.WriteFault = write_note closed
+
+-- the lines for a status, where nobody reads any more or not; Usage is here that of arguments that can't be had
+abbrev pub note_of : Bool → Status → List ℕ
+note_of closed (status.Checked s) = check_note closed s
+note_of closed status.Told = []
+note_of closed status.Memory = codes "aspcheck: out of memory\n"
+note_of closed status.Usage = codes "aspcheck: an argument is not UTF-8\n" ++ usage_line
+note_of closed status.WriteFault = write_note closed
 
 -- the end of a fault's line, and the usage line
 abbrev pub usage_text : List ℕ
@@ -75,6 +79,6 @@ abbrev pub misuse_note : Misuse → List ℕ
 misuse_note m = codes "aspcheck: " ++ misuse_text m ++ usage_text
 
 -- what is said of arguments and of how the run ended
-abbrev pub note_for : Given → Status → List ℕ
-note_for (misuse m) s = misuse_note m
-note_for given s = note_of s
+abbrev pub note_for : Given → Bool → Status → List ℕ
+note_for (misuse m) closed s = misuse_note m
+note_for given closed s = note_of closed s

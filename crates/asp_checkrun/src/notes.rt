@@ -1,8 +1,8 @@
 //! What is said on standard error.
-ghost use Rattle.std.specs.Prelude.{◌≡◌, ◌++◌, codes, decimal};
+ghost use Rattle.std.specs.Prelude.{◌≡◌, ◌++◌, false, codes, decimal};
 ghost use Rattle.asp_faults.specs.Writing.{IsNoted, Writes};
 ghost use Rattle.asp_checkrun.specs.Given.{fault_seen};
-ghost use Rattle.asp_checkrun.specs.Notes.{check_note, misuse_note, misuse_text, note_of, program_note, proof_line, proof_note, usage_text, why_text};
+ghost use Rattle.asp_checkrun.specs.Notes.{check_note, misuse_note, misuse_text, note_of, program_note, proof_line, proof_note, usage_text, why_text, write_note};
 
 use crate::status::Status;
 use crate::texts::usage;
@@ -95,9 +95,20 @@ fn write_proof<N: Sink>(notes: &mut N, error: ProofError) -> Result<(), Failed>
     }
 }
 
-fn write_check<N: Sink>(notes: &mut N, status: CheckStatus) -> Result<(), Failed>
+// That the sink failed, where somebody reads.
+fn write_failed<N: Sink>(notes: &mut N, is_closed: bool) -> Result<(), Failed>
     ensures { Writes (N.held notes.old) (N.held notes.new) (N.faults notes.old) (N.faults notes.new)
-        result (check_note status) }
+        result (write_note is_closed) }
+{
+    if is_closed {
+        return write(notes, b"");
+    }
+    write(notes, b"aspcheck: write failed\n")
+}
+
+fn write_check<N: Sink>(notes: &mut N, status: CheckStatus, is_closed: bool) -> Result<(), Failed>
+    ensures { Writes (N.held notes.old) (N.held notes.new) (N.faults notes.old) (N.faults notes.new)
+        result (check_note is_closed status) }
 {
     match status {
         CheckStatus::Yes => write(notes, b""),
@@ -111,35 +122,36 @@ fn write_check<N: Sink>(notes: &mut N, status: CheckStatus) -> Result<(), Failed
             b"aspcheck: no line is 'proof 1', with which a proof begins (the program's last line needs its line feed)\n",
         ),
         CheckStatus::Proof(error) => write_proof(notes, error),
-        CheckStatus::WriteFault => write(notes, b"aspcheck: write failed\n"),
+        CheckStatus::WriteFault => write_failed(notes, is_closed),
     }
 }
 
 fn write_not_text<N: Sink>(notes: &mut N) -> Result<(), Failed>
     ensures { Writes (N.held notes.old) (N.held notes.new) (N.faults notes.old) (N.faults notes.new)
-        result (note_of Status.Usage) }
+        result (note_of false Status.Usage) }
 {
     write_both(notes, b"aspcheck: an argument is not UTF-8\n", usage())
 }
 
-fn write_note<N: Sink>(notes: &mut N, status: Status) -> Result<(), Failed>
+fn write_status<N: Sink>(notes: &mut N, status: Status, is_closed: bool) -> Result<(), Failed>
     ensures { Writes (N.held notes.old) (N.held notes.new) (N.faults notes.old) (N.faults notes.new)
-        result (note_of status) }
+        result (note_of is_closed status) }
 {
     match status {
-        Status::Checked(status) => write_check(notes, status),
+        Status::Checked(status) => write_check(notes, status, is_closed),
         Status::Told => write(notes, b""),
         Status::Memory => write(notes, b"aspcheck: out of memory\n"),
         Status::Usage => write_not_text(notes),
-        Status::WriteFault => write(notes, b"aspcheck: write failed\n"),
+        Status::WriteFault => write_failed(notes, is_closed),
     }
 }
 
-/// Writes the lines for a status. That standard error fails changes nothing.
-pub fn note<N: Sink>(notes: &mut N, status: Status)
-    ensures { IsNoted (N.held notes.old) (N.held notes.new) (N.faults notes.old) (N.faults notes.new) (note_of status) }
+/// Writes the lines for a status; none for a failed write where nobody reads any more. That standard error fails changes
+/// nothing.
+pub fn note<N: Sink>(notes: &mut N, status: Status, is_closed: bool)
+    ensures { IsNoted (N.held notes.old) (N.held notes.new) (N.faults notes.old) (N.faults notes.new) (note_of is_closed status) }
 {
-    let _ = write_note(notes, status);
+    let _ = write_status(notes, status, is_closed);
 }
 
 fn write_word_fault<N: Sink>(notes: &mut N, fault: &WordFault<'_>) -> Result<(), Failed>

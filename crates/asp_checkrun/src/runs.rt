@@ -1,5 +1,5 @@
 //! A whole run.
-ghost use Rattle.std.specs.Prelude.{◌≡◌, map, string_bytes};
+ghost use Rattle.std.specs.Prelude.{◌≡◌, false, map, string_bytes};
 ghost use Rattle.asp_faults.specs.Writing.{IsNoted};
 ghost use Rattle.asp_checkrun.specs.Given.{refused, words_give};
 ghost use Rattle.asp_checkrun.specs.Notes.{note_for, note_of};
@@ -31,10 +31,10 @@ fn tell<K: Sink, N: Sink>(sink: &mut K, notes: &mut N, text: &[u8]) -> Status
     ensures tells { Tells text.now (K.held sink.old) (K.held sink.new) (K.is_sent sink.new) result }
     ensures write { Answers 74 result (K.faults sink.old) (K.faults sink.new) }
     ensures no_read { status_code result ≡ 66 → ⊥ }
-    ensures notes { IsNoted (N.held notes.old) (N.held notes.new) (N.faults notes.old) (N.faults notes.new) (note_of result) }
+    ensures notes { IsNoted (N.held notes.old) (N.held notes.new) (N.faults notes.old) (N.faults notes.new) (note_of (K.is_closed sink.new) result) }
 {
     let status = write_asked(sink, text);
-    note(notes, status);
+    note(notes, status, sink.is_closed());
     status
 }
 
@@ -50,11 +50,11 @@ fn check<S: Source, K: Sink, N: Sink>(
         (K.held sink.old) (K.held sink.new) (K.is_sent sink.new)) result }
     ensures read { Answers 66 result (S.faults source.old) (S.faults source.new) }
     ensures write { Answers 74 result (K.faults sink.old) (K.faults sink.new) }
-    ensures notes { IsNoted (N.held notes.old) (N.held notes.new) (N.faults notes.old) (N.faults notes.new) (note_of result) }
+    ensures notes { IsNoted (N.held notes.old) (N.held notes.new) (N.faults notes.old) (N.faults notes.new) (note_of (K.is_closed sink.new) result) }
 {
     let checked = run_check(alloc, format, source, sink);
     let status = Status::Checked(checked);
-    note(notes, status);
+    note(notes, status, sink.is_closed());
     status
 }
 
@@ -64,7 +64,7 @@ fn reply<K: Sink, N: Sink>(sink: &mut K, notes: &mut N, error: &AskError<'_>) ->
     ensures write { Answers 74 result (K.faults sink.old) (K.faults sink.new) }
     ensures no_read { status_code result ≡ 66 → ⊥ }
     ensures notes { IsNoted (N.held notes.old) (N.held notes.new) (N.faults notes.old) (N.faults notes.new)
-        (note_for (refused error.now) result) }
+        (note_for (refused error.now) (K.is_closed sink.new) result) }
 {
     match error {
         AskError::Help => tell(sink, notes, page()),
@@ -78,9 +78,9 @@ fn reply<K: Sink, N: Sink>(sink: &mut K, notes: &mut N, error: &AskError<'_>) ->
 
 /// A run that can't have its arguments: nothing is read, and nothing written but the lines for its status on the notes.
 pub fn end_without_words<N: Sink>(notes: &mut N, status: Status)
-    ensures { IsNoted (N.held notes.old) (N.held notes.new) (N.faults notes.old) (N.faults notes.new) (note_of status) }
+    ensures { IsNoted (N.held notes.old) (N.held notes.new) (N.faults notes.old) (N.faults notes.new) (note_of false status) }
 {
-    note(notes, status);
+    note(notes, status, false);
 }
 
 /// A whole run of the checker. It reads a program and its proof from the source, and writes the judgement to the sink; or it
@@ -98,7 +98,7 @@ pub fn run<S: Source, K: Sink, N: Sink>(
     ensures read { Answers 66 result (S.faults source.old) (S.faults source.new) }
     ensures write { Answers 74 result (K.faults sink.old) (K.faults sink.new) }
     ensures notes { IsNoted (N.held notes.old) (N.held notes.new) (N.faults notes.old) (N.faults notes.new)
-        (note_for (words_give (map string_bytes given.now)) result) }
+        (note_for (words_give (map string_bytes given.now)) (K.is_closed sink.new) result) }
 {
     match words(given) {
         Ok(format) => check(alloc, format, source, sink, notes),

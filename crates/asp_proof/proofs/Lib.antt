@@ -2,5 +2,6 @@ pub mod CutLaws
 pub mod FieldLaws
 pub mod LineLaws
 pub mod WalkLaws
-pub mod SourceLaws
+pub mod ReaderLaws
+pub mod StreamLaws
 pub mod TextLaws

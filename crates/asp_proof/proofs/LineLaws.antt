@@ -30,10 +30,6 @@ pub is_nil : {A : Type 0} (b : Bool) (xs : List A) → b ≡ eqb (length xs) 0 �
 is_nil b [] e f = refl
 is_nil b (x ∷ xs) e f = absurd (omega (arith, eqb-true (length (x ∷ xs)) 0 (sym e ∙ f)))
 
-pub nil_is : {A : Type 0} (b : Bool) (xs : List A) → b ≡ eqb (length xs) 0 → xs ≡ [] → b ≡ true
-nil_is b [] e f = e
-nil_is b (x ∷ xs) e f = absurd cc
-
 pub some_from : {A : Type 0} (b : Bool) (xs : List A) → b ≡ eqb (length xs) 0 → b ≡ false → 0 < length xs
 some_from b [] e f = absurd (false≢true (sym f ∙ e))
 some_from b (x ∷ xs) e f = omega arith

@@ -1,20 +1,17 @@
 -- No two proofs have one text.
-use Rattle.std.proofs.Common.{◌≡◌, ℕ, ◌≤◌, Bool, List, [], ◌∷◌, ◌++◌, length, codes, Result, Ok, Err, refl, sym, ap, ◌∙◌, arith, append-nil}
+use Rattle.std.proofs.Common.{◌≡◌, ℕ, ◌<◌, Bool, List, [], ◌∷◌, ◌++◌, length, codes, refl, sym, ap, ◌∙◌, arith, append-nil}
 use Rattle.std.specs.Prelude.{ℤ}
 use Rattle.std.specs.List.{AllByRecursion}
 use Rattle.asp_model.specs.Sets.{Atoms}
 use Rattle.asp_proof.specs.declared.proof.Line.{Line}
 use Rattle.asp_proof.specs.declared.proof.Line.TheVariants as kind
 use Rattle.asp_proof.specs.declared.proof.Proof.{Proof}
-use Rattle.asp_proof.specs.declared.error.ProofError.{ProofError}
-use Rattle.asp_proof.specs.declared.error.ProofError.TheVariants as errors
-use Rattle.asp_proof.specs.Texts.{atoms_fields, literals_fields, loop_fields, answer_text, line_text, text_of, lines}
-use Rattle.asp_proof.specs.Grammar.{IsSet, IsNogood, IsLine, IsProof, most_bytes}
-use Rattle.asp_proof.specs.Outcome.{IsAnswerOn, IsItself}
-use Rattle.asp_proof.specs.Walk.{proof_of}
+use Rattle.asp_proof.specs.Texts.{atoms_fields, literals_fields, loop_fields, answer_text, line_text, mode_line, text_of, lines}
+use Rattle.asp_proof.specs.Grammar.{IsSet, IsNogood, IsLine, IsProof, IsFirstFault}
+use Rattle.asp_proof.specs.Walk.{proof_of, front_of, IsStart}
 use Rattle.asp_proof.proofs.FieldLaws.{IsClear, clear_set, clear_nogood}
 use Rattle.asp_proof.proofs.LineLaws.{first_bytes}
-use Rattle.asp_proof.proofs.WalkLaws.{first_line, front_first, parts_of, behind_head, behind_mode, same_mode, unbroken_answer, unbroken_line, zero_unbroken, answer_or_line, answer_or_last, line_or_last}
+use Rattle.asp_proof.proofs.WalkLaws.{first_line, front_first, regroup, parts_of, behind_head, behind_mode, same_mode, unbroken_answer, unbroken_line, zero_unbroken, answer_or_line, answer_or_last, line_or_last}
 
 behind : (b : ℕ) (xs ys : List ℕ) → b ∷ xs ≡ b ∷ ys → xs ≡ ys
 behind b xs ys e = cc
@@ -45,13 +42,15 @@ same_first x y more less tail rest u v e = first_line x y (more ++ tail) (less +
 first_and_last : (x more tail : List ℕ) → AllByRecursion (λ b. b ≡ 10 → ⊥) x → ((x ++ 10 ∷ []) ++ more) ++ tail ≡ codes "0\n" → x ≡ codes "0"
 first_and_last x more tail u e = (first_line x (codes "0") (more ++ tail) [] u zero_unbroken (sym (front_first x more tail) ∙ e)).0
 
-one_lines : (ls ms : List Line) → AllByRecursion IsLine ls → AllByRecursion IsLine ms → lines line_text ls ++ codes "0\n" ≡ lines line_text ms ++ codes "0\n" → ls ≡ ms
-one_lines [] [] p q e = refl
-one_lines [] (m ∷ ms) p q e = absurd (line_or_last m (first_and_last (line_text m) (lines line_text ms) (codes "0\n") (unbroken_line m q.0) (sym e)))
-one_lines (l ∷ ls) [] p q e = absurd (line_or_last l (first_and_last (line_text l) (lines line_text ls) (codes "0\n") (unbroken_line l p.0) e))
-one_lines (l ∷ ls) (m ∷ ms) p q e =
-    let h = same_first (line_text l) (line_text m) (lines line_text ls) (lines line_text ms) (codes "0\n") (codes "0\n") (unbroken_line l p.0) (unbroken_line m q.0) e in
-    cc (one_line l m p.0 q.0 h.0, one_lines ls ms p.1 q.1 h.1)
+-- the last line comes after the same lines
+one_lines : (ls ms : List Line) (after : List ℕ) → AllByRecursion IsLine ls → AllByRecursion IsLine ms → lines line_text ls ++ (codes "0\n" ++ after) ≡ lines line_text ms ++ codes "0\n" → ls ≡ ms
+one_lines [] [] after p q e = refl
+one_lines [] (m ∷ ms) after p q e =
+    absurd (line_or_last m (sym (first_line (codes "0") (line_text m) after (lines line_text ms ++ codes "0\n") zero_unbroken (unbroken_line m q.0) (e ∙ front_first (line_text m) (lines line_text ms) (codes "0\n"))).0))
+one_lines (l ∷ ls) [] after p q e = absurd (line_or_last l (first_and_last (line_text l) (lines line_text ls) (codes "0\n" ++ after) (unbroken_line l p.0) e))
+one_lines (l ∷ ls) (m ∷ ms) after p q e =
+    let h = same_first (line_text l) (line_text m) (lines line_text ls) (lines line_text ms) (codes "0\n" ++ after) (codes "0\n") (unbroken_line l p.0) (unbroken_line m q.0) e in
+    cc (one_line l m p.0 q.0 h.0, one_lines ls ms after p.1 q.1 h.1)
 
 -- an answer's line doesn't begin what lines and the last one make
 answer_among_lines : (S : Atoms) (more : List ℕ) (tail : List ℕ) (ms : List Line) → IsSet S → AllByRecursion IsLine ms → ((answer_text S ++ 10 ∷ []) ++ more) ++ tail ≡ lines line_text ms ++ codes "0\n" → ⊥
@@ -62,28 +61,64 @@ record AreSame (Ss Rs : List Atoms) (ls ms : List Line) : Type 0 where
   pub answers : Ss ≡ Rs
   pub entries : ls ≡ ms
 
-one_tail : (Ss Rs : List Atoms) (ls ms : List Line) → AllByRecursion IsSet Ss → AllByRecursion IsSet Rs → AllByRecursion IsLine ls → AllByRecursion IsLine ms
-    → lines answer_text Ss ++ (lines line_text ls ++ codes "0\n") ≡ lines answer_text Rs ++ (lines line_text ms ++ codes "0\n") → AreSame Ss Rs ls ms
-one_tail [] [] ls ms a b p q e = record { answers = refl; entries = one_lines ls ms p q e }
-one_tail [] (R ∷ Rs) ls ms a b p q e = absurd (answer_among_lines R (lines answer_text Rs) (lines line_text ms ++ codes "0\n") ls b.0 p (sym e))
-one_tail (S ∷ Ss) [] ls ms a b p q e = absurd (answer_among_lines S (lines answer_text Ss) (lines line_text ls ++ codes "0\n") ms a.0 q e)
-one_tail (S ∷ Ss) (R ∷ Rs) ls ms a b p q e =
-    let h = same_first (answer_text S) (answer_text R) (lines answer_text Ss) (lines answer_text Rs) (lines line_text ls ++ codes "0\n") (lines line_text ms ++ codes "0\n") (unbroken_answer S a.0) (unbroken_answer R b.0) e in
-    let more = one_tail Ss Rs ls ms a.1 b.1 p q h.1 in
+one_tail : (Ss Rs : List Atoms) (ls ms : List Line) (after : List ℕ) → AllByRecursion IsSet Ss → AllByRecursion IsSet Rs → AllByRecursion IsLine ls → AllByRecursion IsLine ms
+    → lines answer_text Ss ++ (lines line_text ls ++ (codes "0\n" ++ after)) ≡ lines answer_text Rs ++ (lines line_text ms ++ codes "0\n") → AreSame Ss Rs ls ms
+one_tail [] [] ls ms after a b p q e = record { answers = refl; entries = one_lines ls ms after p q e }
+one_tail [] (R ∷ Rs) [] ms after a b p q e =
+    absurd (answer_or_last R (sym (first_line (codes "0") (answer_text R) after (lines answer_text Rs ++ (lines line_text ms ++ codes "0\n")) zero_unbroken (unbroken_answer R b.0) (e ∙ front_first (answer_text R) (lines answer_text Rs) (lines line_text ms ++ codes "0\n"))).0))
+one_tail [] (R ∷ Rs) (l ∷ ls) ms after a b p q e =
+    absurd (answer_or_line R l (sym (same_first (line_text l) (answer_text R) (lines line_text ls) (lines answer_text Rs) (codes "0\n" ++ after) (lines line_text ms ++ codes "0\n") (unbroken_line l p.0) (unbroken_answer R b.0) e).0))
+one_tail (S ∷ Ss) [] ls ms after a b p q e = absurd (answer_among_lines S (lines answer_text Ss) (lines line_text ls ++ (codes "0\n" ++ after)) ms a.0 q e)
+one_tail (S ∷ Ss) (R ∷ Rs) ls ms after a b p q e =
+    let h = same_first (answer_text S) (answer_text R) (lines answer_text Ss) (lines answer_text Rs) (lines line_text ls ++ (codes "0\n" ++ after)) (lines line_text ms ++ codes "0\n") (unbroken_answer S a.0) (unbroken_answer R b.0) e in
+    let more = one_tail Ss Rs ls ms after a.1 b.1 p q h.1 in
     record { answers = cc (one_answer S R a.0 b.0 h.0, more.answers); entries = more.entries }
 
 same_proof : (o r : Bool) (Ss Rs : List Atoms) (ls ms : List Line) → o ≡ r → AreSame Ss Rs ls ms → proof_of o Ss ls ≡ proof_of r Rs ms
 same_proof o r Ss Rs ls ms e s = let a = s.answers in let b = s.entries in cc
 
-pub one_proof : (p q : Proof) → IsProof p → IsProof q → text_of p ≡ text_of q → p ≡ q
-one_proof p q h k e =
-    let behind_one = behind_head _ _ (sym (parts_of p) ∙ e ∙ parts_of q) in
+pub one_whole : (p q : Proof) (after : List ℕ) → IsProof p → IsProof q → front_of p ++ (codes "0\n" ++ after) ≡ text_of q → p ≡ q
+one_whole p q after h k e =
+    let behind_one = behind_head _ _ (sym (regroup (codes "proof 1\n") (mode_line p.opt) (lines answer_text p.answers) (lines line_text p.lines) (codes "0\n" ++ after)) ∙ e ∙ parts_of q) in
     same_proof p.opt q.opt p.answers q.answers p.lines q.lines (same_mode p.opt q.opt _ _ behind_one)
-    (one_tail p.answers q.answers p.lines q.lines h.answers k.answers h.lines k.lines (behind_mode p.opt q.opt _ _ behind_one))
+    (one_tail p.answers q.answers p.lines q.lines after h.answers k.answers h.lines k.lines (behind_mode p.opt q.opt _ _ behind_one))
 
-pub itself : (p : Proof) → IsProof p → length (text_of p) ≤ most_bytes → (r : Result Proof ProofError) → IsAnswerOn (text_of p) r → IsItself p r
-itself p h le (Ok q) k = one_proof q p k.is h k.same
-itself p h le (Err errors.Memory) k = tt
-itself p h le (Err errors.ReadFault) k = tt
-itself p h le (Err errors.TooLong) k = omega arith
-itself p h le (Err (errors.Refused number)) k = k.1.whole (record { proof = p; is = h; same = refl })
+pub one_proof : (p q : Proof) → IsProof p → IsProof q → text_of p ≡ text_of q → p ≡ q
+one_proof p q h k e = one_whole p q [] h k e
+
+-- ---- what a proof's text begins with
+starts_lines : (ls ms : List Line) (rest : List ℕ) → AllByRecursion IsLine ls → AllByRecursion IsLine ms → lines line_text ls ++ rest ≡ lines line_text ms ++ codes "0\n" → (more : List Line) × (ms ≡ ls ++ more)
+starts_lines [] ms rest p q e = (ms, refl)
+starts_lines (l ∷ ls) [] rest p q e = absurd (line_or_last l (first_and_last (line_text l) (lines line_text ls) rest (unbroken_line l p.0) e))
+starts_lines (l ∷ ls) (m ∷ ms) rest p q e =
+    let h = same_first (line_text l) (line_text m) (lines line_text ls) (lines line_text ms) rest (codes "0\n") (unbroken_line l p.0) (unbroken_line m q.0) e in
+    let more = starts_lines ls ms rest p.1 q.1 h.1 in
+    (more.0, cc (one_line l m p.0 q.0 h.0, more.1))
+
+record IsStartOf (Ss Rs : List Atoms) (ls ms : List Line) : Type 0 where
+  pub more_answers : List Atoms
+  pub answers : Rs ≡ Ss ++ more_answers
+  pub more_lines : List Line
+  pub lines : ms ≡ ls ++ more_lines
+  pub all_answers : 0 < length ls → more_answers ≡ []
+
+starts_tail : (Ss Rs : List Atoms) (ls ms : List Line) (rest : List ℕ) → AllByRecursion IsSet Ss → AllByRecursion IsSet Rs → AllByRecursion IsLine ls → AllByRecursion IsLine ms
+    → lines answer_text Ss ++ (lines line_text ls ++ rest) ≡ lines answer_text Rs ++ (lines line_text ms ++ codes "0\n") → IsStartOf Ss Rs ls ms
+starts_tail [] [] ls ms rest a b p q e = let more = starts_lines ls ms rest p q e in record { more_answers = []; answers = refl; more_lines = more.0; lines = more.1; all_answers = λ lt. refl }
+starts_tail [] (R ∷ Rs) [] ms rest a b p q e = record { more_answers = R ∷ Rs; answers = refl; more_lines = ms; lines = refl; all_answers = λ lt. absurd (omega (arith, lt)) }
+starts_tail [] (R ∷ Rs) (l ∷ ls) ms rest a b p q e =
+    absurd (answer_or_line R l (sym (same_first (line_text l) (answer_text R) (lines line_text ls) (lines answer_text Rs) rest (lines line_text ms ++ codes "0\n") (unbroken_line l p.0) (unbroken_answer R b.0) e).0))
+starts_tail (S ∷ Ss) [] ls ms rest a b p q e = absurd (answer_among_lines S (lines answer_text Ss) (lines line_text ls ++ rest) ms a.0 q e)
+starts_tail (S ∷ Ss) (R ∷ Rs) ls ms rest a b p q e =
+    let h = same_first (answer_text S) (answer_text R) (lines answer_text Ss) (lines answer_text Rs) (lines line_text ls ++ rest) (lines line_text ms ++ codes "0\n") (unbroken_answer S a.0) (unbroken_answer R b.0) e in
+    let more = starts_tail Ss Rs ls ms rest a.1 b.1 p q h.1 in
+    record { more_answers = more.more_answers; answers = cc (one_answer S R a.0 b.0 h.0, more.answers); more_lines = more.more_lines; lines = more.lines; all_answers = more.all_answers }
+
+pub start_of : (p q : Proof) (rest : List ℕ) → IsProof p → IsProof q → front_of q ++ rest ≡ text_of p → IsStart q p
+start_of p q rest h k e =
+    let behind_one = behind_head _ _ (sym (regroup (codes "proof 1\n") (mode_line q.opt) (lines answer_text q.answers) (lines line_text q.lines) rest) ∙ e ∙ parts_of p) in
+    let more = starts_tail q.answers p.answers q.lines p.lines rest k.answers h.answers k.lines h.lines (behind_mode q.opt p.opt _ _ behind_one) in
+    record { mode = same_mode q.opt p.opt _ _ behind_one; more_answers = more.more_answers; answers = more.answers; more_lines = more.more_lines; lines = more.lines; all_answers = more.all_answers }
+
+pub faultless : (p : Proof) → IsProof p → (number : ℕ) → IsFirstFault (text_of p) number → ⊥
+faultless p h number f = f.whole (record { proof = p; is = h; same = refl })

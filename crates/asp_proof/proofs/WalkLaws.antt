@@ -1,5 +1,5 @@
 -- A text, line by line.
-use Rattle.std.proofs.Common.{◌≡◌, ◌≢◌, ◌⊎◌, inl, inr, ℕ, ◌+◌, ◌<◌, ◌≤◌, Bool, true, false, List, [], ◌∷◌, ◌++◌, length, codes, refl, sym, ap, ◌∙◌, arith, append_assoc, append-nil, length-append, subst}
+use Rattle.std.proofs.Common.{◌≡◌, ◌≢◌, ◌⊎◌, inl, inr, ℕ, ◌+◌, ◌<◌, Bool, true, false, List, [], ◌∷◌, ◌++◌, length, codes, refl, sym, ap, ◌∙◌, arith, append_assoc, append-nil, length-append, subst}
 use Rattle.std.specs.Prelude.{ℤ, pos, flat_map}
 use Rattle.std.specs.List.{AllByRecursion}
 use Rattle.std.proofs.lemmas.Grind.{flat_map-append}
@@ -9,9 +9,8 @@ use Rattle.asp_proof.specs.declared.proof.Line.{Line}
 use Rattle.asp_proof.specs.declared.proof.Line.TheVariants as kind
 use Rattle.asp_proof.specs.declared.proof.Proof.{Proof}
 use Rattle.asp_proof.specs.Texts.{natural_field, integer_field, counted_fields, loop_fields, answer_text, line_text, mode_line, text_of, line, lines}
-use Rattle.asp_proof.specs.Grammar.{IsAtom, IsLiteral, AreCounted, IsSet, IsNogood, IsLine, IsProof, IsProofText, Begins, IsUnbroken, IsLines, IsFirstFault, most_bytes}
-use Rattle.asp_proof.specs.Fields.{IsNumber, IsWhole, IsCut}
-use Rattle.asp_proof.specs.Outcome.{Reads}
+use Rattle.asp_proof.specs.Grammar.{IsAtom, IsLiteral, AreCounted, IsSet, IsNogood, IsLine, IsProof, IsProofText, Begins, IsUnbroken, IsLines, IsFirstFault}
+use Rattle.asp_proof.specs.Fields.{IsNumber, IsWhole}
 use Rattle.asp_proof.specs.Walk.{proof_of, front_of, Ends, IsWalked, Takes, IsRefused}
 use Rattle.asp_proof.proofs.CutLaws.{one_cut}
 use Rattle.asp_proof.proofs.FieldLaws.{no_feed}
@@ -206,7 +205,7 @@ pub refused : (text : List ℕ) (n : ℕ) (p : Proof) (bytes after rest : List �
 refused text n p bytes after rest w e u z r = fault text (front_of p) bytes after n (ap (λ (t : List ℕ). front_of p ++ t) e ∙ w.parted) w.counted (begun p w.is) u
     (λ more t. never_next p.lines bytes more r z (next p.lines bytes more u (w.only (bytes ++ 10 ∷ more) t)))
 
-left_lacks : (xs ys : List ℕ) → IsUnbroken (xs ++ ys) → IsUnbroken ys
+pub left_lacks : (xs ys : List ℕ) → IsUnbroken (xs ++ ys) → IsUnbroken ys
 left_lacks [] ys h = h
 left_lacks (x ∷ xs) ys h = left_lacks xs ys h.1
 
@@ -257,21 +256,12 @@ goes_on text n p bytes after rest w e z more =
       whole = λ t. more (over p text rest after n w whole after (proof_text _ _ (sym parted) t));
     }
 
-pub is_read : (text : List ℕ) (n : ℕ) (p : Proof) (bytes after rest : List ℕ) → IsWalked text n p rest → bytes ++ 10 ∷ after ≡ rest → bytes ≡ codes "0" → after ≡ [] → length text ≤ most_bytes → Reads text p
-is_read text n p bytes after rest w e z end le = record {
-  is = w.is;
-  same =
-      let whole : codes "0" ++ 10 ∷ [] ≡ rest = ap (λ (t : List ℕ). codes "0" ++ 10 ∷ t) (sym end) ∙ ap (λ (t : List ℕ). t ++ 10 ∷ after) (sym z) ∙ e in
-      ap (λ (t : List ℕ). front_of p ++ t) whole ∙ w.parted;
-  short = le;
-}
-
 -- ---- the first two lines
 
 abbrev pub head : List ℕ
 head = codes "proof 1\n"
 
-regroup : (h m a l z : List ℕ) → (((h ++ m) ++ a) ++ l) ++ z ≡ h ++ (m ++ (a ++ (l ++ z)))
+pub regroup : (h m a l z : List ℕ) → (((h ++ m) ++ a) ++ l) ++ z ≡ h ++ (m ++ (a ++ (l ++ z)))
 regroup h m a l z = simp append_assoc
 
 pub parts_of : (p : Proof) → text_of p ≡ head ++ (mode_line p.opt ++ (lines answer_text p.answers ++ (lines line_text p.lines ++ codes "0\n")))
@@ -286,9 +276,6 @@ behind_mode false false xs ys e = cc
 behind_mode true false xs ys e = absurd (omega (arith, first_bytes 111 101 _ _ e))
 behind_mode false true xs ys e = absurd (omega (arith, first_bytes 101 111 _ _ e))
 
-any_proof : Begins []
-any_proof = record { rest = text_of (proof_of false [] []); whole = record { proof = proof_of false [] []; is = record { answers = tt; lines = tt }; same = refl } }
-
 pub same_mode : (o q : Bool) (xs ys : List ℕ) → mode_line o ++ xs ≡ mode_line q ++ ys → o ≡ q
 same_mode true true xs ys e = refl
 same_mode false false xs ys e = refl
@@ -299,34 +286,18 @@ same_mode false true xs ys e = absurd (omega (arith, first_bytes 101 111 _ _ e))
 behind_first : (rest : List ℕ) → IsProofText (head ++ rest) → (p : Proof) × IsProof p × (mode_line p.opt ++ (lines answer_text p.answers ++ (lines line_text p.lines ++ codes "0\n")) ≡ rest)
 behind_first rest t = (t.proof, t.is, behind_head _ rest (sym (parts_of t.proof) ∙ t.same))
 
-head_unbroken : IsUnbroken (codes "proof 1")
+pub head_unbroken : IsUnbroken (codes "proof 1")
 head_unbroken = ((λ e. omega (arith, e)), ((λ e. omega (arith, e)), ((λ e. omega (arith, e)), ((λ e. omega (arith, e)), ((λ e. omega (arith, e)), ((λ e. omega (arith, e)), ((λ e. omega (arith, e)), tt)))))))
 
-pub no_head : (text : List ℕ) → ((rest : List ℕ) → head ++ rest ≡ text → ⊥) → IsFirstFault text 1
-no_head text none = record {
-  before = 0;
-  numbered = refl;
-  front = [];
-  rest = text;
-  parted = refl;
-  lines_before = record { parts = []; counted = refl; unbroken = tt; same = refl };
-  begins = any_proof;
-  with_it = λ bytes after u same b.
-      let p = parts_of b.whole.proof in
-      let h = first_line (codes "proof 1") bytes _ b.rest head_unbroken u (sym p ∙ b.whole.same ∙ behind_front [] bytes b.rest) in
-      none after (ap (λ (t : List ℕ). t ++ 10 ∷ after) h.0 ∙ same);
-  whole = λ t. none _ (sym (parts_of t.proof) ∙ t.same);
-}
-
-abbrev mode_word : Bool → List ℕ
+abbrev pub mode_word : Bool → List ℕ
 mode_word true = codes "opt"
 mode_word false = codes "enum"
 
-word_unbroken : (o : Bool) → IsUnbroken (mode_word o)
+pub word_unbroken : (o : Bool) → IsUnbroken (mode_word o)
 word_unbroken true = ((λ e. omega (arith, e)), ((λ e. omega (arith, e)), ((λ e. omega (arith, e)), tt)))
 word_unbroken false = ((λ e. omega (arith, e)), ((λ e. omega (arith, e)), ((λ e. omega (arith, e)), ((λ e. omega (arith, e)), tt))))
 
-mode_break : (o : Bool) (xs : List ℕ) → mode_line o ++ xs ≡ mode_word o ++ 10 ∷ xs
+pub mode_break : (o : Bool) (xs : List ℕ) → mode_line o ++ xs ≡ mode_word o ++ 10 ∷ xs
 mode_break true xs = refl
 mode_break false xs = refl
 
@@ -353,7 +324,7 @@ two_lines : (o : Bool) → IsLines 2 (front_of (proof_of o [] []))
 two_lines true = record { parts = codes "proof 1" ∷ codes "opt" ∷ []; counted = refl; unbroken = (head_unbroken, (word_unbroken true, tt)); same = refl }
 two_lines false = record { parts = codes "proof 1" ∷ codes "enum" ∷ []; counted = refl; unbroken = (head_unbroken, (word_unbroken false, tt)); same = refl }
 
-start_regroup : (h m rest : List ℕ) → ((((h ++ m) ++ []) ++ []) ++ rest) ≡ h ++ (m ++ rest)
+pub start_regroup : (h m rest : List ℕ) → ((((h ++ m) ++ []) ++ []) ++ rest) ≡ h ++ (m ++ rest)
 start_regroup h m rest = simp (append_assoc, append-nil)
 
 pub starts : (text body rest : List ℕ) (opt : Bool) → head ++ body ≡ text → mode_line opt ++ rest ≡ body → IsWalked text 2 (proof_of opt [] []) rest
@@ -365,23 +336,3 @@ starts text body rest opt e m = record {
       let p = behind_first (mode_line opt ++ more) (proof_text _ _ (start_regroup head (mode_line opt) more) t) in
       record { more_answers = p.0.answers; more_lines = p.0.lines; are_sets = p.1.answers; are_lines = p.1.lines; in_order = λ lt. absurd (omega (arith, lt)); same = behind_mode p.0.opt opt _ more p.2 };
 }
-
-pub no_mode_line : (text : List ℕ) → ((rest : List ℕ) → mode_line false ++ rest ≡ text → ⊥) → ((rest : List ℕ) → mode_line true ++ rest ≡ text → ⊥) → (o : Bool) (rest : List ℕ) → mode_line o ++ rest ≡ text → ⊥
-no_mode_line text a b true rest e = b rest e
-no_mode_line text a b false rest e = a rest e
-
-pub unbroken_end : (rest bytes behind : List ℕ) → IsCut 10 rest bytes behind → ((more : List ℕ) → 10 ∷ more ≡ behind → ⊥) → IsUnbroken rest
-unbroken_end rest bytes [] cut none = subst IsUnbroken (sym (append-nil bytes) ∙ cut.whole) cut.none
-unbroken_end rest bytes (b ∷ behind) cut none = absurd (none behind (ap (λ x. x ∷ behind) (sym cut.at)))
-
-pub line_and_rest : (rest bytes behind more : List ℕ) → IsCut 10 rest bytes behind → 10 ∷ more ≡ behind → bytes ++ 10 ∷ more ≡ rest
-line_and_rest rest bytes behind more cut e = ap (λ (t : List ℕ). bytes ++ t) e ∙ cut.whole
-
-pub lines_left : (count : ℕ) (rest bytes more : List ℕ) → bytes ++ 10 ∷ more ≡ rest → length more < length rest
-lines_left count rest bytes more e = omega (arith, ap length e, length-append bytes (10 ∷ more))
-
-pub start_short : (text body rest : List ℕ) (opt : Bool) → head ++ body ≡ text → mode_line opt ++ rest ≡ body → length text ≤ most_bytes → 2 + length rest ≤ most_bytes
-start_short text body rest opt e m le = omega (arith, ap length e, ap length m, length-append head body, length-append (mode_line opt) rest, le)
-
-pub next_short : (count : ℕ) (rest bytes more : List ℕ) → bytes ++ 10 ∷ more ≡ rest → count + length rest ≤ most_bytes → (count + 1) + length more ≤ most_bytes
-next_short count rest bytes more e le = omega (arith, lines_left count rest bytes more e, le)

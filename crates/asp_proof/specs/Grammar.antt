@@ -12,7 +12,7 @@ use Rattle.asp_proof.specs.Texts.{text_of}
 abbrev pub most : ℕ
 most = 2147483647
 
--- the greatest length of a text
+-- the greatest length of a line
 abbrev pub most_bytes : ℕ
 most_bytes = 268435456
 

@@ -1,5 +1,5 @@
 pub mod Texts
 pub mod Grammar
 pub mod Fields
-pub mod Outcome
 pub mod Walk
+pub mod Reading

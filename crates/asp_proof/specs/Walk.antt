@@ -25,6 +25,21 @@ pub record Ends (entries : List Line) (rest : List ℕ) : Type 0 where
   pub in_order : 0 < length entries → more_answers ≡ []
   pub same : lines answer_text more_answers ++ (lines line_text more_lines ++ codes "0\n") ≡ rest
 
+-- so many lines are the front of a proof's text, and what a proof's text has after them is what may come next
+pub record IsBegun (count : ℕ) (p : Proof) : Type 0 where
+  pub is : IsProof p
+  pub counted : IsLines count (front_of p)
+  pub only : (more : List ℕ) → IsProofText (front_of p ++ more) → Ends p.lines more
+
+-- one proof begins as another does
+pub record IsStart (q p : Proof) : Type 0 where
+  pub mode : q.opt ≡ p.opt
+  pub more_answers : List Atoms
+  pub answers : p.answers ≡ q.answers ++ more_answers
+  pub more_lines : List Line
+  pub lines : p.lines ≡ q.lines ++ more_lines
+  pub all_answers : 0 < length q.lines → more_answers ≡ []
+
 -- so many lines were taken, of which this proof is made, and the rest of the text wasn't looked at
 pub record IsWalked (text : List ℕ) (count : ℕ) (p : Proof) (rest : List ℕ) : Type 0 where
   pub is : IsProof p

@@ -11,10 +11,10 @@ pub enum ProofError {
     Memory,
     /// The source failed.
     ReadFault,
-    /// The text is longer than a text may be.
+    /// A line is longer than a line may be.
     TooLong,
     /// The first line with which no proof's text begins, counted from 1.
-    Refused(u32),
+    Refused(usize),
 }
 
 impl From<AllocError> for ProofError {

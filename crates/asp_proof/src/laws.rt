@@ -1,17 +1,18 @@
 //! Laws of texts of proofs. Each function's contract is a law, and its body is empty.
-ghost use Rattle.std.specs.Prelude.{◌≡◌, ◌≤◌, length, Result};
+ghost use Rattle.std.specs.Prelude.{◌≡◌, ℕ, List, ◌++◌, codes};
 ghost use Rattle.asp_proof.specs.declared.proof.Proof.{Proof};
-ghost use Rattle.asp_proof.specs.declared.error.ProofError.{ProofError};
 ghost use Rattle.asp_proof.specs.Texts.{text_of};
-ghost use Rattle.asp_proof.specs.Grammar.{IsProof, most_bytes};
-ghost use Rattle.asp_proof.specs.Outcome.{IsAnswerOn, IsItself};
+ghost use Rattle.asp_proof.specs.Grammar.{IsProof, IsFirstFault};
+ghost use Rattle.asp_proof.specs.Walk.{IsStart, front_of};
 
 /// No two proofs have one text.
 pub fn one_text_is_one_proofs()
     ensures { (p q : Proof) → IsProof p → IsProof q → text_of p ≡ text_of q → p ≡ q }
 {}
 
-/// A proof that was written is read as itself, unless memory runs out or a read fails.
+/// A proof that was written is read as itself, line by line: its text has no fault, and the lines that its text begins with are its own.
 pub fn written_proofs_are_read_as_themselves()
-    ensures { (p : Proof) → IsProof p → length (text_of p) ≤ most_bytes → (read : Result Proof ProofError) → IsAnswerOn (text_of p) read → IsItself p read }
+    ensures faultless { (p : Proof) → IsProof p → (number : ℕ) → IsFirstFault (text_of p) number → ⊥ }
+    ensures whole { (p q : Proof) (after : List ℕ) → IsProof p → IsProof q → front_of q ++ (codes "0\n" ++ after) ≡ text_of p → q ≡ p }
+    ensures own { (p q : Proof) (rest : List ℕ) → IsProof p → IsProof q → front_of q ++ rest ≡ text_of p → IsStart q p }
 {}

@@ -4,13 +4,11 @@
 mod error;
 mod fields;
 pub mod laws;
-mod lines;
+pub mod lines;
 pub mod proof;
-mod read;
-mod source;
+mod reader;
 mod write;
 
 pub use error::ProofError;
-pub use read::parse;
-pub use source::{read_all, read_proof};
+pub use reader::LineReader;
 pub use write::write_proof;

@@ -1,7 +1,7 @@
 //! A line of a proof, without its line feed.
-ghost use Rattle.std.specs.Prelude.{◌∷◌, IfOk, MatchOption};
+ghost use Rattle.std.specs.Prelude.{◌≡◌, ◌∷◌, Bool, IfOk, MatchBool, MatchOption, codes};
 ghost use Rattle.asp_proof.specs.Grammar.{IsSet, IsNogood, IsLoop, IsLine};
-ghost use Rattle.asp_proof.specs.Texts.{atoms_fields, literals_fields, loop_fields, answer_text, line_text};
+ghost use Rattle.asp_proof.specs.Texts.{atoms_fields, literals_fields, loop_fields, answer_text, line_text, mode_line, line as with_feed};
 ghost use Rattle.asp_proof.specs.Fields.{IsNone, IsWhole};
 
 use crate::fields::{after, atoms, literals};
@@ -9,6 +9,33 @@ use crate::proof::Line;
 use asp_model::interp::Interp;
 use asp_model::seq::Seq;
 use std::alloc::{AllocError, Global};
+
+/// Whether a proof begins with this line.
+pub fn is_head(line: &[u8]) -> bool
+    ensures { MatchBool result (line.now ≡ codes "proof 1") (line.now ≡ codes "proof 1" → ⊥) }
+{
+    line == b"proof 1".as_slice()
+}
+
+/// Whether a proof ends with this line.
+pub fn is_last(line: &[u8]) -> bool
+    ensures { MatchBool result (line.now ≡ codes "0") (line.now ≡ codes "0" → ⊥) }
+{
+    line == b"0".as_slice()
+}
+
+/// Whether one answer that none betters is sought, by the line that says so.
+pub fn mode(line: &[u8]) -> Option<bool>
+    ensures { MatchOption result ((opt : Bool) → mode_line opt ≡ with_feed line.now → ⊥) (λ opt. mode_line opt ≡ with_feed line.now) }
+{
+    if line == b"enum".as_slice() {
+        return Some(false);
+    }
+    if line == b"opt".as_slice() {
+        return Some(true);
+    }
+    None
+}
 
 // The literals that are all that a line has.
 fn nogood(alloc: Global, line: &[u8]) -> Result<Option<Seq<i32>>, AllocError>

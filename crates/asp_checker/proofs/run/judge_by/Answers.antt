@@ -1,11 +1,19 @@
-use Rattle.std.proofs.Common.{subst}
-use Rattle.std.specs.Prelude.{IfOk}
-use Rattle.asp_checker.specs.Judging.{IsJudged}
-use Rattle.asp_checker.proofs.RunLaws.{ends_shown}
+use Rattle.std.proofs.Common.{sym, subst}
+use Rattle.std.proofs.lemmas.Result.{err_from_is_err_and}
+use Rattle.asp_model.specs.Sound.{IsSound}
+use Rattle.asp_model.specs.declared.program.Program.{Program}
+use Rattle.asp_proof.specs.Reading.{Comes, held}
+use Rattle.asp_checker.specs.Streams.{Judges}
+use Rattle.asp_checker.proofs.StreamLaws.{no_memory}
 use Rattle.asp_checker.proofs.run.judge_by.Goals as goal
 
-pub returns-clause-judged : goal.returns-clause-judged
-returns-clause-judged c = subst (λ p. IfOk c.judge-judgement.result (IsJudged p c.args.proof.now)) c.in_ok-compiled.ensures c.judge-judgement.ensures
+pub judge-judged-requires-clause-sound : goal.judge-judged-requires-clause-sound
+judge-judged-requires-clause-sound g c = subst IsSound (sym c.in_ok-compiled.ensures) c.requires.sound
 
-pub returns-clause-shows : goal.returns-clause-shows
-returns-clause-shows c = ends_shown c.args.program c.in_ok-compiled.compiled c.args.proof.now c.judge-judgement.result c.in_ok-compiled.ensures c.requires c.judge-judgement.ensures
+pub returns-clause-says : goal.returns-clause-says
+returns-clause-says g c = subst (λ (p : Program). Comes (g.S.Source.left c.args.source.now) (held c.args.reader.now) (λ text. Judges p text c.judge-judged.result)) c.in_ok-compiled.ensures c.judge-judged.ensures.says
+
+pub returns-in_err-compiled-clause-says : goal.returns-in_err-compiled-clause-says
+returns-in_err-compiled-clause-says g c =
+    let p = err_from_is_err_and c.from_residual.result c.from_residual.ensures.1 in
+    rw (p.1, p.2) (no_memory c.args.program (g.S.Source.left c.args.source.now) (held c.args.reader.now))

@@ -2,4 +2,4 @@ use Rattle.asp_faults.proofs.WriteLaws.{noted}
 use Rattle.asp_checkrun.proofs.notes.note.Goals as goal
 
 pub returns : goal.returns
-returns g c = noted _ _ _ _ _ _ c.write_note.ensures
+returns g c = noted _ _ _ _ _ _ c.write_status.ensures

@@ -13,4 +13,4 @@ pub returns-in-NoProof : goal.returns-in-NoProof
 returns-in-NoProof g c = rw c.in-NoProof.is c.write-in-NoProof.ensures
 
 pub returns-in-WriteFault : goal.returns-in-WriteFault
-returns-in-WriteFault g c = rw c.in-WriteFault.is c.write-in-WriteFault.ensures
+returns-in-WriteFault g c = rw c.in-WriteFault.is c.write_failed.ensures
