@@ -7,13 +7,13 @@ use Rattle.asp_cli.specs.declared.Form.TheVariants.{Text}
 use Rattle.asp_cli.specs.declared.Format.TheVariants.{Aspif, Smodels}
 use Rattle.asp_cli.specs.declared.LogKind.TheVariants.{Blocks, Row}
 use Rattle.asp_cli.specs.declared.Options.{Options}
-use Rattle.asp_cli.specs.declared.names.Name.TheVariants.{Workers, Log, Mode, Format, Budget, Models, OptAll, Output, Quiet, Names, Proof, Make, Stats, Progress, Split}
-use Rattle.asp_cli.specs.Given.{bad_value, help, misuse, missing, no_words, options, rivals, twice, unexpected, unknown, version, words_give}
+use Rattle.asp_cli.specs.declared.names.Name.TheVariants.{Workers, Log, Mode, Format, Budget, Models, OptAll, Output, Quiet, Names, Proof, Make, Queries, Stats, Progress, Split}
+use Rattle.asp_cli.specs.Given.{bad_value, help, misuse, missing, no_words, options, rivals, twice, unbuilt, unexpected, unknown, version, words_give}
 use Rattle.asp_cli.specs.Hints.{counterpart, nearest}
 
 -- what is asked for where no option is given
 abbrev standard : Options
-standard = record { workers = 1; log = Blocks; mode = None; format = Aspif; budget = 9223372036854775807; models = 0; all_optima = false; form = Text; quiet = false; names = false; make = None; stats = false; progress = false; proof = false; split = None }
+standard = record { workers = 1; log = Blocks; mode = None; format = Aspif; budget = 9223372036854775807; models = 0; all_optima = false; form = Text; quiet = false; names = false; make = None; queries = false; core_min = false; stats = false; progress = false; proof = false; split = None }
 
 empty_line : words_give [] ≡ misuse no_words
 empty_line = refl
@@ -290,7 +290,7 @@ parts_twice = refl
 first_from_the_left : words_give (codes "aspenum" ∷ codes "--stats" ∷ codes "--budget=x" ∷ codes "--verson" ∷ []) ≡ misuse (bad_value Budget (codes "x"))
 first_from_the_left = refl
 
-all_options : words_give (codes "aspenum" ∷ codes "--make=2000" ∷ codes "--stats" ∷ codes "--mode=enum" ∷ codes "--budget=7" ∷ codes "--models=3" ∷ codes "--workers=4" ∷ codes "--format=smodels" ∷ []) ≡ options (record { workers = 4; log = Blocks; mode = Some Enum; format = Smodels; budget = 7; models = 3; all_optima = false; form = Text; quiet = false; names = false; make = Some 2000; stats = true; progress = false; proof = false; split = None })
+all_options : words_give (codes "aspenum" ∷ codes "--make=2000" ∷ codes "--stats" ∷ codes "--mode=enum" ∷ codes "--budget=7" ∷ codes "--models=3" ∷ codes "--workers=4" ∷ codes "--format=smodels" ∷ []) ≡ options (record { workers = 4; log = Blocks; mode = Some Enum; format = Smodels; budget = 7; models = 3; all_optima = false; form = Text; quiet = false; names = false; make = Some 2000; queries = false; core_min = false; stats = true; progress = false; proof = false; split = None })
 all_options = refl
 
 -- ---- the log
@@ -360,3 +360,50 @@ near_none = refl
 
 of_clasp : counterpart (codes "--time-limit") ≡ Some (codes "--budget counts conflicts")
 of_clasp = refl
+
+-- ---- queries
+
+queries : words_give (codes "aspenum" ∷ codes "--queries" ∷ []) ≡ misuse (unbuilt Queries)
+queries = refl
+
+queries_twice : words_give (codes "aspenum" ∷ codes "--queries" ∷ codes "--queries" ∷ []) ≡ misuse (twice Queries)
+queries_twice = refl
+
+queries_with_a_value : words_give (codes "aspenum" ∷ codes "--queries=1" ∷ []) ≡ misuse (bad_value Queries (codes "1"))
+queries_with_a_value = refl
+
+queries_of_a_proof : words_give (codes "aspenum" ∷ codes "--proof" ∷ codes "--queries" ∷ []) ≡ misuse (rivals Proof Queries)
+queries_of_a_proof = refl
+
+a_proof_of_queries : words_give (codes "aspenum" ∷ codes "--queries" ∷ codes "--proof" ∷ []) ≡ misuse (rivals Queries Proof)
+a_proof_of_queries = refl
+
+all_optima_of_queries : words_give (codes "aspenum" ∷ codes "--queries" ∷ codes "--opt-all" ∷ []) ≡ misuse (rivals Queries OptAll)
+all_optima_of_queries = refl
+
+queries_with_a_limit : words_give (codes "aspenum" ∷ codes "--queries" ∷ codes "--models=3" ∷ []) ≡ misuse (rivals Queries Models)
+queries_with_a_limit = refl
+
+a_limit_of_queries : words_give (codes "aspenum" ∷ codes "-n" ∷ codes "3" ∷ codes "--queries" ∷ []) ≡ misuse (rivals Models Queries)
+a_limit_of_queries = refl
+
+queries_without_a_limit : words_give (codes "aspenum" ∷ codes "--models=0" ∷ codes "--queries" ∷ []) ≡ misuse (unbuilt Queries)
+queries_without_a_limit = refl
+
+queries_of_consequences : words_give (codes "aspenum" ∷ codes "--queries" ∷ codes "-e" ∷ codes "brave" ∷ []) ≡ misuse (rivals Queries Mode)
+queries_of_consequences = refl
+
+queries_of_smodels : words_give (codes "aspenum" ∷ codes "--format=smodels" ∷ codes "--queries" ∷ []) ≡ misuse (rivals Format Queries)
+queries_of_smodels = refl
+
+queries_of_aspif : words_give (codes "aspenum" ∷ codes "--queries" ∷ codes "--format=aspif" ∷ []) ≡ misuse (unbuilt Queries)
+queries_of_aspif = refl
+
+queries_of_a_ring : words_give (codes "aspenum" ∷ codes "--queries" ∷ codes "--make=5" ∷ []) ≡ misuse (rivals Queries Make)
+queries_of_a_ring = refl
+
+queries_of_parts : words_give (codes "aspenum" ∷ codes "--queries" ∷ codes "--split=2" ∷ []) ≡ misuse (rivals Queries Split)
+queries_of_parts = refl
+
+minimal_cores : words_give (codes "aspenum" ∷ codes "--core-min" ∷ []) ≡ options (record standard { core_min = true })
+minimal_cores = refl

@@ -1,15 +1,16 @@
 -- The options that were found so far.
-use Rattle.std.specs.Prelude.{◌≡◌, ℕ, Bool, true, false, ◌&&◌, List, Option, Some, None, is_some, option_map, unwrap_or, if◌then◌else◌}
+use Rattle.std.specs.Prelude.{◌≡◌, ℕ, nat_lt, Bool, true, false, List, [], ◌∷◌, Option, Some, None, is_some, option_map, unwrap_or, if◌then◌else◌}
 use Rattle.asp_model.specs.declared.results.Mode as results
 use Rattle.asp_model.specs.Asked.{reasoning_of}
 use Rattle.asp_cli.specs.declared.found.Found.{Found}
 use Rattle.asp_cli.specs.declared.names.Name.{Name}
-use Rattle.asp_cli.specs.declared.names.Name.TheVariants.{Mode, Format, Models, OptAll, Workers, Log, Budget, Output, Quiet, Names, Proof, Split, Make, Stats, Progress}
+use Rattle.asp_cli.specs.declared.names.Name.TheVariants.{Mode, Format, Models, OptAll, Workers, Log, Budget, Output, Quiet, Names, Proof, Split, Make, Queries, CoreMin, Stats, Progress}
 use Rattle.asp_cli.specs.declared.walk.Awaits.TheVariants as awaits
 use Rattle.asp_cli.specs.declared.walk.State.{State}
 use Rattle.asp_cli.specs.declared.Options.{Options}
 use Rattle.asp_cli.specs.declared.Form.TheVariants.{Text}
-use Rattle.asp_cli.specs.declared.Format.TheVariants.{Aspif}
+use Rattle.asp_cli.specs.declared.Format.{Format as FormatOf}
+use Rattle.asp_cli.specs.declared.Format.TheVariants.{Aspif, Smodels}
 use Rattle.asp_cli.specs.declared.LogKind.TheVariants.{Blocks}
 use Rattle.asp_cli.specs.Values.{form_named, format_named, log_named, mode_named, number_within}
 
@@ -26,6 +27,8 @@ has f Output = is_some f.form
 has f Quiet = f.quiet
 has f Names = f.names
 has f Make = is_some f.make
+has f Queries = f.queries
+has f CoreMin = f.core_min
 has f Stats = f.stats
 has f Progress = f.progress
 has f Proof = f.proof
@@ -37,52 +40,70 @@ seeks_consequences None = false
 seeks_consequences (Some None) = false
 seeks_consequences (Some (Some m)) = is_some (reasoning_of m)
 
--- whether a proof and consequences are
-abbrev pub clashes : Found → Bool
-clashes f = f.proof && seeks_consequences f.mode
+-- whether answers are to be limited
+abbrev pub is_limited : Option ℕ → Bool
+is_limited None = false
+is_limited (Some n) = nat_lt 0 n
 
--- the first option that was given of those that say how to solve
-abbrev pub solving : Found → Option Name
-solving f = if is_some f.mode then Some Mode
-    else (if is_some f.models then Some Models
-    else (if f.all_optima then Some OptAll
-    else (if is_some f.workers then Some Workers
-    else (if is_some f.log then Some Log
-    else (if is_some f.budget then Some Budget
-    else (if is_some f.form then Some Output
-    else (if f.quiet then Some Quiet
-    else (if f.names then Some Names
-    else (if f.proof then Some Proof
-    else (if f.stats then Some Stats
-    else (if f.progress then Some Progress else None)))))))))))
+-- whether a smodels text is to be read
+abbrev pub is_smodels : Option FormatOf → Bool
+is_smodels None = false
+is_smodels (Some Aspif) = false
+is_smodels (Some Smodels) = true
 
--- `--split`, if it was given
-abbrev pub dividing : Found → Option Name
-dividing f = if is_some f.split then Some Split else None
+-- ---- which options exclude each other
+-- The options that can't stand beside this one, whatever their values. A proof isn't written of parts, nor of all optima, nor of several
+-- queries, and it has the answers that `--quiet` leaves out. Proofs, parts and rings are written as text. Where the program is divided
+-- nothing is solved: only `--make` and `--format` have a meaning there.
+abbrev pub rivals_of : Name → List Name
+rivals_of Proof = Split ∷ OptAll ∷ Quiet ∷ Output ∷ Queries ∷ []
+rivals_of OptAll = Proof ∷ Split ∷ Queries ∷ []
+rivals_of Quiet = Proof ∷ Split ∷ []
+rivals_of Output = Make ∷ Proof ∷ Split ∷ []
+rivals_of Make = Output ∷ []
+rivals_of Queries = Proof ∷ OptAll ∷ []
+rivals_of Split = Mode ∷ Models ∷ OptAll ∷ Workers ∷ Log ∷ Budget ∷ Output ∷ Quiet ∷ Names ∷ Proof ∷ Queries ∷ CoreMin ∷ Stats ∷ Progress ∷ []
+rivals_of Format = []
+rivals_of _ = Split ∷ []
 
-abbrev pub proving_or_dividing : Found → Option Name
-proving_or_dividing f = if f.proof then Some Proof else dividing f
+-- the first of these options that was given
+abbrev pub first_given : Found → List Name → Option Name
+first_given f [] = None
+first_given f (n ∷ names) = if has f n then Some n else first_given f names
 
--- what writes no results as they are of a program that is read
-abbrev pub making : Found → Option Name
-making f = if is_some f.make then Some Make else proving_or_dividing f
+abbrev pub only_if : Bool → Name → Option Name
+only_if b n = if b then Some n else None
 
--- `--output`, if it was given
-abbrev pub formed : Found → Option Name
-formed f = if is_some f.form then Some Output else None
+-- Which given option with its value can't stand beside a query: a series has no ring, no parts, no limit, no smodels text and no
+-- consequences.
+abbrev pub unasked : Found → Option Name
+unasked f = if is_some f.make then Some Make
+    else (if is_some f.split then Some Split
+    else (if is_limited f.models then Some Models
+    else (if is_smodels f.format then Some Format
+    else only_if (seeks_consequences f.mode) Mode)))
 
--- Which given option can't stand beside this one. A proof isn't written of parts, nor of all optima, nor of consequences, and it has
--- the answers that `--quiet` leaves out. Proofs, parts and rings are written as text. Where the program is divided nothing is solved: only `--make` has a meaning there.
+-- which given option excludes this one by its value
+abbrev pub barred_by : Found → Name → Option Name
+barred_by f Proof = only_if (seeks_consequences f.mode) Mode
+barred_by f Queries = unasked f
+barred_by f _ = None
+
+abbrev pub or_else : {A : Type 0} → Option A → Option A → Option A
+or_else None other = other
+or_else (Some x) other = Some x
+
+-- which given option can't stand beside this one
 abbrev pub rival_of : Found → Name → Option Name
-rival_of f Proof = if is_some f.split then Some Split else (if f.all_optima then Some OptAll else (if f.quiet then Some Quiet
-    else (if seeks_consequences f.mode then Some Mode else formed f)))
-rival_of f OptAll = proving_or_dividing f
-rival_of f Quiet = proving_or_dividing f
-rival_of f Output = making f
-rival_of f Split = solving f
-rival_of f Make = formed f
-rival_of f Format = None
-rival_of f _ = dividing f
+rival_of f n = or_else (first_given f (rivals_of n)) (barred_by f n)
+
+-- an option that was given, and one that excludes it by its value
+abbrev pub clash_with : Found → Name → Option (Name × Name)
+clash_with f n = if has f n then option_map (λ m. (n, m)) (barred_by f n) else None
+
+-- two given options, of which the second excludes the first by its value
+abbrev pub clash_of : Found → Option (Name × Name)
+clash_of f = or_else (clash_with f Proof) (clash_with f Queries)
 
 -- With a proof neither all optima nor consequences are asked for.
 abbrev pub AreApart : Found → Type 0
@@ -90,6 +111,16 @@ AreApart f = f.proof ≡ true → (f.all_optima ≡ false) × (seeks_consequence
 
 abbrev pub IsApart : Options → Type 0
 IsApart o = o.proof ≡ true → (o.all_optima ≡ false) × (seeks_consequences (Some o.mode) ≡ false)
+
+-- With queries neither a proof nor all optima are asked for; nor a ring, parts, a limit, a smodels text or consequences.
+abbrev pub IsAlone : Found → Type 0
+IsAlone f = f.queries ≡ true → (f.proof ≡ false) × (f.all_optima ≡ false)
+
+abbrev pub AreAsking : Found → Type 0
+AreAsking f = IsAlone f × (f.queries ≡ true → unasked f ≡ None)
+
+abbrev pub IsAsking : Options → Type 0
+IsAsking o = o.queries ≡ true → (o.proof ≡ false) × (o.all_optima ≡ false) × (o.make ≡ None) × (o.split ≡ None) × (o.models ≡ 0) × (o.format ≡ Aspif) × (seeks_consequences (Some o.mode) ≡ false)
 
 -- what was found with an option's value; none where the option doesn't take it
 abbrev pub found_with : Found → Name → List ℕ → Option Found
@@ -104,6 +135,8 @@ found_with f Make t = option_map (λ n. record f { make = Some n }) (number_with
 found_with f OptAll t = None
 found_with f Quiet t = None
 found_with f Names t = None
+found_with f Queries t = None
+found_with f CoreMin t = None
 found_with f Stats t = None
 found_with f Progress t = None
 found_with f Proof t = None
@@ -123,6 +156,8 @@ options_of f = record {
   quiet = f.quiet;
   names = f.names;
   make = f.make;
+  queries = f.queries;
+  core_min = f.core_min;
   stats = f.stats;
   progress = f.progress;
   proof = f.proof;
@@ -131,4 +166,4 @@ options_of f = record {
 
 -- nothing was found yet
 abbrev pub start : State
-start = record { found = record { workers = None; log = None; mode = None; format = None; budget = None; models = None; all_optima = false; form = None; quiet = false; names = false; make = None; stats = false; progress = false; proof = false; split = None }; awaits = awaits.Option }
+start = record { found = record { workers = None; log = None; mode = None; format = None; budget = None; models = None; all_optima = false; form = None; quiet = false; names = false; make = None; queries = false; core_min = false; stats = false; progress = false; proof = false; split = None }; awaits = awaits.Option }

@@ -4,7 +4,7 @@ use Rattle.std.specs.List.{after_first, before_first, position_or_len}
 use Rattle.std.specs.Str.{bytes_eq}
 use Rattle.asp_cli.specs.declared.found.Found.{Found}
 use Rattle.asp_cli.specs.declared.names.Name.{Name}
-use Rattle.asp_cli.specs.declared.names.Name.TheVariants.{Mode, OptAll, Quiet, Names, Stats, Progress, Proof}
+use Rattle.asp_cli.specs.declared.names.Name.TheVariants.{OptAll, Quiet, Names, Queries, CoreMin, Stats, Progress, Proof}
 use Rattle.asp_cli.specs.declared.walk.Awaits.TheVariants as awaits
 use Rattle.asp_cli.specs.declared.walk.Awaits.{Awaits}
 use Rattle.asp_cli.specs.declared.walk.State.{State}
@@ -12,8 +12,8 @@ use Rattle.asp_cli.specs.declared.Options.{Options}
 use Rattle.asp_cli.specs.declared.CliError.{CliError}
 use Rattle.asp_cli.specs.declared.CliError.TheVariants.{Usage, Help, Version}
 use Rattle.asp_cli.specs.declared.WordFault.{WordFault}
-use Rattle.asp_cli.specs.declared.WordFault.TheVariants.{NoWords, Unknown, Unexpected, Twice, Missing, Value, Rivals}
-use Rattle.asp_cli.specs.Found.{clashes, found_with, has, options_of, rival_of, start}
+use Rattle.asp_cli.specs.declared.WordFault.TheVariants.{NoWords, Unknown, Unexpected, Twice, Missing, Value, Rivals, Unbuilt}
+use Rattle.asp_cli.specs.Found.{clash_of, found_with, has, options_of, rival_of, start}
 use Rattle.asp_cli.specs.Names.{meant, named}
 
 abbrev pub Text : Type 0
@@ -29,6 +29,8 @@ pub data Misuse : Type 0 where
   bad_value : Name → Text → Misuse
   -- the first is there, and the second can't stand beside it
   rivals : Name → Name → Misuse
+  -- it isn't built yet
+  unbuilt : Name → Misuse
 
 -- what a fault says, by the words themselves
 abbrev pub fault_seen : WordFault → Misuse
@@ -39,6 +41,7 @@ fault_seen (Twice n) = twice n
 fault_seen (Missing n) = missing n
 fault_seen (Value n v) = bad_value n v.now
 fault_seen (Rivals m n) = rivals m n
+fault_seen (Unbuilt n) = unbuilt n
 
 pub data Given : Type 0 where
   help : Given
@@ -95,9 +98,14 @@ fresh_by f name w (Some n) = if has f n then Err (misuse (twice n)) else beside 
 abbrev pub fresh : Found → Text → Text → Result Name Given
 fresh f name w = fresh_by f name w (named name)
 
+-- what was found, unless two options exclude each other by the value of one
+abbrev pub told_after : Found → Option (Name × Name) → Result State Given
+told_after f None = Ok (record { found = f; awaits = awaits.Option })
+told_after f (Some pair) = Err (misuse (rivals pair.0 pair.1))
+
 abbrev pub told_by : Name → Text → Option Found → Result State Given
 told_by n v None = Err (misuse (bad_value n v))
-told_by n v (Some f) = if clashes f then Err (misuse (rivals Proof Mode)) else Ok (record { found = f; awaits = awaits.Option })
+told_by n v (Some f) = told_after f (clash_of f)
 
 -- an option's value
 abbrev pub told_value : Found → Name → Text → Result State Given
@@ -111,6 +119,8 @@ abbrev pub told_name : Found → Name → State
 told_name f OptAll = record { found = record f { all_optima = true }; awaits = awaits.Option }
 told_name f Quiet = record { found = record f { quiet = true }; awaits = awaits.Option }
 told_name f Names = record { found = record f { names = true }; awaits = awaits.Option }
+told_name f Queries = record { found = record f { queries = true }; awaits = awaits.Option }
+told_name f CoreMin = record { found = record f { core_min = true }; awaits = awaits.Option }
 told_name f Stats = record { found = record f { stats = true }; awaits = awaits.Option }
 told_name f Progress = record { found = record f { progress = true }; awaits = awaits.Option }
 told_name f Proof = record { found = record f { proof = true }; awaits = awaits.Option }
@@ -151,6 +161,10 @@ abbrev pub walked : State → List Text → Result Options Given
 walked s [] = ended s
 walked s (w ∷ ws) = if_ok (after s w) (λ t. walked t ws)
 
+-- the options, if all of them are built
+abbrev pub built : Options → Result Options Given
+built o = if o.queries then Err (misuse (unbuilt Queries)) else Ok o
+
 abbrev pub given_by : Result Options Given → Given
 given_by (Ok o) = options o
 given_by (Err g) = g
@@ -158,7 +172,7 @@ given_by (Err g) = g
 -- what the words give, the program's name first
 abbrev pub words_give : List Text → Given
 words_give [] = misuse no_words
-words_give (name ∷ rest) = given_by (walked start rest)
+words_give (name ∷ rest) = given_by (if_ok (walked start rest) built)
 
 -- the same of an answer
 abbrev pub given_of : Result Options CliError → Given

@@ -2,7 +2,7 @@
 use Rattle.std.specs.Prelude.{List, ℕ, Option, Some, None, codes, if◌then◌else◌}
 use Rattle.std.specs.Str.{bytes_eq}
 use Rattle.asp_cli.specs.declared.names.Name.{Name}
-use Rattle.asp_cli.specs.declared.names.Name.TheVariants.{Mode, Format, Models, OptAll, Workers, Log, Budget, Output, Quiet, Names, Proof, Split, Make, Stats, Progress}
+use Rattle.asp_cli.specs.declared.names.Name.TheVariants.{Mode, Format, Models, OptAll, Workers, Log, Budget, Output, Quiet, Names, Proof, Split, Make, Queries, CoreMin, Stats, Progress}
 
 abbrev pub text_of : Name → List ℕ
 text_of Mode = codes "--mode"
@@ -18,6 +18,8 @@ text_of Names = codes "--names"
 text_of Proof = codes "--proof"
 text_of Split = codes "--split"
 text_of Make = codes "--make"
+text_of Queries = codes "--queries"
+text_of CoreMin = codes "--core-min"
 text_of Stats = codes "--stats"
 text_of Progress = codes "--progress"
 
@@ -35,6 +37,8 @@ takes_of Names = codes "no value"
 takes_of Proof = codes "no value"
 takes_of Split = codes "a number from 1 to 100000"
 takes_of Make = codes "a number from 3 to 2000"
+takes_of Queries = codes "no value"
+takes_of CoreMin = codes "no value"
 takes_of Stats = codes "no value"
 takes_of Progress = codes "no value"
 
@@ -53,8 +57,10 @@ named t = if bytes_eq t (codes "--mode") then Some Mode
     else (if bytes_eq t (codes "--proof") then Some Proof
     else (if bytes_eq t (codes "--split") then Some Split
     else (if bytes_eq t (codes "--make") then Some Make
+    else (if bytes_eq t (codes "--queries") then Some Queries
+    else (if bytes_eq t (codes "--core-min") then Some CoreMin
     else (if bytes_eq t (codes "--stats") then Some Stats
-    else (if bytes_eq t (codes "--progress") then Some Progress else None))))))))))))))
+    else (if bytes_eq t (codes "--progress") then Some Progress else None))))))))))))))))
 
 -- The word for which a word stands. The short forms have long ones, and five words of clasp's have ours; any other stands for itself.
 abbrev pub meant : List ℕ → List ℕ

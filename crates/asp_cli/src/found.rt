@@ -1,6 +1,6 @@
 //! The options that were found so far.
 ghost use Rattle.std.specs.Prelude.{◌≡◌, false, true, IfSome};
-ghost use Rattle.asp_cli.specs.Found.{AreApart, IsApart, clashes, dividing, formed, found_with, has, making, options_of, proving_or_dividing, rival_of, seeks_consequences, solving};
+ghost use Rattle.asp_cli.specs.Found.{AreApart, AreAsking, IsAlone, IsApart, IsAsking, barred_by, clash_of, clash_with, first_given, found_with, has, is_limited, is_smodels, only_if, options_of, rival_of, rivals_of, seeks_consequences, unasked};
 ghost use Rattle.asp_cli.specs.Values.{IsCrew, IsPartCount, IsRing};
 
 use crate::names::Name;
@@ -36,6 +36,10 @@ pub struct Found {
     pub names: bool,
     /// The number of the example program that is to be written.
     pub make: Option<u32>,
+    /// Whether queries follow the program.
+    pub queries: bool,
+    /// Whether least cores were asked for.
+    pub core_min: bool,
     /// Whether counts of the run were asked for.
     pub stats: bool,
     /// Whether lines while the run goes on were asked for.
@@ -62,6 +66,8 @@ pub fn has(found: &Found, name: Name) -> bool
         Name::Quiet => found.quiet,
         Name::Names => found.names,
         Name::Make => found.make.is_some(),
+        Name::Queries => found.queries,
+        Name::CoreMin => found.core_min,
         Name::Stats => found.stats,
         Name::Progress => found.progress,
         Name::Proof => found.proof,
@@ -79,83 +85,135 @@ fn seeks_consequences(mode: Option<Option<Mode>>) -> bool
     }
 }
 
-/// Whether a proof and consequences are asked for, which exclude each other.
-pub fn clashes(found: &Found) -> bool
-    ensures { result ≡ clashes found.now }
+// Whether answers are to be limited.
+fn is_limited(models: Option<u64>) -> bool
+    ensures { result ≡ is_limited models }
 {
-    found.proof && seeks_consequences(found.mode)
-}
-
-// The first option that was given of those that say how to solve.
-fn solving(found: &Found) -> Option<Name>
-    ensures { result ≡ solving found.now }
-{
-    if found.mode.is_some() {
-        Some(Name::Mode)
-    } else if found.models.is_some() {
-        Some(Name::Models)
-    } else if found.all_optima {
-        Some(Name::OptAll)
-    } else if found.workers.is_some() {
-        Some(Name::Workers)
-    } else if found.log.is_some() {
-        Some(Name::Log)
-    } else if found.budget.is_some() {
-        Some(Name::Budget)
-    } else if found.form.is_some() {
-        Some(Name::Output)
-    } else if found.quiet {
-        Some(Name::Quiet)
-    } else if found.names {
-        Some(Name::Names)
-    } else if found.proof {
-        Some(Name::Proof)
-    } else if found.stats {
-        Some(Name::Stats)
-    } else if found.progress {
-        Some(Name::Progress)
-    } else {
-        None
+    match models {
+        None => false,
+        Some(models) => models > 0,
     }
 }
 
-fn dividing(found: &Found) -> Option<Name>
-    ensures { result ≡ dividing found.now }
+// Whether a smodels text is to be read.
+fn is_smodels(format: Option<Format>) -> bool
+    ensures { result ≡ is_smodels format }
 {
-    if found.split.is_some() {
-        Some(Name::Split)
-    } else {
-        None
+    match format {
+        None | Some(Format::Aspif) => false,
+        Some(Format::Smodels) => true,
     }
 }
 
-fn proving_or_dividing(found: &Found) -> Option<Name>
-    ensures { result ≡ proving_or_dividing found.now }
+// A name, where it counts.
+fn only_if(condition: bool, name: Name) -> Option<Name>
+    ensures { result ≡ only_if condition name }
 {
-    if found.proof {
-        Some(Name::Proof)
-    } else {
-        dividing(found)
-    }
+    if condition { Some(name) } else { None }
 }
 
-fn making(found: &Found) -> Option<Name>
-    ensures { result ≡ making found.now }
+// Which given option with its value can't stand beside a query.
+fn unasked(found: &Found) -> Option<Name>
+    ensures { result ≡ unasked found.now }
 {
     if found.make.is_some() {
         Some(Name::Make)
+    } else if found.split.is_some() {
+        Some(Name::Split)
+    } else if is_limited(found.models) {
+        Some(Name::Models)
+    } else if is_smodels(found.format) {
+        Some(Name::Format)
     } else {
-        proving_or_dividing(found)
+        only_if(seeks_consequences(found.mode), Name::Mode)
     }
 }
 
-fn formed(found: &Found) -> Option<Name>
-    ensures { result ≡ formed found.now }
+// Which given option excludes this one by its value.
+fn barred_by(found: &Found, name: Name) -> Option<Name>
+    ensures { result ≡ barred_by found.now name }
 {
-    if found.form.is_some() {
-        Some(Name::Output)
-    } else {
-        None
+    match name {
+        Name::Proof => only_if(seeks_consequences(found.mode), Name::Mode),
+        Name::Queries => unasked(found),
+        _ => None,
+    }
+}
+
+// An option that was given, and one that excludes it by its value.
+fn clash_with(found: &Found, name: Name) -> Option<(Name, Name)>
+    ensures { result ≡ clash_with found.now name }
+{
+    if !has(found, name) {
+        return None;
+    }
+    match barred_by(found, name) {
+        None => None,
+        Some(other) => Some((name, other)),
+    }
+}
+
+/// Two given options, of which the second excludes the first by its value.
+pub fn clash(found: &Found) -> Option<(Name, Name)>
+    ensures { result ≡ clash_of found.now }
+{
+    match clash_with(found, Name::Proof) {
+        None => clash_with(found, Name::Queries),
+        Some(pair) => Some(pair),
+    }
+}
+
+// The options that can't stand beside this one, whatever their values.
+fn rivals_of(name: Name) -> &'static [Name]
+    ensures { result.now ≡ rivals_of name }
+{
+    match name {
+        Name::Proof => &[
+            Name::Split,
+            Name::OptAll,
+            Name::Quiet,
+            Name::Output,
+            Name::Queries,
+        ],
+        Name::OptAll => &[Name::Proof, Name::Split, Name::Queries],
+        Name::Quiet => &[Name::Proof, Name::Split],
+        Name::Output => &[Name::Make, Name::Proof, Name::Split],
+        Name::Make => &[Name::Output],
+        Name::Queries => &[Name::Proof, Name::OptAll],
+        Name::Split => &[
+            Name::Mode,
+            Name::Models,
+            Name::OptAll,
+            Name::Workers,
+            Name::Log,
+            Name::Budget,
+            Name::Output,
+            Name::Quiet,
+            Name::Names,
+            Name::Proof,
+            Name::Queries,
+            Name::CoreMin,
+            Name::Stats,
+            Name::Progress,
+        ],
+        Name::Format => &[],
+        _ => &[Name::Split],
+    }
+}
+
+// The first of these options that was given.
+fn first_given(found: &Found, names: &[Name]) -> Option<Name>
+    ensures { result ≡ first_given found.now names.now }
+{
+    match names {
+        [] => None,
+        [name, rest @ ..] => {
+            if has(found, *name) {
+                Some(*name)
+            } else {
+                first_given(found, rest)
+            }
+        }
     }
 }
 
@@ -163,26 +221,9 @@ fn formed(found: &Found) -> Option<Name>
 pub fn rival(found: &Found, name: Name) -> Option<Name>
     ensures { result ≡ rival_of found.now name }
 {
-    match name {
-        Name::Proof => {
-            if found.split.is_some() {
-                Some(Name::Split)
-            } else if found.all_optima {
-                Some(Name::OptAll)
-            } else if found.quiet {
-                Some(Name::Quiet)
-            } else if seeks_consequences(found.mode) {
-                Some(Name::Mode)
-            } else {
-                formed(found)
-            }
-        }
-        Name::OptAll | Name::Quiet => proving_or_dividing(found),
-        Name::Output => making(found),
-        Name::Split => solving(found),
-        Name::Make => formed(found),
-        Name::Format => None,
-        _ => dividing(found),
+    match first_given(found, rivals_of(name)) {
+        None => barred_by(found, name),
+        Some(rival) => Some(rival),
     }
 }
 
@@ -193,6 +234,7 @@ pub fn with(found: Found, name: Name, text: &str) -> Option<Found>
     ensures crew { IfSome found.workers IsCrew → IfSome result (λ f. IfSome f.workers IsCrew) }
     ensures parts { IsPartCount found.split → IfSome result (λ f. IsPartCount f.split) }
     ensures apart { AreApart found → IfSome result (λ f. (f.proof ≡ true → f.all_optima ≡ false)) }
+    ensures asking { IsAlone found → IfSome result IsAlone }
 {
     match name {
         Name::Workers => {
@@ -251,8 +293,14 @@ pub fn with(found: Found, name: Name, text: &str) -> Option<Found>
                 ..found
             })
         }
-        Name::OptAll | Name::Quiet | Name::Names | Name::Proof | Name::Stats | Name::Progress =>
-            None,
+        Name::OptAll
+        | Name::Quiet
+        | Name::Names
+        | Name::Proof
+        | Name::Queries
+        | Name::CoreMin
+        | Name::Stats
+        | Name::Progress => None,
         Name::Split => {
             let parts = number(text, 1, MOST_PARTS)?;
             Some(Found {
@@ -270,6 +318,7 @@ pub fn options(found: &Found) -> Options
     ensures crew { IfSome found.now.workers IsCrew → IsCrew result.workers }
     ensures parts { IsPartCount found.now.split → IsPartCount result.split }
     ensures apart { AreApart found.now → IsApart result }
+    ensures asking { AreAsking found.now → IsAsking result }
 {
     Options {
         workers: found.workers.unwrap_or(1),
@@ -283,6 +332,8 @@ pub fn options(found: &Found) -> Options
         quiet: found.quiet,
         names: found.names,
         make: found.make,
+        queries: found.queries,
+        core_min: found.core_min,
         stats: found.stats,
         progress: found.progress,
         proof: found.proof,

@@ -8,9 +8,9 @@ mod texts;
 mod values;
 mod walk;
 
-ghost use Rattle.std.specs.Prelude.{◌≡◌, IfOk, map, string_bytes};
-ghost use Rattle.asp_cli.specs.Given.{asks_help, asks_version, given_of, words_give};
-ghost use Rattle.asp_cli.specs.Found.{IsApart};
+ghost use Rattle.std.specs.Prelude.{◌≡◌, false, IfOk, map, string_bytes};
+ghost use Rattle.asp_cli.specs.Given.{asks_help, asks_version, built, given_of, seen, words_give};
+ghost use Rattle.asp_cli.specs.Found.{IsApart, IsAsking};
 ghost use Rattle.asp_cli.specs.Values.{IsCrew, IsPartCount, IsRing, is_row};
 
 use asp_model::results::Mode;
@@ -83,6 +83,11 @@ pub struct Options {
     pub names: bool,
     /// The number of nodes of the ring that is solved in place of a program that is read, if one is: 3 to 2000.
     pub make: Option<u32>,
+    /// Whether queries follow the program, each of which is answered. There is no limit then, and neither a proof, all optima,
+    /// consequences, parts nor a ring is asked for.
+    pub queries: bool,
+    /// Whether of a core no literal may be left out.
+    pub core_min: bool,
     /// Whether the notes get counts of the run.
     pub stats: bool,
     /// Whether the notes get lines while one search goes on.
@@ -111,6 +116,8 @@ pub enum WordFault<'a> {
     Value(Name, &'a str),
     /// The first was given, and the second can't stand beside it.
     Rivals(Name, Name),
+    /// The option isn't built yet.
+    Unbuilt(Name),
 }
 
 /// Why the words of a command line give no options.
@@ -138,6 +145,19 @@ pub(crate) fn asks_for_version(word: &str) -> bool
     word == "--version"
 }
 
+// The options, if all of them are built.
+fn built<'a>(options: Options) -> Result<Options, CliError<'a>>
+    ensures value { seen result ≡ built options }
+    ensures same { IfOk result (λ o. o ≡ options) }
+    ensures unasked { IfOk result (λ o. o.queries ≡ false) }
+{
+    if options.queries {
+        Err(CliError::Usage(WordFault::Unbuilt(Name::Queries)))
+    } else {
+        Ok(options)
+    }
+}
+
 /// What the words of a command line give, the program's name first. From the left the first word decides that asks for help
 /// or the version, or is faulty; where none does, they give options.
 pub fn words<'a>(words: &'a [String]) -> Result<Options, CliError<'a>>
@@ -146,9 +166,14 @@ pub fn words<'a>(words: &'a [String]) -> Result<Options, CliError<'a>>
     ensures crew { IfOk result (λ o. IsCrew o.workers) }
     ensures parts { IfOk result (λ o. IsPartCount o.split) }
     ensures apart { IfOk result IsApart }
+    ensures asking { IfOk result IsAsking }
+    ensures unasked { IfOk result (λ o. o.queries ≡ false) }
 {
     match words {
         [] => Err(CliError::Usage(WordFault::NoWords)),
-        [_, rest @ ..] => walk::walk(rest),
+        [_, rest @ ..] => match walk::walk(rest) {
+            Ok(options) => built(options),
+            Err(error) => Err(error),
+        },
     }
 }

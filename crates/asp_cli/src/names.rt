@@ -18,6 +18,8 @@ pub enum Name {
     Proof,
     Split,
     Make,
+    Queries,
+    CoreMin,
     Stats,
     Progress,
 }
@@ -41,6 +43,8 @@ impl Name {
             Name::Proof => "--proof",
             Name::Split => "--split",
             Name::Make => "--make",
+            Name::Queries => "--queries",
+            Name::CoreMin => "--core-min",
             Name::Stats => "--stats",
             Name::Progress => "--progress",
         }
@@ -59,8 +63,14 @@ impl Name {
             Name::Workers => "a number from 1 to 64",
             Name::Split => "a number from 1 to 100000",
             Name::Make => "a number from 3 to 2000",
-            Name::OptAll | Name::Quiet | Name::Names | Name::Proof | Name::Stats | Name::Progress =>
-                "no value",
+            Name::OptAll
+            | Name::Quiet
+            | Name::Names
+            | Name::Proof
+            | Name::Queries
+            | Name::CoreMin
+            | Name::Stats
+            | Name::Progress => "no value",
         }
     }
 }
@@ -95,6 +105,10 @@ pub fn named(word: &str) -> Option<Name>
         Some(Name::Split)
     } else if word == Name::Make.text() {
         Some(Name::Make)
+    } else if word == Name::Queries.text() {
+        Some(Name::Queries)
+    } else if word == Name::CoreMin.text() {
+        Some(Name::CoreMin)
     } else if word == Name::Stats.text() {
         Some(Name::Stats)
     } else if word == Name::Progress.text() {

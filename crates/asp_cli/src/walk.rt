@@ -1,10 +1,10 @@
 //! The walk over the words after the program's name.
 ghost use Rattle.std.specs.Prelude.{◌≡◌, None, IfOk, IfSome, map, option_map, string_bytes};
-ghost use Rattle.asp_cli.specs.Found.{AreApart, IsApart, rival_of, start};
+ghost use Rattle.asp_cli.specs.Found.{AreApart, AreAsking, IsApart, IsAsking, rival_of, start};
 ghost use Rattle.asp_cli.specs.Given.{after, cut, ended, fresh, looks_like_option, refused, seen, stray, told_alone, told_option, told_value, told_with_value, walked};
 ghost use Rattle.asp_cli.specs.Values.{IsCrew, IsPartCount, IsRing};
 
-use crate::found::{Found, clashes, has, options, rival, with};
+use crate::found::{Found, clash, has, options, rival, with};
 use crate::names::{Name, meant, named};
 use crate::{CliError, Options, WordFault, asks_for_help, asks_for_version};
 
@@ -43,6 +43,8 @@ fn start() -> State
         quiet: false,
         names: false,
         make: None,
+        queries: false,
+        core_min: false,
         stats: false,
         progress: false,
         proof: false,
@@ -111,18 +113,16 @@ fn value<'a>(found: Found, name: Name, text: &'a str) -> Result<State, CliError<
     ensures crew { IfSome found.workers IsCrew → IfOk result (λ s. IfSome s.found.workers IsCrew) }
     ensures parts { IsPartCount found.split → IfOk result (λ s. IsPartCount s.found.split) }
     ensures apart { AreApart found → IfOk result (λ s. AreApart s.found) }
+    ensures asking { AreAsking found → IfOk result (λ s. AreAsking s.found) }
 {
     match with(found, name, text) {
-        Some(found) => {
-            if clashes(&found) {
-                Err(CliError::Usage(WordFault::Rivals(Name::Proof, Name::Mode)))
-            } else {
-                Ok(State {
-                    found,
-                    awaits: Awaits::Option,
-                })
-            }
-        }
+        Some(found) => match clash(&found) {
+            Some((given, rival)) => Err(CliError::Usage(WordFault::Rivals(given, rival))),
+            None => Ok(State {
+                found,
+                awaits: Awaits::Option,
+            }),
+        },
         None => Err(CliError::Usage(WordFault::Value(name, text))),
     }
 }
@@ -139,6 +139,7 @@ fn with_value<'a>(
     ensures crew { IfSome found.workers IsCrew → IfOk result (λ s. IfSome s.found.workers IsCrew) }
     ensures parts { IsPartCount found.split → IfOk result (λ s. IsPartCount s.found.split) }
     ensures apart { AreApart found → IfOk result (λ s. AreApart s.found) }
+    ensures asking { AreAsking found → IfOk result (λ s. AreAsking s.found) }
 {
     match fresh(&found, name, word) {
         Ok(name) => value(found, name, text),
@@ -153,6 +154,7 @@ fn alone<'a>(found: Found, word: &'a str) -> Result<State, CliError<'a>>
     ensures crew { IfSome found.workers IsCrew → IfOk result (λ s. IfSome s.found.workers IsCrew) }
     ensures parts { IsPartCount found.split → IfOk result (λ s. IsPartCount s.found.split) }
     ensures apart { AreApart found → IfOk result (λ s. AreApart s.found) }
+    ensures asking { AreAsking found → IfOk result (λ s. AreAsking s.found) }
 {
     match fresh(&found, word, word) {
         Ok(Name::Stats) => Ok(State {
@@ -179,6 +181,20 @@ fn alone<'a>(found: Found, word: &'a str) -> Result<State, CliError<'a>>
         Ok(Name::Names) => Ok(State {
             found: Found {
                 names: true,
+                ..found
+            },
+            awaits: Awaits::Option,
+        }),
+        Ok(Name::Queries) => Ok(State {
+            found: Found {
+                queries: true,
+                ..found
+            },
+            awaits: Awaits::Option,
+        }),
+        Ok(Name::CoreMin) => Ok(State {
+            found: Found {
+                core_min: true,
                 ..found
             },
             awaits: Awaits::Option,
@@ -211,6 +227,7 @@ fn option<'a>(found: Found, word: &'a str) -> Result<State, CliError<'a>>
     ensures crew { IfSome found.workers IsCrew → IfOk result (λ s. IfSome s.found.workers IsCrew) }
     ensures parts { IsPartCount found.split → IfOk result (λ s. IsPartCount s.found.split) }
     ensures apart { AreApart found → IfOk result (λ s. AreApart s.found) }
+    ensures asking { AreAsking found → IfOk result (λ s. AreAsking s.found) }
 {
     if word == "--" {
         return Ok(State {
@@ -232,6 +249,7 @@ fn after<'a>(state: State, word: &'a str) -> Result<State, CliError<'a>>
     ensures crew { IfSome state.found.workers IsCrew → IfOk result (λ s. IfSome s.found.workers IsCrew) }
     ensures parts { IsPartCount state.found.split → IfOk result (λ s. IsPartCount s.found.split) }
     ensures apart { AreApart state.found → IfOk result (λ s. AreApart s.found) }
+    ensures asking { AreAsking state.found → IfOk result (λ s. AreAsking s.found) }
 {
     match state.awaits {
         Awaits::Option => option(state.found, word),
@@ -246,6 +264,7 @@ fn ended<'a>(state: &State) -> Result<Options, CliError<'a>>
     ensures crew { IfSome state.now.found.workers IsCrew → IfOk result (λ o. IsCrew o.workers) }
     ensures parts { IsPartCount state.now.found.split → IfOk result (λ o. IsPartCount o.split) }
     ensures apart { AreApart state.now.found → IfOk result IsApart }
+    ensures asking { AreAsking state.now.found → IfOk result IsAsking }
 {
     match state.awaits {
         Awaits::Value(name) => Err(CliError::Usage(WordFault::Missing(name))),
@@ -260,6 +279,7 @@ pub fn walk<'a>(words: &'a [String]) -> Result<Options, CliError<'a>>
     ensures crew { IfOk result (λ o. IsCrew o.workers) }
     ensures parts { IfOk result (λ o. IsPartCount o.split) }
     ensures apart { IfOk result IsApart }
+    ensures asking { IfOk result IsAsking }
 {
     let mut state = start();
     for word in words {

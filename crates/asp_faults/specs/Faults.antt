@@ -8,7 +8,7 @@ use Rattle.asp_read.specs.declared.fault.FaultKind.{FaultKind}
 use Rattle.asp_read.specs.declared.fault.FaultKind.TheVariants as fault
 use Rattle.asp_read.specs.declared.fault.Fault.{Fault}
 use Rattle.asp_faults.specs.declared.texts.Wanted.{Wanted}
-use Rattle.asp_faults.specs.declared.texts.Wanted.TheVariants.{Natural, Integer, RuleType, Negated}
+use Rattle.asp_faults.specs.declared.texts.Wanted.TheVariants.{Natural, Integer, RuleType, Negated, AfterProgram}
 
 -- the name of what is wanted, by its range
 abbrev pub natural_noun : ℕ → ℕ → List ℕ
@@ -36,6 +36,7 @@ abbrev pub wanted_text : Wanted → List ℕ
 wanted_text (Natural low high) = range_text (natural_noun low high) (decimal low) (decimal high)
 wanted_text (Integer low high) = range_text (integer_noun low) (signed_decimal low) (signed_decimal high)
 wanted_text RuleType = codes "rule type (0, 1, 2, 3, 5 or 6)"
+wanted_text AfterProgram = codes "statement after the program (0, 6 or 10)"
 wanted_text (Negated most) = range_text (codes "count of negated literals") (codes "0") (decimal most)
 
 -- what stood in its place, and that nothing did
@@ -80,6 +81,8 @@ kind_text (fault.Negated most n) = misfit n (wanted_text (Negated most))
 kind_text fault.Name = codes "name of an atom missing"
 kind_text fault.Section = codes "section line expected"
 kind_text fault.Externals = codes "external section not supported"
+kind_text fault.Queries = codes "more than 10,000 queries"
+kind_text (fault.Query n) = misfit n (wanted_text AfterProgram)
 
 -- whether the field is told
 abbrev pub has_field : FaultKind → Bool
@@ -91,6 +94,7 @@ has_field fault.ExtraFields = true
 has_field (fault.RuleType n) = true
 has_field (fault.Negated most n) = true
 has_field fault.Name = true
+has_field (fault.Query n) = true
 has_field kind = false
 
 abbrev pub place_text : Fault → List ℕ

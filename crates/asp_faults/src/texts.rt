@@ -47,6 +47,8 @@ pub enum Wanted {
     RuleType,
     /// How many of so many literals are negated.
     Negated(u32),
+    /// A statement after the program's end.
+    AfterProgram,
 }
 
 // A thing by its name, and its range.
@@ -104,6 +106,7 @@ fn write_wanted<N: Sink>(notes: &mut N, wanted: Wanted) -> Result<(), Failed>
         Wanted::Integer(low, high) => write_integer(notes, low, high),
         Wanted::RuleType => write(notes, b"rule type (0, 1, 2, 3, 5 or 6)"),
         Wanted::Negated(most) => write_negated(notes, most),
+        Wanted::AfterProgram => write(notes, b"statement after the program (0, 6 or 10)"),
     }
 }
 
@@ -196,6 +199,8 @@ fn write_kind<N: Sink>(notes: &mut N, kind: FaultKind) -> Result<(), Failed>
         FaultKind::Name => write(notes, b"name of an atom missing"),
         FaultKind::Section => write(notes, b"section line expected"),
         FaultKind::Externals => write(notes, b"external section not supported"),
+        FaultKind::Queries => write(notes, b"more than 10,000 queries"),
+        FaultKind::Query(found) => write_misfit(notes, found, Wanted::AfterProgram),
     }
 }
 
@@ -211,7 +216,8 @@ fn has_field(kind: FaultKind) -> bool
         | FaultKind::ExtraFields
         | FaultKind::RuleType(_)
         | FaultKind::Negated(_, _)
-        | FaultKind::Name => true,
+        | FaultKind::Name
+        | FaultKind::Query(_) => true,
         _ => false,
     }
 }

@@ -381,7 +381,7 @@ fn put_ending<K: Sink>(
     put_closing(sink, waiting, results, found_count(results))
 }
 
-fn put_results<K: Sink>(
+pub(crate) fn put_results<K: Sink>(
     alloc: Global,
     sink: &mut K,
     waiting: &mut Waiting,

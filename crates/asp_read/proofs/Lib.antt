@@ -6,4 +6,5 @@ pub mod Supply
 pub mod TableLaws
 pub mod KnownLaws
 pub mod Soundness
+pub mod SeriesLaws
 pub mod Places

@@ -198,7 +198,7 @@ pub record Listed {A : Type 0} (p : A → Bool) (used : ℕ) (xs : List A) : Typ
   pub sound : list_all p xs ≡ true
   pub fits : used + length xs ≤ most_counted
 
-literals-sound : (used : ℕ) (known : Atoms) (line : List ℕ) (x : List ℤ × List ℕ) → literals_at used known line ≡ Ok x → Listed is_literal used x.0
+pub literals-sound : (used : ℕ) (known : Atoms) (line : List ℕ) (x : List ℤ × List ℕ) → literals_at used known line ≡ Ok x → Listed is_literal used x.0
 literals-sound used known line x e =
     let s = step (count_at used line) (λ n. many_at atom_of literal_at n.0 known n.1) x e in
     let m = many_are is_literal atom_of literal_at literal-sound s.value.0 known s.value.1 x s.goes in
@@ -422,7 +422,7 @@ pub record AreSound (p : Program) (lines : ℕ) : Type 0 where
   pub size : program_size p ≤ most_counted
   pub few : length p.rules + length p.minimize + length p.outputs + length p.externals ≤ lines
 
-all_append : {A : Type 0} (q : A → Bool) (xs ys : List A) → list_all q xs ≡ true → list_all q ys ≡ true → list_all q (xs ++ ys) ≡ true
+pub all_append : {A : Type 0} (q : A → Bool) (xs ys : List A) → list_all q xs ≡ true → list_all q ys ≡ true → list_all q (xs ++ ys) ≡ true
 all_append q xs ys h k = list_all-append q xs ys ∙ and_from (list_all q xs) (list_all q ys) h k
 
 all_push : {A : Type 0} (q : A → Bool) (xs : List A) (x : A) → list_all q xs ≡ true → q x ≡ true → list_all q (xs ++ x ∷ []) ≡ true
@@ -494,16 +494,16 @@ filled-sound Within p known line next n h e =
     rw is at (adds-sound p t.value n h k)
 filled-sound Ended p known line next n h e = absurd cc
 
-judge-sound : (seen : Seen) (line : List ℕ) (next : Seen) (n : ℕ) → AreSound seen.program n → judge_line seen line ≡ Ok next → AreSound next.program (suc n)
+pub judge-sound : (seen : Seen) (line : List ℕ) (next : Seen) (n : ℕ) → AreSound seen.program n → judge_line seen line ≡ Ok next → AreSound next.program (suc n)
 judge-sound seen line next n h e =
     choose (AreSound next.program (suc n)) (length (unblank line) == 0) (ok seen) (judge_filled seen.stage seen.program seen.known line) next e
     (λ k. more_lines seen.program next.program n (ap (λ (s : Seen). s.program) (ok_is seen next k)) h)
     (filled-sound seen.stage seen.program seen.known line next n h)
 
-abbrev read : {A : Type 0} → A → Result A ReadError
+abbrev pub read : {A : Type 0} → A → Result A ReadError
 read x = Ok x
 
-read_is : {A : Type 0} (x y : A) → read x ≡ read y → x ≡ y
+pub read_is : {A : Type 0} (x y : A) → read x ≡ read y → x ≡ y
 read_is x y e = cc
 
 onto_is : (b : ℕ) (ps : List (List ℕ)) (n : ℕ) → length ps ≤ n → length (onto b ps) ≤ suc n
@@ -520,7 +520,7 @@ pieces_are (b ∷ bs) = elim (is_lf b) as (λ v. length (if v then [] ∷ pieces
 lines_are : (text : List ℕ) → length (lines_of text) ≤ length text
 lines_are text = omega (arith, pieces_are text, length-map (pieces text) without_cr)
 
-nothing_is_sound : AreSound empty_program 0
+pub nothing_is_sound : AreSound empty_program 0
 nothing_is_sound = record { rules = refl; minimize = refl; outputs = refl; externals = refl; assumptions = refl; size = omega arith; few = omega arith }
 
 weighted_is_counted : (r : Rule) → weighted_count r.body ≤ rule_size r
@@ -529,7 +529,7 @@ weighted_is_counted r = elim r.body as (λ b. weighted_count b ≤ head_size r.h
 has_room_is : {A : Type 0} (xs : List A) (n : ℕ) → length xs ≤ n → n ≤ most_bytes → has_room xs ≡ true
 has_room_is xs n h k = le-leb (length xs) 268435456 (omega (arith, h, k))
 
-sound_from : (p : Program) (n : ℕ) → n ≤ most_bytes → AreSound p n → IsSound p
+pub sound_from : (p : Program) (n : ℕ) → n ≤ most_bytes → AreSound p n → IsSound p
 sound_from p n few h = record {
   rules = h.rules;
   minimize = h.minimize;
@@ -540,36 +540,59 @@ sound_from p n few h = record {
   room = and_from _ _ (and_from _ _ (and_from _ _ (and_from _ _ (has_room_is p.rules n (omega (arith, h.few)) few) (has_room_is p.minimize n (omega (arith, h.few)) few)) (has_room_is p.outputs n (omega (arith, h.few)) few)) (has_room_is p.externals n (omega (arith, h.few)) few)) (has_room_is p.assumptions 16777216 (omega (arith, h.size)) (omega arith));
 }
 
-abbrev too_long : Result Program ReadError
-too_long = Err TooLong
+-- what was said at the end of an accepted text of so many lines
+pub record AtEnd {S A : Type 0} (format : Format S A) (Holds : S → ℕ → Type 0) (x : A) : Type 0 where
+  pub number : ℕ
+  pub seen : S
+  pub lines : ℕ
+  pub few : lines ≤ most_bytes
+  pub holds : Holds seen lines
+  pub says : format.at_end number seen ≡ Ok x
 
-not_read : (p : Program) → too_long ≡ read p → ⊥
-not_read p e = cc
-
--- the program of an accepted text is sound, where each line keeps it sound
-module _ {S : Type 0} (format : Format S) (program : S → Program) (begins : program format.start ≡ empty_program)
-    (keeps : (seen : S) (line : List ℕ) (next : S) (n : ℕ) → AreSound (program seen) n → format.after_line seen line ≡ Ok next → AreSound (program next) (suc n))
-    (ends : (number : ℕ) (seen : S) (p : Program) → format.at_end number seen ≡ Ok p → program seen ≡ p) where
-  all-sound : (number : ℕ) (seen : S) (lines : List (List ℕ)) (end : S) (n : ℕ) → AreSound (program seen) n → judge_all format number seen lines ≡ Ok end → AreSound (program end) (n + length lines)
+-- what each line keeps holds at the end
+module _ {S A : Type 0} (format : Format S A) (Holds : S → ℕ → Type 0) (begins : Holds format.start 0)
+    (keeps : (seen : S) (line : List ℕ) (next : S) (n : ℕ) → Holds seen n → format.after_line seen line ≡ Ok next → Holds next (suc n)) where
+  all-hold : (number : ℕ) (seen : S) (lines : List (List ℕ)) (end : S) (n : ℕ) → Holds seen n → judge_all format number seen lines ≡ Ok end → Holds end (n + length lines)
   unfolding judge_all
-  all-sound number seen [] end n h e = rw (← read_is seen end e, add-zero) h
-  all-sound number seen (line ∷ lines) end n h e = (elim (judge_by format seen line) as (λ v. judge_by format seen line ≡ v → judge_next number v (λ s. judge_all format (number + 1) s lines) ≡ read end → AreSound (program end) (n + suc (length lines))) [
-    | Ok s ↦ λ is k. let m : n + suc (length lines) ≡ suc n + length lines = omega arith in rw m (all-sound (number + 1) s lines end (suc n) (keeps seen line s n h (told_ok line (format.after_line seen line) s is)) k)
+  all-hold number seen [] end n h e = rw (← read_is seen end e, add-zero) h
+  all-hold number seen (line ∷ lines) end n h e = (elim (judge_by format seen line) as (λ v. judge_by format seen line ≡ v → judge_next number v (λ s. judge_all format (number + 1) s lines) ≡ read end → Holds end (n + suc (length lines))) [
+    | Ok s ↦ λ is k. let m : n + suc (length lines) ≡ suc n + length lines = omega arith in rw m (all-hold (number + 1) s lines end (suc n) (keeps seen line s n h (told_ok line (format.after_line seen line) s is)) k)
     | Err f ↦ λ is k. absurd cc
   ]) refl e
 
-  pub outcome_by-sound : (text : List ℕ) (p : Program) → outcome_by format text ≡ Ok p → IsSound p
+  abbrev too_long : Result A ReadError
+  too_long = Err TooLong
+
+  not_read : (x : A) → too_long ≡ read x → ⊥
+  not_read x e = cc
+
+  pub accepted : (text : List ℕ) (x : A) → outcome_by format text ≡ Ok x → AtEnd format Holds x
   unfolding outcome_from
-  outcome_by-sound text p e = (elim (nat_le (length text) most_bytes) as (λ v. nat_le (length text) most_bytes ≡ v
-      → (if v then (judge_all format 1 format.start (lines_of text) >>= λ end. format.at_end (0 + length (lines_of text) + 1) end) else (judge_all format 1 format.start (lines_of (whole (take most_bytes text))) >>= λ _. Err TooLong)) ≡ read p → IsSound p) [
+  accepted text x e = (elim (nat_le (length text) most_bytes) as (λ v. nat_le (length text) most_bytes ≡ v
+      → (if v then (judge_all format 1 format.start (lines_of text) >>= λ end. format.at_end (0 + length (lines_of text) + 1) end) else (judge_all format 1 format.start (lines_of (whole (take most_bytes text))) >>= λ _. Err TooLong)) ≡ read x → AtEnd format Holds x) [
         | true ↦ λ short h.
-            let t = step (judge_all format 1 format.start (lines_of text)) (λ end. format.at_end (0 + length (lines_of text) + 1) end) p h in
-            let is : program t.value ≡ p = ends (0 + length (lines_of text) + 1) t.value p t.goes in
-            let nothing : AreSound (program format.start) 0 = rw begins nothing_is_sound in
-            let all = all-sound 1 format.start (lines_of text) t.value 0 nothing t.is in
-            rw is at (sound_from (program t.value) (0 + length (lines_of text)) (omega (arith, lines_are text, leb-true (length text) most_bytes short)) all)
-        | false ↦ λ long h. let t = step (judge_all format 1 format.start (lines_of (whole (take most_bytes text)))) (λ _. too_long) p h in absurd (not_read p t.goes)
+            let t = step (judge_all format 1 format.start (lines_of text)) (λ end. format.at_end (0 + length (lines_of text) + 1) end) x h in
+            record {
+              number = 0 + length (lines_of text) + 1;
+              seen = t.value;
+              lines = 0 + length (lines_of text);
+              few = omega (arith, lines_are text, leb-true (length text) most_bytes short);
+              holds = all-hold 1 format.start (lines_of text) t.value 0 begins t.is;
+              says = t.goes;
+            }
+        | false ↦ λ long h. let t = step (judge_all format 1 format.start (lines_of (whole (take most_bytes text)))) (λ _. too_long) x h in absurd (not_read x t.goes)
       ]) refl e
+
+-- the program of an accepted text is sound, where each line keeps it sound
+module _ {S : Type 0} (format : Format S Program) (program : S → Program) (begins : program format.start ≡ empty_program)
+    (keeps : (seen : S) (line : List ℕ) (next : S) (n : ℕ) → AreSound (program seen) n → format.after_line seen line ≡ Ok next → AreSound (program next) (suc n))
+    (ends : (number : ℕ) (seen : S) (p : Program) → format.at_end number seen ≡ Ok p → program seen ≡ p) where
+  pub outcome_by-sound : (text : List ℕ) (p : Program) → outcome_by format text ≡ Ok p → IsSound p
+  outcome_by-sound text p e =
+      let nothing : AreSound (program format.start) 0 = rw begins nothing_is_sound in
+      let t = accepted format (λ seen n. AreSound (program seen) n) nothing keeps text p e in
+      let is : program t.seen ≡ p = ends t.number t.seen p t.says in
+      rw is at (sound_from (program t.seen) t.lines t.few t.holds)
 
 end_program : (number : ℕ) (stage : Stage) (q p : Program) → at_end number stage q ≡ read p → q ≡ p
 end_program number Start q p e = absurd cc

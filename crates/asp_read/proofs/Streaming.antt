@@ -9,7 +9,6 @@ use Rattle.std.proofs.lemmas.Bool.Decides.{nat_tests}
 use Rattle.std.proofs.Math.Seq.{take-append-add, take-append_seam}
 use Rattle.asp_text.specs.Lines.{is_lf, cut, onto, pieces, lines_of, whole, without_cr, first_line, after_line, last_line}
 use Rattle.asp_text.specs.Unread.{Unread}
-use Rattle.asp_model.specs.declared.program.Program.{Program}
 use Rattle.asp_read.specs.declared.fault.Fault.{Fault}
 use Rattle.asp_read.specs.declared.fault.ReadError.{ReadError}
 use Rattle.asp_read.specs.declared.fault.ReadError.TheVariants as errors
@@ -165,7 +164,7 @@ fits bytes room = grind (arith, nat_tests, length-append bytes [])
 pub beyond : (bytes rest : List ℕ) → 0 < length rest → nat_le (length (bytes ++ rest)) (0 + length bytes) ≡ false
 beyond bytes rest lt = grind (arith, nat_tests, length-append bytes rest)
 
-module _ {S : Type 0} (format : Format S) where
+module _ {S R : Type 0} (format : Format S R) where
   -- ---- the outcome behind a line
 
   step_whole : (number : ℕ) (r : Result S Fault) (lines : List (List ℕ)) → (judge_next number r (λ s. judge_all format (number + 1) s lines) >>= λ e. format.at_end (number + length lines + 1) e)
@@ -173,7 +172,7 @@ module _ {S : Type 0} (format : Format S) where
   step_whole number (Ok s) lines = refl
   step_whole number (Err f) lines = refl
 
-  step_part : (number : ℕ) (r : Result S Fault) (lines : List (List ℕ)) (after : Result Program ReadError) → (judge_next number r (λ s. judge_all format (number + 1) s lines) >>= λ _. after)
+  step_part : (number : ℕ) (r : Result S Fault) (lines : List (List ℕ)) (after : Result R ReadError) → (judge_next number r (λ s. judge_all format (number + 1) s lines) >>= λ _. after)
       ≡ judge_next number r (λ s. judge_all format (number + 1) s lines >>= λ _. after)
   step_part number (Ok s) lines after = refl
   step_part number (Err f) lines after = refl
@@ -235,7 +234,7 @@ module _ {S : Type 0} (format : Format S) where
   pub line_fails : (old : Unread) (reader : S) (e : ReadError) (n : ℕ) (line : List ℕ) → Some line ≡ first_line old.bytes → n ≡ old.given + 1
       → FailsAs e (judge_next n (judge_by format reader line) (λ s. Ok s)) → (room : ℕ) (more : List ℕ) → FailsAs e (outcome_on format old reader room more)
   line_fails old reader e n line h n-is fails room more =
-      subst (λ (o : Result Program ReadError). FailsAs e o) (sym (at_line old reader n line room more h n-is)) (fails_on e n (judge_by format reader line) _ fails)
+      subst (λ (o : Result R ReadError). FailsAs e o) (sym (at_line old reader n line room more h n-is)) (fails_on e n (judge_by format reader line) _ fails)
 
   pub fed : (bytes piece rest : List ℕ) (room number : ℕ) (seen : S) → outcome_from format (room + length (bytes ++ piece)) number seen ((bytes ++ piece) ++ rest) ≡ outcome_from format (room + length piece + length bytes) number seen (bytes ++ (piece ++ rest))
   fed bytes piece rest room number seen =
@@ -268,7 +267,7 @@ module _ {S : Type 0} (format : Format S) where
   pub last_line_fails : (old : Unread) (reader : S) (e : ReadError) (n room : ℕ) (line : List ℕ) → cut old.bytes ≡ None → Some line ≡ last_line old.bytes → n ≡ old.given + 1 → FailsAs e (judge_next n (judge_by format reader line) (λ s. Ok s))
       → FailsAs e (outcome_on format old reader room [])
   last_line_fails old reader e n room line none h n-is fails =
-      subst (λ (o : Result Program ReadError). FailsAs e o) (sym (at_last old.bytes room old.given reader none ∙ last_is (last_line old.bytes) line old.given n reader h n-is)) (fails_on e n (judge_by format reader line) _ fails)
+      subst (λ (o : Result R ReadError). FailsAs e o) (sym (at_last old.bytes room old.given reader none ∙ last_is (last_line old.bytes) line old.given n reader h n-is)) (fails_on e n (judge_by format reader line) _ fails)
 
   pub no_last_line : (old : Unread) (reader : S) (room : ℕ) → cut old.bytes ≡ None → None ≡ last_line old.bytes → outcome_on format old reader room [] ≡ format.at_end (old.given + 1) reader
   no_last_line old reader room none e = at_last old.bytes room old.given reader none ∙ no_last (last_line old.bytes) old.given reader e

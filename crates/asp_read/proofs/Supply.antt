@@ -34,13 +34,13 @@ whole_text (Some text) None next read piece c e = absurd c
 whole_text (Some text) (Some xs) None read piece c e = absurd e
 whole_text (Some text) (Some xs) (Some ys) read piece c e = record { rest = ys; told = c ∙ ap (λ (t : List ℕ). read ++ t) e }
 
-reads_err : (e : ReadError) (o : Result Program ReadError) → FailsAs e o → ReadsText (Err e) o
+reads_err : {A : Type 0} (e : ReadError) (o : Result A ReadError) → FailsAs e o → ReadsText (Err e) o
 reads_err errors.Memory o h = tt
 reads_err errors.ReadFault o h = tt
 reads_err errors.TooLong o h = h
 reads_err (errors.Refused f n) o h = h
 
-reads_gives : (r o : Result Program ReadError) → ReadGives r o → ReadsText r o
+reads_gives : {A : Type 0} (r o : Result A ReadError) → ReadGives r o → ReadsText r o
 reads_gives (Ok p) o h = h
 reads_gives (Err e) o h = reads_err e o h
 
@@ -74,15 +74,6 @@ parts now next read rest room count le len eaten = record {
   back = length-drop room (take count read) ∙ ap (λ (n : ℕ). n - room) (length-take-le count read len);
 }
 
-abbrev too_long_program : Result Program ReadError
-too_long_program = Err errors.TooLong
-
-abbrev failed_program : ReadError → Result Program ReadError
-failed_program e = Err e
-
-refusal_is : (d e : ReadError) → failed_program d ≡ failed_program e → d ≡ e
-refusal_is d e h = cc
-
 err_is : {A : Type 0} (r : Result A ReadError) (y e : ReadError) → r ≡ Err y → r ≡ Err e → y ≡ e
 err_is r y e p q = cc
 
@@ -90,8 +81,8 @@ err_is r y e p q = cc
 pub never : {A : Type 0} (r : Result A ReadError) (y e : ReadError) → r ≡ Err y → y ≡ e → IsOfLines e → r ≡ Err errors.ReadFault → ⊥
 never r y e p q of_lines h = let is : e ≡ errors.ReadFault = sym q ∙ err_is r y errors.ReadFault p h in subst IsOfLines is of_lines
 
-pub no_failed_read : (r : Result Program ReadError) → IfErr r IsOfLines → r ≡ Err errors.ReadFault → ⊥
-no_failed_read r of_lines h = subst (λ (x : Result Program ReadError). IfErr x IsOfLines) h of_lines
+pub no_failed_read : {A : Type 0} (r : Result A ReadError) → IfErr r IsOfLines → r ≡ Err errors.ReadFault → ⊥
+no_failed_read {A} r of_lines h = subst (λ (x : Result A ReadError). IfErr x IsOfLines) h of_lines
 
 consumes_none : (now next : Option (List ℕ)) → Keeps now next → Consumes now next []
 consumes_none None next k = k
@@ -102,7 +93,7 @@ nothing_left : (next : Option (List ℕ)) (rest : List ℕ) → IsAtEnd next →
 nothing_left None rest h e = absurd cc
 nothing_left (Some xs) rest h e = let same : xs ≡ rest = cc in sym same ∙ h
 
-module _ {S : Type 0} (format : Format S) where
+module _ {S R : Type 0} (format : Format S R) where
   -- at the start nothing is held
   pub starts : (source : Option (List ℕ)) (limit : ℕ) (lines : Unread) (reader : S) → lines ≡ record { bytes = []; given = 0; fed = 0 } → reader ≡ format.start → Continues format source source limit lines reader limit
   starts None limit lines reader l e = rw (l, e) (record { read = []; took = tt; counted = omega arith; same = λ k more. refl })
@@ -127,7 +118,7 @@ module _ {S : Type 0} (format : Format S) where
   all_is initial now limit lines reader room more c = c.same room more ∙ ap (λ (n : ℕ). outcome_from format n 0 format.start (c.read ++ more)) c.counted
 
   -- an answer that speaks of no text
-  pub any_text : (source : Option (List ℕ)) (limit : ℕ) (r : Result Program ReadError) → ((o : Result Program ReadError) → ReadsText r o) → Answers format source limit r
+  pub any_text : (source : Option (List ℕ)) (limit : ℕ) (r : Result R ReadError) → ((o : Result R ReadError) → ReadsText r o) → Answers format source limit r
   any_text None limit r any = record { text = []; told = tt; answered = any _ }
   any_text (Some text) limit r any = record { text = text; told = refl; answered = any _ }
 
@@ -137,7 +128,7 @@ module _ {S : Type 0} (format : Format S) where
   stopped e initial now next piece more limit lines reader room left c s k fails =
       let w = whole_text initial now next c.read (piece ++ more) c.took s in
       let o : outcome_on format lines reader (left + length piece) (piece ++ (more ++ w.rest)) ≡ outcome_from format limit 0 format.start (c.read ++ ((piece ++ more) ++ w.rest)) = rw (← k, ← append_assoc piece more w.rest) (all_is initial now limit lines reader room ((piece ++ more) ++ w.rest) c) in
-      record { text = c.read ++ ((piece ++ more) ++ w.rest); told = w.told; answered = reads_err e _ (subst (λ (o : Result Program ReadError). FailsAs e o) o (fails left (more ++ w.rest))) }
+      record { text = c.read ++ ((piece ++ more) ++ w.rest); told = w.told; answered = reads_err e _ (subst (λ (o : Result R ReadError). FailsAs e o) o (fails left (more ++ w.rest))) }
 
   pub over : (initial now next : Option (List ℕ)) (piece more : List ℕ) (limit : ℕ) (lines new : Unread) (reader r : S) (room : ℕ) → Continues format initial now limit lines reader room → Consumes now next (piece ++ more) → room ≡ length piece → 0 < length more → cut new.bytes ≡ None
       → ((k : ℕ) (rest : List ℕ) → outcome_on format new r k rest ≡ outcome_on format lines reader (k + length piece) (piece ++ rest)) → Answers format initial limit (Err errors.TooLong)
@@ -147,31 +138,40 @@ module _ {S : Type 0} (format : Format S) where
       let o : outcome_on format lines reader (0 + length piece) (piece ++ (more ++ w.rest)) ≡ outcome_from format limit 0 format.start (c.read ++ ((piece ++ more) ++ w.rest)) = rw (← k0, ← append_assoc piece more w.rest) (all_is initial now limit lines reader room ((piece ++ more) ++ w.rest) c) in
       record { text = c.read ++ ((piece ++ more) ++ w.rest); told = w.told; answered = sym (same 0 (more ++ w.rest) ∙ o) ∙ too_long format new r (more ++ w.rest) none (omega (arith, length-append more w.rest)) }
 
-  pub ended : (initial now next : Option (List ℕ)) (limit : ℕ) (lines : Unread) (reader : S) (room : ℕ) (result : Result Program ReadError) → Continues format initial now limit lines reader room → Consumes now next [] → IsAtEnd next
+  pub ended : (initial now next : Option (List ℕ)) (limit : ℕ) (lines : Unread) (reader : S) (room : ℕ) (result : Result R ReadError) → Continues format initial now limit lines reader room → Consumes now next [] → IsAtEnd next
       → ((k : ℕ) → ReadGives result (outcome_on format lines reader k [])) → Answers format initial limit result
   ended initial now next limit lines reader room result c s e gives =
       let o : outcome_on format lines reader room [] ≡ outcome_from format limit 0 format.start c.read = all_is initial now limit lines reader room [] c ∙ ap (λ (t : List ℕ). outcome_from format limit 0 format.start t) (append-nil c.read) in
-      record { text = c.read; told = at_end_is initial now next c.read c.took s e; answered = reads_gives result _ (subst (λ (o : Result Program ReadError). ReadGives result o) o (gives room)) }
+      record { text = c.read; told = at_end_is initial now next c.read c.took s e; answered = reads_gives result _ (subst (λ (o : Result R ReadError). ReadGives result o) o (gives room)) }
 
   -- what a caller sees of it
-  answer_is : (source : Option (List ℕ)) (text : List ℕ) (limit : ℕ) (result : Result Program ReadError) → IfSome source (λ t. t ≡ text) → ReadsText result (outcome_from format limit 0 format.start text) → IfSome source (λ t. ReadsText result (outcome_from format limit 0 format.start t))
+  answer_is : (source : Option (List ℕ)) (text : List ℕ) (limit : ℕ) (result : Result R ReadError) → IfSome source (λ t. t ≡ text) → ReadsText result (outcome_from format limit 0 format.start text) → IfSome source (λ t. ReadsText result (outcome_from format limit 0 format.start t))
   answer_is None text limit result e h = tt
   answer_is (Some t) text limit result e h = subst (λ (x : List ℕ). ReadsText result (outcome_from format limit 0 format.start x)) (sym e) h
 
-  pub answer : (source : Option (List ℕ)) (limit : ℕ) (result : Result Program ReadError) → Answers format source limit result → IfSome source (λ t. ReadsText result (outcome_from format limit 0 format.start t))
+  pub answer : (source : Option (List ℕ)) (limit : ℕ) (result : Result R ReadError) → Answers format source limit result → IfSome source (λ t. ReadsText result (outcome_from format limit 0 format.start t))
   answer source limit result a = answer_is source a.text limit result a.told a.answered
 
-  pub some_answer : (source : Option (List ℕ)) (limit : ℕ) (result : Result Program ReadError) → Answers format source limit result → (text : List ℕ) × ReadsText result (outcome_from format limit 0 format.start text)
+  pub some_answer : (source : Option (List ℕ)) (limit : ℕ) (result : Result R ReadError) → Answers format source limit result → (text : List ℕ) × ReadsText result (outcome_from format limit 0 format.start text)
   some_answer source limit result a = (a.text, a.answered)
 
   abbrev failed : ReadError → Result S ReadError
   failed e = Err e
 
-  pub stopped_as : (r : Result Program ReadError) (y e : ReadError) (initial now next : Option (List ℕ)) (piece more : List ℕ) (limit : ℕ) (lines : Unread) (reader : S) (room left : ℕ) → r ≡ Err y → y ≡ e
+  abbrev failed_read : ReadError → Result R ReadError
+  failed_read e = Err e
+
+  abbrev too_long_read : Result R ReadError
+  too_long_read = Err errors.TooLong
+
+  refusal_is : (d e : ReadError) → failed_read d ≡ failed_read e → d ≡ e
+  refusal_is d e h = cc
+
+  pub stopped_as : (r : Result R ReadError) (y e : ReadError) (initial now next : Option (List ℕ)) (piece more : List ℕ) (limit : ℕ) (lines : Unread) (reader : S) (room left : ℕ) → r ≡ Err y → y ≡ e
       → Continues format initial now limit lines reader room → Consumes now next (piece ++ more) → room ≡ left + length piece
       → ((k : ℕ) (rest : List ℕ) → FailsAs e (outcome_on format lines reader (k + length piece) (piece ++ rest))) → Answers format initial limit r
   stopped_as r y e initial now next piece more limit lines reader room left p q c s k fails =
-      subst (λ (x : Result Program ReadError). Answers format initial limit x) (sym (p ∙ ap Err q)) (stopped e initial now next piece more limit lines reader room left c s k fails)
+      subst (λ (x : Result R ReadError). Answers format initial limit x) (sym (p ∙ ap Err q)) (stopped e initial now next piece more limit lines reader room left c s k fails)
 
   -- ---- a failed read
 
@@ -183,7 +183,7 @@ module _ {S : Type 0} (format : Format S) where
     | Err f ↦ λ h. absurd cc
   ]) e
 
-  is_clean : (r : Result S ReadError) → (r ≡ Err errors.TooLong → ⊥) → (r >>= λ _. too_long_program) ≡ too_long_program → IsOk r
+  is_clean : (r : Result S ReadError) → (r ≡ Err errors.TooLong → ⊥) → (r >>= λ _. too_long_read) ≡ too_long_read → IsOk r
   is_clean (Ok s) other e = refl
   is_clean (Err e') other e = absurd (other (ap failed (refusal_is e' errors.TooLong e)))
 
@@ -192,7 +192,7 @@ module _ {S : Type 0} (format : Format S) where
       → IsOk (judge_all format 1 format.start (lines_of (whole read)))
   unfolding outcome_from
   clean lines reader read none same =
-      let long : outcome_from format (0 + length read) 0 format.start (read ++ 0 ∷ []) ≡ too_long_program = sym (same 0 (0 ∷ [])) ∙ too_long format lines reader (0 ∷ []) none (omega arith) in
+      let long : outcome_from format (0 + length read) 0 format.start (read ++ 0 ∷ []) ≡ too_long_read = sym (same 0 (0 ∷ [])) ∙ too_long format lines reader (0 ∷ []) none (omega arith) in
       let front : take (0 + length read) (read ++ 0 ∷ []) ≡ read = rw zero-add (take-append_seam read (0 ∷ [])) in
       is_clean (judge_all format 1 format.start (lines_of (whole read))) (refuses 1 format.start (lines_of (whole read)))
       (rw (beyond read (0 ∷ []) (omega arith), front) at long)
@@ -205,7 +205,7 @@ module _ {S : Type 0} (format : Format S) where
   stops_unread limit None = tt
   stops_unread limit (Some text) = record { before = []; last = []; stands = refl; no_fault = refl; fits = omega arith; decides = tt }
 
-  stops_at : (limit : ℕ) (initial now next : Option (List ℕ)) (read last : List ℕ) (result : Result Program ReadError) → Took initial now read → Consumes now next last
+  stops_at : (limit : ℕ) (initial now next : Option (List ℕ)) (read last : List ℕ) (result : Result R ReadError) → Took initial now read → Consumes now next last
       → IsOk (judge_all format 1 format.start (lines_of (whole read))) → length read ≤ limit → ((rest : List ℕ) → next ≡ Some rest → Decides format limit read last rest result) → StopsBy format limit initial next result
   stops_at limit None now next read last result c e ok le d = tt
   stops_at limit (Some text) None next read last result c e ok le d = absurd c
@@ -220,21 +220,21 @@ module _ {S : Type 0} (format : Format S) where
   }
 
   -- what was read before this read, and this read gave, where the reading goes by these lines
-  pub stops : (limit : ℕ) (initial now next : Option (List ℕ)) (last : List ℕ) (lines : Unread) (reader : S) (room : ℕ) (result : Result Program ReadError) (c : Continues format initial now limit lines reader room) → Consumes now next last
+  pub stops : (limit : ℕ) (initial now next : Option (List ℕ)) (last : List ℕ) (lines : Unread) (reader : S) (room : ℕ) (result : Result R ReadError) (c : Continues format initial now limit lines reader room) → Consumes now next last
       → cut lines.bytes ≡ None → ((rest : List ℕ) → next ≡ Some rest → Decides format limit c.read last rest result) → StopsBy format limit initial next result
   stops limit initial now next last lines reader room result c e none d = stops_at limit initial now next c.read last result c.took e (clean lines reader c.read none c.same) (omega (arith, c.counted)) d
 
   pub stops_failed : (limit : ℕ) (initial now next : Option (List ℕ)) (lines : Unread) (reader : S) (room : ℕ) → Continues format initial now limit lines reader room → Keeps now next → cut lines.bytes ≡ None → StopsBy format limit initial next (Err errors.ReadFault)
   stops_failed limit initial now next lines reader room c k none = stops limit initial now next [] lines reader room (Err errors.ReadFault) c (consumes_none now next k) none (λ rest is. refl)
 
-  at_the_end : (limit : ℕ) (read rest : List ℕ) (result : Result Program ReadError) → IfErr result IsOfLines → rest ≡ [] → Decides format limit read [] rest result
+  at_the_end : (limit : ℕ) (read rest : List ℕ) (result : Result R ReadError) → IfErr result IsOfLines → rest ≡ [] → Decides format limit read [] rest result
   at_the_end limit read rest (Ok p) of_lines e = record { nothing = refl; none_left = e }
   at_the_end limit read rest (Err errors.Memory) of_lines e = tt
   at_the_end limit read rest (Err errors.ReadFault) of_lines e = absurd of_lines
   at_the_end limit read rest (Err errors.TooLong) of_lines e = absurd of_lines
   at_the_end limit read rest (Err (errors.Refused f n)) of_lines e = inr (record { nothing = refl; none_left = e })
 
-  pub stops_ended : (limit : ℕ) (initial now next : Option (List ℕ)) (lines : Unread) (reader : S) (room : ℕ) (result : Result Program ReadError) → Continues format initial now limit lines reader room → Consumes now next [] → IsAtEnd next
+  pub stops_ended : (limit : ℕ) (initial now next : Option (List ℕ)) (lines : Unread) (reader : S) (room : ℕ) (result : Result R ReadError) → Continues format initial now limit lines reader room → Consumes now next [] → IsAtEnd next
       → cut lines.bytes ≡ None → IfErr result IsOfLines → StopsBy format limit initial next result
   stops_ended limit initial now next lines reader room result c e at_end none of_lines =
       stops limit initial now next [] lines reader room result c e none (λ rest is. at_the_end limit c.read rest result of_lines (nothing_left next rest at_end is))
@@ -252,12 +252,12 @@ module _ {S : Type 0} (format : Format S) where
   settled limit read last rest (errors.Refused f n) of_lines fails = inl fails
 
   -- a fault in a piece of what the last read gave
-  pub stops_refused : (r : Result Program ReadError) (y e : ReadError) (initial now next : Option (List ℕ)) (piece more : List ℕ) (limit : ℕ) (lines : Unread) (reader : S) (room left : ℕ) → r ≡ Err y → y ≡ e
+  pub stops_refused : (r : Result R ReadError) (y e : ReadError) (initial now next : Option (List ℕ)) (piece more : List ℕ) (limit : ℕ) (lines : Unread) (reader : S) (room left : ℕ) → r ≡ Err y → y ≡ e
       → Continues format initial now limit lines reader room → Consumes now next (piece ++ more) → room ≡ left + length piece → cut lines.bytes ≡ None → IsOfLines e
       → ((k : ℕ) (rest : List ℕ) → FailsAs e (outcome_on format lines reader (k + length piece) (piece ++ rest))) → StopsBy format limit initial next r
   stops_refused r y e initial now next piece more limit lines reader room left p q c s k none of_lines fails =
-      subst (λ (x : Result Program ReadError). StopsBy format limit initial next x) (sym (p ∙ ap Err q)) (stops limit initial now next (piece ++ more) lines reader room (Err e) c s none
-      (λ rest is. settled limit c.read (piece ++ more) rest e of_lines (λ after. subst (λ (o : Result Program ReadError). FailsAs e o) (whatever initial now piece more after limit lines reader room left c k) (fails left (more ++ after)))))
+      subst (λ (x : Result R ReadError). StopsBy format limit initial next x) (sym (p ∙ ap Err q)) (stops limit initial now next (piece ++ more) lines reader room (Err e) c s none
+      (λ rest is. settled limit c.read (piece ++ more) rest e of_lines (λ after. subst (λ (o : Result R ReadError). FailsAs e o) (whatever initial now piece more after limit lines reader room left c k) (fails left (more ++ after)))))
 
   -- more than may come, of which the front has no fault
   pub stops_over : (initial now next : Option (List ℕ)) (piece more : List ℕ) (limit : ℕ) (lines new : Unread) (reader r : S) (room : ℕ) → Continues format initial now limit lines reader room → Consumes now next (piece ++ more) → room ≡ length piece → 0 < length more

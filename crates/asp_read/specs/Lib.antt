@@ -1,5 +1,6 @@
 pub mod Adding
 pub mod Places
+pub mod Queries
 pub mod Fields
 pub mod Gives
 pub mod Judging

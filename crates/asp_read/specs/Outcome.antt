@@ -42,7 +42,7 @@ at_end number Within p = Err (Refused (missing NoEnd) number)
 at_end number Ended p = Ok p
 
 -- aspif, as a format whose lines are judged one by one
-abbrev pub aspif : Format Seen
+abbrev pub aspif : Format Seen Program
 aspif = record { start = nothing_seen; after_line = judge_line; at_end = λ number seen. at_end number seen.stage seen.program }
 
 abbrev pub outcome : List ℕ → Result Program ReadError

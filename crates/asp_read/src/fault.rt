@@ -54,6 +54,10 @@ pub enum FaultKind {
     Section,
     /// A smodels text has an external section.
     Externals,
+    /// A query would be the 10,001st.
+    Queries,
+    /// A line after the program's end is neither a query nor a comment nor the second end.
+    Query(Num),
 }
 
 /// A fault, and where on its line it is.

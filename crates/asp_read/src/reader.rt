@@ -1,13 +1,19 @@
 // What the lines so far said, and the next line.
-ghost use Rattle.std.specs.Prelude.{◌≡◌, IfOk};
+ghost use Rattle.std.specs.Prelude.{◌≡◌, ◌+◌, ◌≤◌, IfOk};
+ghost use Rattle.asp_model.specs.Sets.{with_atoms};
+ghost use Rattle.asp_read.specs.Fields.{most_counted};
+ghost use Rattle.asp_read.specs.Gives.{Gives};
 ghost use Rattle.asp_read.specs.Seen.{nothing_seen};
+ghost use Rattle.asp_read.specs.Sizes.{program_size, statement_atoms, statement_size};
 ghost use Rattle.asp_read.specs.Outcome.{stage_after};
+ghost use Rattle.asp_read.specs.Queries.{is_ended, query_line, unfinished};
 
 use crate::draft::Draft;
 use crate::error::{LineError, broken, missing};
 use crate::fault::{FaultKind, ReadError};
 use crate::judge::Judge;
 use crate::known::KnownAtoms;
+use crate::queries::query_line;
 use crate::statement::Statement;
 use crate::statements::{header, statement};
 use asp_model::program::Program;
@@ -59,6 +65,51 @@ impl Reader {
             known,
         })
     }
+
+    /// Whether the line `0` stood.
+    pub fn is_ended(&self) -> bool
+        ensures { result ≡ is_ended self.now.stage }
+    {
+        match self.stage {
+            Stage::Ended => true,
+            _ => false,
+        }
+    }
+
+    /// A line after that one, where there were so many queries with so many literals.
+    pub fn query(&mut self, line: &[u8], count: usize, asked: u32) -> Result<Statement, LineError>
+        requires { asked ≤ most_counted }
+        ensures statement { Gives (λ s. s) result (query_line count (program_size self.old.program + asked) self.old.known line.now) }
+        ensures bound { IfOk result (λ s. asked + statement_size s ≤ most_counted) }
+        ensures known { IfOk result (λ s. self.new ≡ record self.old { known = with_atoms self.old.known (statement_atoms s) }) }
+    {
+        let used = self.draft.used() + asked;
+        query_line(self.alloc, line, count, used, &mut self.known)
+    }
+
+    /// The program.
+    pub fn into_program(self) -> Program
+        ensures { result ≡ self.program }
+    {
+        let Reader {
+            alloc: _,
+            stage: _,
+            draft,
+            known,
+        } = self;
+        mem::drop(known);
+        draft.into_program()
+    }
+
+    /// Why a text is refused that ends here, as the line with this number.
+    pub fn unfinished(&self, number: u32) -> ReadError
+        ensures { result ≡ unfinished number self.now.stage }
+    {
+        match self.stage {
+            Stage::Start => ReadError::Refused(missing(FaultKind::Empty), number),
+            _ => ReadError::Refused(missing(FaultKind::NoEnd), number),
+        }
+    }
 }
 
 fn stage_after(statement: &Statement) -> Stage
@@ -72,6 +123,8 @@ fn stage_after(statement: &Statement) -> Stage
 
 impl Judge for Reader {
     ghost use Rattle.asp_read.specs.Outcome.{aspif};
+
+    type Parsed = Program;
 
     ghost format = { aspif };
 

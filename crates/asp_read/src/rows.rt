@@ -6,7 +6,8 @@ ghost use Rattle.asp_model.specs.declared.program.Head.TheVariants.{One, Choice}
 ghost use Rattle.asp_model.specs.declared.program.Body.TheVariants.{All, AtLeast};
 ghost use Rattle.asp_read.specs.Sizes.{empty_program};
 ghost use Rattle.asp_read.specs.Outcome.{outcome};
-ghost use Rattle.asp_read.specs.Rows.{after_header, refused, rule_program};
+ghost use Rattle.asp_read.specs.Queries.{series_outcome};
+ghost use Rattle.asp_read.specs.Rows.{after_header, asks_nothing_of, refused, refused_series, rule_program};
 
 use crate::fault::FaultKind;
 
@@ -63,4 +64,19 @@ pub fn accepted_lines()
     ensures normal { outcome (after_header (codes "1 0 1 1 0 1 -2")) ≡ Ok (rule_program (record { head = One 1; body = All (negsuc 1 ∷ []) })) }
     ensures text { outcome (after_header (codes "4 3 a b 0")) ≡ Ok (record empty_program { outputs = record { text = codes "a b"; condition = [] } ∷ [] }) }
     ensures empty_text { outcome (after_header (codes "4 0  0")) ≡ Ok (record empty_program { outputs = record { text = []; condition = [] } ∷ [] }) }
+{}
+
+/// Texts with queries.
+#[tactic(auto, unfolding(crate::specs::Judging::outcome_from, crate::specs::Judging::judge_all, crate::specs::Statements::header_at, crate::specs::Statements::statement_with, crate::specs::Statements::of_kind, crate::specs::Queries::query_line, crate::specs::Queries::query_at, crate::specs::Fields::many_at, crate::specs::Fields::count_at, crate::specs::Fields::literal_at))]
+pub fn queries()
+    ensures none { series_outcome (codes "asp 1 0 0\n0\n0\n") ≡ asks_nothing_of [] }
+    ensures two { series_outcome (codes "asp 1 0 0\n0\n6 1 7\n10 x\n\n6 2 -7 8\n0") ≡ asks_nothing_of ((pos 7 ∷ []) ∷ (negsuc 6 ∷ pos 8 ∷ []) ∷ []) }
+    ensures empty { series_outcome (codes "asp 1 0 0\n0\n6 0\n0\n") ≡ asks_nothing_of ([] ∷ []) }
+    ensures missing { series_outcome (codes "asp 1 0 0\n0\n6 1 7\n") ≡ refused_series 4 1 FaultKind.NoEnd }
+    ensures short { series_outcome (codes "asp 1 0 0\n0\n6 2 7\n0\n") ≡ refused_series 3 4 (FaultKind.Integer (negsuc 2147483646) (pos 2147483647) NotNumber) }
+    ensures rule { series_outcome (codes "asp 1 0 0\n0\n1 0 0 0 0\n0\n") ≡ refused_series 3 1 (FaultKind.Query (Value (pos 1))) }
+    ensures word { series_outcome (codes "asp 1 0 0\n0\nx\n0\n") ≡ refused_series 3 1 (FaultKind.Query NotNumber) }
+    ensures extra { series_outcome (codes "asp 1 0 0\n0\n6 1 7 8\n0\n") ≡ refused_series 3 4 FaultKind.ExtraFields }
+    ensures after_end { series_outcome (codes "asp 1 0 0\n0\n0\n10 x\n") ≡ refused_series 4 1 FaultKind.AfterEnd }
+    ensures no_header { series_outcome [] ≡ refused_series 1 1 FaultKind.Empty }
 {}

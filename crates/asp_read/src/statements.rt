@@ -21,7 +21,8 @@ use asp_model::seq::Seq;
 use asp_text::{Num, is_digits, read_int, split_field, split_int};
 use std::alloc::{AllocError, Global};
 
-fn literals<'a>(
+/// A count and as many literals, where so much was counted before.
+pub fn literals<'a>(
     alloc: Global,
     line: &'a [u8],
     used: u32,

@@ -1,4 +1,4 @@
-// A program from a source, in whatever pieces its reads come.
+// What a source's text says, in whatever pieces its reads come.
 ghost use Rattle.std.specs.Prelude.{◌≡◌, ◌+◌, ◌++◌, ◌≤◌, ◌<◌, List, ℕ, [], length, None, Ok, Err, IfOk, IfErr, IfSome, OnOk, IsErrOf};
 ghost use Rattle.asp_text.specs.Lines.{cut};
 ghost use Rattle.asp_text.specs.Unread.{most_bytes};
@@ -47,7 +47,7 @@ fn judge_lines<J: Judge>(lines: &mut Lines, reader: &mut J) -> Result<(), ReadEr
 }
 
 // The end of the text, where no line feed is left.
-fn finish<J: Judge>(lines: &mut Lines, mut reader: J) -> Result<Program, ReadError>
+fn finish<J: Judge>(lines: &mut Lines, mut reader: J) -> Result<J::Parsed, ReadError>
     requires { cut lines.old.bytes ≡ None }
     ensures text { (room : ℕ) → ReadGives result (outcome_on J.format lines.old reader room []) }
     ensures of_lines { IfErr result IsOfLines }
@@ -121,14 +121,14 @@ fn read_all<S: Source, J: Judge>(
     }
 }
 
-// The program of what the source gives, at most so many bytes of it.
+// What the text says that the source gives, at most so many bytes of it.
 fn read_within<S: Source, J: Judge>(
     alloc: Global,
     source: &mut S,
     mut reader: J,
     limit: u32,
     buf: &mut [u8],
-) -> Result<Program, ReadError>
+) -> Result<J::Parsed, ReadError>
     requires start { reader ≡ J.format.start }
     requires limit { limit ≤ most_bytes }
     requires buf { 0 < length buf.old }
@@ -150,21 +150,21 @@ fn read_within<S: Source, J: Judge>(
 }
 
 /// The greatest length of a text.
-const MOST_BYTES: u32 = 268_435_456;
+pub const MOST_BYTES: u32 = 268_435_456;
 
-/// The program of what a source gives, to its end, whose lines this reader judges. No read follows the first fault:
+/// What the text says that a source gives, to its end, whose lines this reader judges. No read follows the first fault:
 /// after a refusal the source stands where the read left it that brought the fault's line feed, or the end.
 pub fn read_by<S: Source, J: Judge>(
     alloc: Global,
     source: &mut S,
     reader: J,
-) -> Result<Program, ReadError>
+) -> Result<J::Parsed, ReadError>
     requires { reader ≡ J.format.start }
     // Where the source tells its bytes, the outcome of all of them, unless memory ran out or a read failed.
     ensures text { IfSome (S.left source.old) (λ text. ReadsText result (outcome_by J.format text)) }
     // Where it doesn't, the outcome of some text.
     ensures some_text { (text : List ℕ) × ReadsText result (outcome_by J.format text) }
-    // A program comes only at the end of the input.
+    // It comes only at the end of the input.
     ensures end { OnOk result (IsAtEnd (S.left source.new)) }
     ensures later { S.faults source.old ≤ S.faults source.new }
     // The source stands right behind what was read, and the last read decided.

@@ -61,7 +61,7 @@ at_end number Ended p = Ok p
 at_end number stage p = Err (Refused (missing fault.NoEnd) number)
 
 -- smodels, as a format whose lines are judged one by one
-abbrev pub smodels : Format Seen
+abbrev pub smodels : Format Seen Program
 smodels = record { start = nothing_seen; after_line = judge_line; at_end = λ number seen. at_end number seen.stage seen.program }
 
 abbrev pub smodels_outcome : List ℕ → Result Program ReadError

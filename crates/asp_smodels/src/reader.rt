@@ -135,6 +135,8 @@ fn line_of(
 impl Judge for Reader {
     ghost use Rattle.asp_smodels.specs.Outcome.{smodels};
 
+    type Parsed = Program;
+
     ghost format = { smodels };
 
     fn judge(&mut self, line: &[u8]) -> Result<(), LineError> {

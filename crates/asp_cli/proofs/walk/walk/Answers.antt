@@ -11,6 +11,7 @@ loop-word-preserved c = record {
   crew = c.in_ok-state.ensures.crew c.loop-word.invariant.crew;
   parts = c.in_ok-state.ensures.parts c.loop-word.invariant.parts;
   apart = c.in_ok-state.ensures.apart c.loop-word.invariant.apart;
+  asking = c.in_ok-state.ensures.asking c.loop-word.invariant.asking;
 }
 
 pub returns-in_err-state-clause-value : goal.returns-in_err-state-clause-value

@@ -1,6 +1,6 @@
 use Rattle.std.proofs.Common.{◌≡◌, drop, map}
 use Rattle.std.specs.Prelude.{IfSome, string_bytes}
-use Rattle.asp_cli.specs.Found.{AreApart, start}
+use Rattle.asp_cli.specs.Found.{AreApart, AreAsking, start}
 use Rattle.asp_cli.specs.Given.{walked}
 use Rattle.asp_cli.specs.Values.{IsCrew, IsPartCount, IsRing}
 use Rattle.asp_cli.proofs.walk.walk.Given as goal
@@ -12,4 +12,5 @@ invariant-loop-word l = record {
   crew : IfSome l.state.found.workers IsCrew;
   parts : IsPartCount l.state.found.split;
   apart : AreApart l.state.found;
+  asking : AreAsking l.state.found;
 }

@@ -53,3 +53,6 @@ returns-in-Empty g c = rw c.in-Empty.is c.write-in-Empty.ensures
 
 pub returns-in-Projection : goal.returns-in-Projection
 returns-in-Projection g c = rw c.in-Projection.is c.write-in-Projection.ensures
+
+pub returns-in-Queries : goal.returns-in-Queries
+returns-in-Queries g c = rw c.in-Queries.is c.write-in-Queries.ensures

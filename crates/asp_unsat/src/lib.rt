@@ -1,0 +1,5 @@
+//! Which of the literals that answers have to meet no stable model has together.
+#![tactic(auto)]
+
+pub mod blamed;
+pub mod laws;

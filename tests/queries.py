@@ -1,0 +1,115 @@
+#!/usr/bin/env python3
+"""Compares a series of queries with the plain reference, on random small programs.
+
+    queries.py PROGRAM [COUNT [SEED]]     (PROGRAM may have words after it: "build/aspenum --core-min")
+
+Each program has five queries. What is written for a query has to be what the reference says of the program with the
+query's literals assumed; in an optimisation the closing lines, cost and count. There has to be a core exactly where there is
+no answer: some of the program's assumptions and the query's literals, by ascending atoms and each once, such that the program
+without its own assumptions and with these has no answer. A core that is called minimal must have answers without each of its
+literals, and with --core-min each has to be.
+"""
+import random
+import sys
+
+import compare
+import reference
+
+
+def queries(random_, text):
+    atoms = [int(line.split()[-1]) for line in text.split("\n") if line.startswith("4 ")] + [31]
+    return [compare.literals(random_, atoms, 4) for _ in range(5)]
+
+
+def statement(query):
+    return " ".join(map(str, [6, len(query), *query])) + "\n"
+
+
+def with_assumed(text, literals):
+    return text.removesuffix("0\n") + statement(literals) + "0\n"
+
+
+def without_assumptions(text):
+    return "".join(line + "\n" for line in text.split("\n")[:-1] if not line.startswith("6 "))
+
+
+def assumptions(text):
+    return [int(number) for line in text.split("\n") if line.startswith("6 ") for number in line.split()[2:]]
+
+
+def has_answer(text, literals):
+    return any(True for _ in reference.answers(reference.read(with_assumed(text, literals))))
+
+
+def core_fault(text, query, line, minimal_asked):
+    word, _, numbers = line.partition(":")
+    core = [int(number) for number in numbers.split()]
+    bare = without_assumptions(text)
+    if not set(core) <= set(assumptions(text) + query):
+        return "a literal that wasn't asked"
+    if core != sorted(set(core), key=lambda literal: (abs(literal), literal)):
+        return "not in order"
+    if has_answer(bare, core):
+        return "no core"
+    if (word == "Minimal core") != minimal_asked:
+        return "said to be " + word
+    if minimal_asked and not all(has_answer(bare, [other for other in core if other != literal]) for literal in core):
+        return "not minimal"
+    return None
+
+
+def pieces(whole):
+    """What is written for each query."""
+    found = whole.split("Query: ")
+    assert found[0] == ""
+    return [piece.partition("\n") for piece in found[1:]]
+
+
+def differs(program, text, asked, mode):
+    words = ["--mode", mode, "--queries"]
+    source = text + "".join(map(statement, asked)) + "0\n"
+    done = compare.run(program + words, source)
+    told = pieces(done.stdout.decode())
+    if [number for number, _, _ in told] != ["1", "2", "3", "4", "5"]:
+        return f"{len(told)} queries answered, status {done.returncode}, {done.stderr.decode()}"
+    any_model = False
+    promised = compare.MODES[mode][1]
+    for query, (number, _, body) in zip(asked, told):
+        lines = body.split("\n")
+        cores = [line for line in lines if "ore:" in line.partition(" ")[0] or line.startswith("Minimal core:")]
+        results = body if not cores else body[: body.index(cores[0])]
+        wanted = compare.wanted_of(with_assumed(text, query), mode)
+        if promised(results) != promised(wanted):
+            return f"query {number}: {results!r}, not {wanted!r}"
+        refuted = wanted.startswith("UNSATISFIABLE")
+        any_model = any_model or not refuted
+        if len(cores) != refuted:
+            return f"query {number}: {len(cores)} cores"
+        if refuted:
+            fault = core_fault(text, query, cores[0], "--core-min" in program)
+            if fault:
+                return f"query {number}: {cores[0]}: {fault}"
+    if done.returncode != (30 if any_model else 20):
+        return f"status {done.returncode}"
+    return None
+
+
+def main():
+    program = sys.argv[1].split()
+    count = int(sys.argv[2]) if len(sys.argv) > 2 else 100
+    random_ = random.Random(int(sys.argv[3]) if len(sys.argv) > 3 else 1)
+    different = 0
+    for _ in range(count):
+        text = compare.program(random_)
+        asked = queries(random_, text)
+        for mode in ("enum", "opt"):
+            fault = differs(program, text, asked, mode)
+            if fault:
+                different += 1
+                print(f"{mode}: {fault}\n{text}{''.join(map(statement, asked))}0\n")
+    print(f"{count} programs with 5 queries each: {different} differ")
+    return different != 0
+
+
+if __name__ == "__main__":
+    sys.exit(main())
