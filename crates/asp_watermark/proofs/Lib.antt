@@ -1,0 +1,4 @@
+pub mod BelowLaws
+pub mod LeafLaws
+pub mod FloorLaws
+pub mod PartLaws
