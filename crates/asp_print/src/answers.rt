@@ -1,5 +1,5 @@
 //! The lines of the answers.
-ghost use Rattle.std.specs.Prelude.{◌≡◌, ◌++◌, ◌+◌, ◌<◌, ◌||◌, map, codes, decimal, IfOk, IfSome, false};
+ghost use Rattle.std.specs.Prelude.{◌≡◌, ◌++◌, ◌+◌, ◌^◌, ◌<◌, ◌||◌, length, map, codes, decimal, IfOk, IfSome, false};
 ghost use Rattle.std.specs.Option.{ForSome};
 ghost use Rattle.asp_model.specs.Sets.{IsAscending};
 ghost use Rattle.asp_rows.specs.Listed.{AreRows};
@@ -212,23 +212,25 @@ pub(crate) fn put_set<K: Sink>(
     put_set_shown(sink, waiting, program, set)
 }
 
-// Puts out the lines of the answers, numbered from 1.
-fn put_each<K: Sink>(
+/// Puts out the lines of the answers, of which the first has this number.
+pub(crate) fn put_each<K: Sink>(
     sink: &mut K,
     waiting: &mut Waiting,
     program: &Program,
     table: Option<&OutputTable>,
+    first: u64,
     atoms: &[Atom],
     rows: &[Row],
 ) -> Result<(), Failed>
     requires ascending { IsAscending atoms.now }
     requires rows { AreRows atoms.now rows.now }
     requires table { ForSome table (λ t. IsTableBy 32 atoms.now program.now.outputs t.now) }
+    requires room { first + length rows.now < 2 ^ 64 }
     ensures { Puts (out (K.held sink.old) (K.faults sink.old) waiting.old)
         (out (K.held sink.new) (K.faults sink.new) waiting.new) result
-        (answers_from program.now 1 (map (λ row. row.set) rows.now)) }
+        (answers_from program.now first (map (λ row. row.set) rows.now)) }
 {
-    let mut number = 1;
+    let mut number = first;
     for row in rows {
         put_answer(sink, waiting, program, table, number, atoms, row)?;
         number += 1;
@@ -266,6 +268,7 @@ pub(crate) fn put_answers<K: Sink>(
         waiting,
         program,
         table.as_ref(),
+        1,
         atoms,
         answers.as_slice(),
     )

@@ -31,7 +31,7 @@ fn count_of_bests(results: &Results<Sets>) -> usize
     }
 }
 
-fn verdict(end: End, mode: Mode, count: usize) -> &'static [u8]
+pub(crate) fn verdict(end: End, mode: Mode, count: usize) -> &'static [u8]
     ensures { result.now ≡ verdict end mode count }
 {
     match (end, mode) {
@@ -247,7 +247,7 @@ fn put_mark<K: Sink>(sink: &mut K, waiting: &mut Waiting, end: End) -> Result<()
     put(sink, waiting, b"\n")
 }
 
-fn put_models<K: Sink>(
+pub(crate) fn put_models<K: Sink>(
     sink: &mut K,
     waiting: &mut Waiting,
     end: End,
