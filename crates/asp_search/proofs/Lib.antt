@@ -12,3 +12,4 @@ pub mod BesideLaws
 pub mod FaultLaws
 pub mod OpenLaws
 pub mod CoverLaws
+pub mod SureLaws

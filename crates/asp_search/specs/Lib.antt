@@ -3,3 +3,4 @@ pub mod Meeting
 pub mod Blocking
 pub mod Beside
 pub mod Stepping
+pub mod Sure
