@@ -63,8 +63,6 @@ returns-in_err-next-clause-says g c =
     let p = c.args.compiled.now in
     let k = known_with p c.avoided-listed.result.now c.args.rows.now.items c.args.bound.now in
     let known = known_with p c.avoided-listed.result.now c.lines.rows.items c.args.bound.now in
-    let at_first = ap (λ (Ss : List Atoms). known_with p Ss c.args.rows.now.items c.args.bound.now) c.avoided-listed.ensures ∙ c.requires.known in
-    let number = length c.args.answers.now + c.lines.at + 3 in
     let h = rw (c.in-Right.is, c.line-bytes.ensures) at c.in_ok-came_to.ensures in
     let e = err_from_is_err_and c.from_residual-in_err-next.result c.from_residual-in_err-next.ensures.1 in
     rw (e.1, e.2) (so_far_failed p c.args.opt c.args.answers.now k known c.lines.whole c.lines.at (g.S.Source.left c.args.source.now) (g.S.Source.left c.lines.source) (g.S.Source.left c.next_line.new.source) _ c.lines.reader c.next_line.new.reader h.0 c.in_err-next.field-0.0 c.lines.invariant.so_far h.1 c.in_err-next.ensures.next)
@@ -89,8 +87,6 @@ lines-preserved g c =
     let p = c.args.compiled.now in
     let k = known_with p c.avoided-listed.result.now c.args.rows.now.items c.args.bound.now in
     let known = known_with p c.avoided-listed.result.now c.lines.rows.items c.args.bound.now in
-    let at_first = ap (λ (Ss : List Atoms). known_with p Ss c.args.rows.now.items c.args.bound.now) c.avoided-listed.ensures ∙ c.requires.known in
-    let number = length c.args.answers.now + c.lines.at + 3 in
     let h = rw (c.in-Right.is, c.line-bytes.ensures) at c.in_ok-came_to.ensures in
     let now = known_with p c.avoided-listed.result.now c.read_line.new.rows.items c.args.bound.now in
     record {
