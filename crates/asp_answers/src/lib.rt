@@ -50,12 +50,13 @@ fn read(alloc: Global, text: &[u8]) -> Result<Program, ReadError>
 
 // Searches for all answers of a compiled program, by one search in this thread.
 fn search(alloc: Global, compiled: &Compiled) -> Result<Report, AllocError>
-    ensures { IfOk result (IsReport compiled.now (record { mode = Enum; models = 0; all_optima = false }) BUDGET) }
+    ensures { IfOk result (IsReport compiled.now (record { mode = Enum; models = 0; all_optima = false; by_name = false }) BUDGET) }
 {
     let ask = Ask {
         mode: Mode::Enum,
         models: 0,
         all_optima: false,
+        by_name: false,
     };
     let mut counts = Counts::new();
     solve_alone(
@@ -71,7 +72,7 @@ fn search(alloc: Global, compiled: &Compiled) -> Result<Report, AllocError>
 
 // The answers that a report lists, if they are all.
 fn listed(alloc: Global, report: &Report) -> Result<Option<Vec<Interp>>, AllocError>
-    ensures { (p : Program) → IsReport p (record { mode = Enum; models = 0; all_optima = false }) BUDGET report.now → IfOk result (λ found. IfSome found (λ sets. sets.items ≡ answers p)) }
+    ensures { (p : Program) → IsReport p (record { mode = Enum; models = 0; all_optima = false; by_name = false }) BUDGET report.now → IfOk result (λ found. IfSome found (λ sets. sets.items ≡ answers p)) }
 {
     match report.results.end {
         End::Finished => {

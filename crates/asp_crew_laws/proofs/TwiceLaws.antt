@@ -32,7 +32,7 @@ use Rattle.asp_crew_laws.proofs.PlayedLaws.{at-limit, closed-by, is-board, liste
 use Rattle.asp_crew_laws.proofs.TieLaws.{not-above, ties-optima}
 
 abbrev all_of : ℕ → Ask
-all_of n = record { mode = Opt; models = n; all_optima = true }
+all_of n = record { mode = Opt; models = n; all_optima = true; by_name = false }
 
 -- the second search's task
 abbrev ties_task : Program → ℕ → Report → List ℤ → Task

@@ -46,6 +46,9 @@ pub struct Ask {
     pub models: u64,
     /// Whether an optimisation lists every answer that none betters. The other modes take no notice of it.
     pub all_optima: bool,
+    /// Whether of consequences those atoms alone are asked for that are an output's one positive literal. The other modes take no notice
+    /// of it.
+    pub by_name: bool,
 }
 
 impl Ask {
