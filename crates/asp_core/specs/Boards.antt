@@ -1,12 +1,12 @@
 -- The board of a search: the tree of paths with its leaves, what was recorded, and the units of work.
-use Rattle.std.specs.Prelude.{◌≡◌, ℕ, ◌==◌, nat_le, Bool, true, false, not, ◌&&◌, if◌then◌else◌, List, [], ◌∷◌, ◌++◌, map, fold, length, Option, Some, None, ℤ}
+use Rattle.std.specs.Prelude.{◌≡◌, ℕ, ◌==◌, nat_le, Bool, true, false, not, ◌&&◌, if◌then◌else◌, List, [], ◌∷◌, ◌++◌, filter, map, fold, length, Option, Some, None, ℤ}
 use Rattle.asp_model.specs.declared.program.Program.{Program}
 use Rattle.std.specs.List.{list_any, AllByRecursion}
 use Rattle.asp_model.specs.Sets.{Atoms, has, same_set}
 use Rattle.asp_model.specs.Holding.{atom_of, all_hold}
 use Rattle.asp_model.specs.Models.{is_stable, atoms_of}
 use Rattle.asp_model.specs.Costs.{cost, betters}
-use Rattle.asp_model.specs.Consequences.{used_up, common_sets, consequences_of}
+use Rattle.asp_model.specs.Consequences.{used_up, common_sets, consequences_of, told_set}
 use Rattle.asp_model.specs.declared.results.Reasoning.{Reasoning}
 use Rattle.asp_vars.specs.Knowing.{Knowing}
 use Rattle.asp_vars.specs.Numbering.{literal_of}
@@ -45,25 +45,25 @@ abbrev pub start : Task → Board
 start t = record { task = t; nodes = root (map (literal_of t.program) (wanted t)); answers = []; best = None; pool = t.budget; out = []; burnt = 0; reasons = [] }
 
 -- ---- what each goal asks
--- the goal of a mode's first search
-abbrev pub goal_of : Mode → Goal
-goal_of mode.Enum = goal.Enum
-goal_of mode.Opt = goal.Opt
-goal_of (mode.Consequences r) = goal.Consequences r
+-- the goal of a mode's first search; `n` says whether consequences are asked for by name
+abbrev pub goal_of : Mode → Bool → Goal
+goal_of mode.Enum n = goal.Enum
+goal_of mode.Opt n = goal.Opt
+goal_of (mode.Consequences r) n = goal.Consequences r n
 
 -- which consequences are sought, if any are
 abbrev pub sought : Goal → Option Reasoning
 sought goal.Enum = None
 sought goal.Opt = None
 sought (goal.Ties c) = None
-sought (goal.Consequences r) = Some r
+sought (goal.Consequences r n) = Some r
 
 -- whether the answer may be delivered: the goal lists it, or seeks what answers have in common
 abbrev pub lists_by : Goal → Program → Atoms → Bool
 lists_by goal.Enum p S = true
 lists_by goal.Opt p S = false
 lists_by (goal.Ties c) p S = not (costs_bound p c S)
-lists_by (goal.Consequences r) p S = true
+lists_by (goal.Consequences r n) p S = true
 
 abbrev pub lists : Task → Atoms → Bool
 lists t S = lists_by t.goal t.program S
@@ -73,7 +73,7 @@ abbrev pub optimises : Goal → Bool
 optimises goal.Enum = false
 optimises goal.Opt = true
 optimises (goal.Ties c) = false
-optimises (goal.Consequences r) = false
+optimises (goal.Consequences r n) = false
 
 -- the cost that an answer must be smaller than to be of use
 abbrev pub bound_by : Goal → Program → Option Atoms → Option (List ℤ)
@@ -81,7 +81,7 @@ bound_by goal.Enum p best = None
 bound_by goal.Opt p None = None
 bound_by goal.Opt p (Some S) = Some (cost p S)
 bound_by (goal.Ties c) p best = c
-bound_by (goal.Consequences r) p best = None
+bound_by (goal.Consequences r n) p best = None
 
 abbrev pub bound_of : Board → Option (List ℤ)
 bound_of b = bound_by b.task.goal b.task.program b.best
@@ -92,14 +92,43 @@ IsBoundBy goal.Enum p best c = ⊥
 IsBoundBy goal.Opt p None c = ⊥
 IsBoundBy goal.Opt p (Some S) c = betters c (cost p S) ≡ false
 IsBoundBy (goal.Ties bound) p best c = bound ≡ Some c
-IsBoundBy (goal.Consequences r) p best c = ⊥
+IsBoundBy (goal.Consequences r n) p best c = ⊥
 
 abbrev pub IsBoundOf : Board → List ℤ → Type 0
 IsBoundOf b c = IsBoundBy b.task.goal b.task.program b.best c
 
+-- ---- consequences by name
+-- the program's atoms that stand in the condition of an output: by name these alone are asked for
+abbrev pub output_atoms : Program → Atoms
+output_atoms p = filter (λ a. list_any (λ o. list_any (λ l. atom_of l == a) o.condition) p.outputs) (atoms_of p)
+
+-- the set that shows exactly the program's other atoms
+abbrev pub unasked : Reasoning → Program → Atoms
+unasked r p = told_set r p (output_atoms p)
+
+-- The set counts from the first answer on.
+abbrev pub beside : Atoms → List Atoms → List Atoms
+beside T [] = []
+beside T (S ∷ K) = T ∷ S ∷ K
+
+-- the sets that show something where these answers are known: by name what isn't asked for counts as shown
+abbrev pub showing_by : Bool → Reasoning → Program → List Atoms → List Atoms
+showing_by false r p K = K
+showing_by true r p K = beside (unasked r p) K
+
+abbrev pub showing : Goal → Program → List Atoms → List Atoms
+showing goal.Enum p K = K
+showing goal.Opt p K = K
+showing (goal.Ties c) p K = K
+showing (goal.Consequences r n) p K = showing_by n r p K
+
+-- the same of a board
+abbrev pub showing_of : Board → List Atoms
+showing_of b = showing b.task.goal b.task.program b.answers
+
 -- the stable models that need not be found again: those listed, or where consequences are sought those that show nothing beside them
 abbrev pub used : Board → List Atoms
-used b = used_up (sought b.task.goal) b.task.program b.answers
+used b = used_up (sought b.task.goal) b.task.program (showing_of b)
 
 -- whether what was recorded makes the set of no use: it need not be found again, or costs no less than the bound
 abbrev pub is_excused : Board → Atoms → Bool
@@ -122,7 +151,7 @@ count_by None p K = length (distinct K)
 count_by (Some r) p K = length (common_sets r p K)
 
 abbrev pub known_count : Board → ℕ
-known_count b = count_by (sought b.task.goal) b.task.program b.answers
+known_count b = count_by (sought b.task.goal) b.task.program (showing_of b)
 
 -- what a search for consequences takes over; nothing where none are sought
 abbrev pub known_by : Option Reasoning → Program → List Atoms → Option Knowing
@@ -130,7 +159,7 @@ known_by None p K = None
 known_by (Some r) p K = Some (record { program = p; reasoning = r; sets = common_sets r p K })
 
 abbrev pub known_of : Board → Option Knowing
-known_of b = known_by (sought b.task.goal) b.task.program b.answers
+known_of b = known_by (sought b.task.goal) b.task.program (showing_of b)
 
 -- what was found, for the report: the list of the answers, but where consequences are sought; and these
 abbrev pub listed_by : Option Reasoning → List Atoms → List Atoms

@@ -18,7 +18,7 @@ use Rattle.asp_core.specs.declared.goal.Goal.{Goal}
 use Rattle.asp_core.specs.declared.goal.Goal.TheVariants as goal
 use Rattle.asp_core.specs.Units.{total_out}
 use Rattle.asp_core.specs.declared.task.Task.{Task}
-use Rattle.asp_core.specs.Boards.{Board, wanted, is_answer, lists, optimises, distinct, is_excused}
+use Rattle.asp_core.specs.Boards.{Board, wanted, is_answer, lists, optimises, distinct, is_excused, showing_by}
 use Rattle.asp_core.specs.Sorting.{sorted_once, answers_of}
 use Rattle.asp_core.specs.Events.{held_by, IsVariable}
 
@@ -68,6 +68,6 @@ HasResult goal.Enum b = sorted_once b.answers ≡ answers_of b.task
 -- They are the answers below the cost.
 HasResult (goal.Ties c) b = sorted_once b.answers ≡ filter (lists b.task) (answers_of b.task)
 -- They have in common what the answers have.
-HasResult (goal.Consequences r) b = consequences_of r b.task.program b.answers ≡ consequences_of r b.task.program (answers_of b.task)
+HasResult (goal.Consequences r n) b = consequences_of r b.task.program (showing_by n r b.task.program b.answers) ≡ consequences_of r b.task.program (showing_by n r b.task.program (answers_of b.task))
 -- None betters the best; there is none where no answer is.
 HasResult goal.Opt b = MatchOption b.best ((S : Atoms) → is_answer b.task S ≡ false) (IsOptimum b.task)

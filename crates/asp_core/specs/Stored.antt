@@ -13,7 +13,8 @@ use Rattle.asp_rows.specs.declared.row.Row.{Row}
 use Rattle.asp_rows.specs.Listed.{AreRows}
 use Rattle.asp_path.specs.Trees.{held_count}
 use Rattle.asp_core.specs.declared.state.State.TheInside.{Inside}
-use Rattle.asp_core.specs.Boards.{Board, known_by, sought}
+use Rattle.asp_core.specs.declared.goal.Goal.{Goal}
+use Rattle.asp_core.specs.Boards.{Board, known_by, showing, sought}
 use Rattle.asp_core.specs.Invariant.{IsBoard}
 use Rattle.asp_core.specs.Sorting.{sorted_once, with_set}
 
@@ -35,9 +36,9 @@ board_of s = record {
 }
 
 -- Where consequences are sought none is listed, and what the answers told have in common and the program's atoms are there.
-abbrev pub IsSeen : Option Reasoning → Program → Option Knowing → List Atoms → List Atoms → Atoms → Type 0
-IsSeen None p known listed told atoms = known ≡ None
-IsSeen (Some r) p known listed told atoms = (known ≡ known_by (Some r) p told) × (listed ≡ []) × (atoms ≡ atoms_of p)
+abbrev pub IsSeen : Goal → Option Reasoning → Program → Option Knowing → List Atoms → List Atoms → Atoms → Type 0
+IsSeen g None p known listed told atoms = known ≡ None
+IsSeen g (Some r) p known listed told atoms = (known ≡ known_by (Some r) p (showing g p told)) × (listed ≡ []) × (atoms ≡ atoms_of p)
 
 -- Rows among these atoms, sorted, of the different ones among these sets.
 pub record AreDifferent (atoms : Atoms) (kept : List Row) (sets : List Atoms) : Type 0 where
@@ -56,7 +57,7 @@ pub record IsState (s : Inside) : Type 0 where
   pub costed : IfSome s.best (λ x. x.1 ≡ cost s.program.value x.0)
   -- With a limit, the different answers stand in a sorted set.
   pub sorted : 0 < s.limit → AreDifferent (atoms_of s.program.value) s.different.keys (answers_in (sought s.goal) s.answers.sets s.told.items)
-  pub seen : IsSeen (sought s.goal) s.program.value s.known s.answers.sets s.told.items s.atoms.items
+  pub seen : IsSeen s.goal (sought s.goal) s.program.value s.known s.answers.sets s.told.items s.atoms.items
   -- The answers are rows among the program's atoms.
   pub among : s.answers.atoms ≡ atoms_of s.program.value
   -- There is a free place for the reason of each held leaf.

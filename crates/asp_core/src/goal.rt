@@ -14,19 +14,19 @@ pub enum Goal {
     Opt,
     /// Every answer below a cost, where one is given.
     Ties(Option<Cost>),
-    /// What holds in some answer, or in every one.
-    Consequences(Reasoning),
+    /// What holds in some answer, or in every one; and whether the atoms of outputs alone are asked for.
+    Consequences(Reasoning, bool),
 }
 
 impl Goal {
-    /// The goal of a mode's first search.
-    pub fn of(mode: Mode) -> Goal
-        ensures { result ≡ goal_of mode }
+    /// The goal of a mode's first search; `by_name` says whether consequences are asked for by name.
+    pub fn of(mode: Mode, by_name: bool) -> Goal
+        ensures { result ≡ goal_of mode by_name }
     {
         match mode {
             Mode::Enum => Goal::Enum,
             Mode::Opt => Goal::Opt,
-            Mode::Consequences(reasoning) => Goal::Consequences(reasoning),
+            Mode::Consequences(reasoning) => Goal::Consequences(reasoning, by_name),
         }
     }
 }

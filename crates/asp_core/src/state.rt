@@ -10,7 +10,7 @@ ghost use Rattle.asp_path.specs.declared.status.Status.TheVariants as status;
 ghost use Rattle.asp_path.specs.Trees.{cube_of, status_of, is_open, all_closed, open_from, held_count, leaf_count};
 ghost use Rattle.asp_core.specs.declared.event.Event.TheVariants as event;
 ghost use Rattle.asp_core.specs.Units.{out_of};
-ghost use Rattle.asp_core.specs.Boards.{common_by, start, known_by, known_of, listed_by, sought, wanted, optimises, is_excused, is_enough, IsQuery};
+ghost use Rattle.asp_core.specs.Boards.{common_by, start, known_by, known_of, listed_by, showing_of, sought, wanted, optimises, is_excused, is_enough, IsQuery};
 ghost use Rattle.asp_core.specs.Events.{Guard, happens, wants_memory};
 ghost use Rattle.asp_core.specs.Invariant.{IsBoard, HasResult};
 ghost use Rattle.asp_core.specs.Stored.{Counts};
@@ -152,7 +152,7 @@ fn nothing_known(
 {
     match goal {
         Goal::Enum | Goal::Opt | Goal::Ties(_) => Ok(None),
-        Goal::Consequences(reasoning) => {
+        Goal::Consequences(reasoning, _) => {
             let known = Known::new(alloc, compiled, *reasoning)?;
             Ok(Some(known))
         }
@@ -165,7 +165,7 @@ fn stated_atoms(alloc: Global, compiled: &Compiled, goal: &Goal) -> Result<Vec<A
 {
     match goal {
         Goal::Enum | Goal::Opt | Goal::Ties(_) => Ok(Vec::new(alloc)),
-        Goal::Consequences(_) => Vec::from_slice(alloc, compiled.atoms().as_slice()),
+        Goal::Consequences(_, _) => Vec::from_slice(alloc, compiled.atoms().as_slice()),
     }
 }
 
@@ -468,7 +468,7 @@ impl State {
     /// the consequences of the answers delivered, where these are sought.
     pub fn into_found(self) -> (Rows, Option<(Interp, Cost)>, Option<Interp>)
         ensures answers { result.0.sets ≡ listed_by (sought self.task.goal) self.answers }
-        ensures known { result.2 ≡ common_by (sought self.task.goal) self.task.program self.answers }
+        ensures known { result.2 ≡ common_by (sought self.task.goal) self.task.program (showing_of self) }
         ensures best { result.1 ≡ option_map (λ S. (S, cost self.task.program S)) self.best }
     {
         let State {

@@ -7,7 +7,7 @@ use Rattle.asp_model.specs.declared.results.Reasoning.{Reasoning}
 use Rattle.asp_model.specs.Consequences.{common_sets, unshown, used_up}
 use Rattle.asp_model.specs.Sets.{Atoms, IsSubset, same_set}
 use Rattle.asp_vars.specs.Entailment.{is_done}
-use Rattle.asp_core.specs.Boards.{Board, IsBoundOf, is_excused, sought}
+use Rattle.asp_core.specs.Boards.{Board, IsBoundOf, is_excused, showing_of, sought}
 
 -- Each answer known was delivered; or where consequences are sought those delivered show all that those known show, of which one set
 -- stands.
@@ -19,7 +19,7 @@ AreRecorded (Some r) p known delivered = IsSubset (unshown r p delivered) (unsho
 -- search may have its bound.
 pub record Agrees (b : Board) (known : List Atoms) (bound : Option (List ℤ)) : Type 0 where
   pub excused : (S : Atoms) → IsTrue (is_done b.task.program (used_up (sought b.task.goal) b.task.program known) bound S) → IsTrue (is_excused b S)
-  pub recorded : AreRecorded (sought b.task.goal) b.task.program known b.answers
+  pub recorded : AreRecorded (sought b.task.goal) b.task.program known (showing_of b)
   pub bounded : IfSome bound (IsBoundOf b)
 
 -- no set stands twice

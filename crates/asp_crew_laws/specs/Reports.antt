@@ -21,7 +21,7 @@ use Rattle.asp_path.specs.Trees.{all_closed, cube_of, status_of, is_unclosed, he
 use Rattle.asp_core.specs.declared.event.Event.{Event}
 use Rattle.asp_core.specs.declared.task.Task.{Task}
 use Rattle.asp_core.specs.Units.{out_of, total_out}
-use Rattle.asp_core.specs.Boards.{Board, IsBoundOf, bound_of, common_by, is_enough, known_count, listed_by, sought, used}
+use Rattle.asp_core.specs.Boards.{Board, IsBoundOf, bound_of, common_by, is_enough, known_count, listed_by, showing, showing_by, showing_of, sought, used}
 use Rattle.asp_core.specs.Events.{replay}
 use Rattle.asp_core.specs.Sorting.{sorted_once}
 use Rattle.asp_book.specs.Books.{IsJournalOf}
@@ -75,7 +75,7 @@ IsWorkedOff b (Some x) = (is_enough b ≡ false) × (b.pool ≡ 0) × ((leaf : �
 pub record IsToldBy (b : Board) (r : Report) : Type 0 where
   pub answers : r.results.answers ≡ sorted_once (listed_by (sought b.task.goal) b.answers)
   pub best : r.results.best ≡ option_map (with_cost b.task.program) b.best
-  pub common : r.results.known ≡ common_by (sought b.task.goal) b.task.program b.answers
+  pub common : r.results.known ≡ common_by (sought b.task.goal) b.task.program (showing_of b)
   pub end : r.results.end ≡ end_of b
   pub leaves : r.leaves ≡ leaf_count b.nodes
   pub spent : r.spent ≡ b.burnt
@@ -111,7 +111,7 @@ pub record IsPlayed (t : Task) (r : Report) : Type 0 where
   pub lawful : IsJournalOf t r.journal
   pub answers : r.results.answers ≡ sorted_once (listed_by (sought t.goal) (board_by t r).answers)
   pub best : r.results.best ≡ option_map (with_cost t.program) (board_by t r).best
-  pub common : r.results.known ≡ common_by (sought t.goal) t.program (board_by t r).answers
+  pub common : r.results.known ≡ common_by (sought t.goal) t.program (showing t.goal t.program (board_by t r).answers)
   pub end : r.results.end ≡ end_of (board_by t r)
   pub leaves : r.leaves ≡ leaf_count (board_by t r).nodes
   pub spent : r.spent ≡ (board_by t r).burnt
@@ -161,25 +161,25 @@ abbrev pub IsPriced : Program → Atoms × List ℤ → Type 0
 IsPriced p best = Contains (answers p) best.0 × (best.1 ≡ cost p best.0)
 
 -- what one search found: in an enumeration some of the answers, each once, in their order; in an optimisation at most one, with its
--- cost; of consequences what is in some, or in each, of some of the answers
-abbrev pub IsPart : Program → Mode → Found → Type 0
-IsPart p Enum r = ((chosen : Atoms → Bool) × (r.answers ≡ filter chosen (answers p))) × (r.best ≡ None)
-IsPart p Opt r = (r.answers ≡ []) × IfSome r.best (IsPriced p)
-IsPart p (Consequences w) r = (r.answers ≡ []) × (r.best ≡ None) × ((chosen : Atoms → Bool) × (r.known ≡ consequences_of w p (filter chosen (answers p))))
+-- cost; of consequences what is in some, or in each, of some of the answers, where by name what isn't asked for counts as shown
+abbrev pub IsPart : Bool → Program → Mode → Found → Type 0
+IsPart n p Enum r = ((chosen : Atoms → Bool) × (r.answers ≡ filter chosen (answers p))) × (r.best ≡ None)
+IsPart n p Opt r = (r.answers ≡ []) × IfSome r.best (IsPriced p)
+IsPart n p (Consequences w) r = (r.answers ≡ []) × (r.best ≡ None) × ((chosen : Atoms → Bool) × (r.known ≡ consequences_of w p (showing_by n w p (filter chosen (answers p)))))
 
 -- The same of a run; where all optima are asked for some of these, each once, in their order.
-abbrev pub IsPartOf : Bool → Program → Mode → Found → Type 0
-IsPartOf false p mode r = IsPart p mode r
-IsPartOf true p Enum r = IsPart p Enum r
-IsPartOf true p (Consequences w) r = IsPart p (Consequences w) r
-IsPartOf true p Opt r = ((chosen : Atoms → Bool) × (r.answers ≡ filter chosen (optima p))) × IfSome r.best (IsPriced p)
+abbrev pub IsPartOf : Bool → Bool → Program → Mode → Found → Type 0
+IsPartOf false n p mode r = IsPart n p mode r
+IsPartOf true n p Enum r = IsPart n p Enum r
+IsPartOf true n p (Consequences w) r = IsPart n p (Consequences w) r
+IsPartOf true n p Opt r = ((chosen : Atoms → Bool) × (r.answers ≡ filter chosen (optima p))) × IfSome r.best (IsPriced p)
 
 -- All that was asked for was found; where all optima are, exactly these, each once, in their order.
-abbrev pub IsAllFound : Bool → Program → Mode → List Atoms → Option (Atoms × List ℤ) → Option Atoms → Type 0
-IsAllFound false p mode L best known = IsFound p mode L best known
-IsAllFound true p Enum L best known = IsFound p Enum L best known
-IsAllFound true p (Consequences w) L best known = IsFound p (Consequences w) L best known
-IsAllFound true p Opt L best known = (L ≡ optima p) × IsBest p best
+abbrev pub IsAllFound : Bool → Bool → Program → Mode → List Atoms → Option (Atoms × List ℤ) → Option Atoms → Type 0
+IsAllFound false n p mode L best known = IsFound n p mode L best known
+IsAllFound true n p Enum L best known = IsFound n p Enum L best known
+IsAllFound true n p (Consequences w) L best known = IsFound n p (Consequences w) L best known
+IsAllFound true n p Opt L best known = (L ≡ optima p) × IsBest p best
 
 -- whether a list of answers is asked for
 abbrev pub asks_list : Bool → Mode → Bool
@@ -198,14 +198,14 @@ pub record IsAsked (p : Program) (ask : Ask) (r : Found) : Type 0 where
   pub listing : asks_list ask.all_optima ask.mode ≡ true
   pub some : 0 < ask.models
   pub count : length r.answers ≡ ask.models
-  pub part : IsPartOf ask.all_optima p ask.mode r
+  pub part : IsPartOf ask.all_optima ask.by_name p ask.mode r
   pub best : HasBest p ask.mode r.best
 
 -- All was found; or as many answers as were asked for; or a part was, and the budget is spent.
 abbrev pub Says : Program → Ask → Report → End → Type 0
-Says p ask r Finished = IsAllFound ask.all_optima p ask.mode r.results.answers r.results.best r.results.known
+Says p ask r Finished = IsAllFound ask.all_optima ask.by_name p ask.mode r.results.answers r.results.best r.results.known
 Says p ask r Limited = IsAsked p ask r.results
-Says p ask r Unfinished = IsPartOf ask.all_optima p ask.mode r.results × (r.paid.left ≡ 0)
+Says p ask r Unfinished = IsPartOf ask.all_optima ask.by_name p ask.mode r.results × (r.paid.left ≡ 0)
 
 -- Each unit spent was burnt for a conflict of the program, by no more answers than were found, and by no bound below the cost of the best.
 -- None was a conflict of a search for consequences where these weren't asked for, and then none are told.

@@ -1,5 +1,5 @@
 -- A number's search and its units, beside the board.
-use Rattle.std.specs.Prelude.{◌≡◌, ◌⊎◌, ℕ, false, List, [], Option, None, Some, ℤ}
+use Rattle.std.specs.Prelude.{◌≡◌, ◌⊎◌, ℕ, Bool, false, List, [], Option, None, Some, ℤ}
 use Rattle.asp_model.specs.declared.results.Mode.{Mode}
 use Rattle.asp_model.specs.declared.results.Mode.TheVariants.{Enum, Opt, Consequences}
 use Rattle.asp_model.specs.Sets.{Atoms}
@@ -11,7 +11,7 @@ use Rattle.asp_core.specs.declared.goal.Goal.{Goal}
 use Rattle.asp_core.specs.declared.goal.Goal.TheVariants as goal
 use Rattle.asp_core.specs.declared.task.Task.{Task}
 use Rattle.asp_core.specs.Units.{out_of}
-use Rattle.asp_core.specs.Boards.{Board, goal_of}
+use Rattle.asp_core.specs.Boards.{Board, goal_of, sought}
 use Rattle.asp_book.specs.Books.{IsJournalOf}
 use Rattle.asp_book.specs.Calls.{Knows}
 use Rattle.asp_book.specs.Fuels.{ComesBack}
@@ -34,11 +34,11 @@ AreApartIn (Consequences r) known = Unit {0}
 abbrev pub IsSought : Mode → Option (List ℤ) → Goal → Type 0
 IsSought Enum bound g = (g ≡ goal.Enum) ⊎ (g ≡ goal.Ties bound)
 IsSought Opt bound g = g ≡ goal.Opt
-IsSought (Consequences r) bound g = g ≡ goal.Consequences r
+IsSought (Consequences r) bound g = sought g ≡ Some r
 
 -- A search in this mode may begin with this bound: with none for the mode's own goal, and among ties with theirs.
 abbrev pub MayBegin : Mode → Option (List ℤ) → Goal → Type 0
-MayBegin mode bound g = ((g ≡ goal_of mode) × (bound ≡ None)) ⊎ ((mode ≡ Enum) × (g ≡ goal.Ties bound))
+MayBegin mode bound g = (((n : Bool) × (g ≡ goal_of mode n)) × (bound ≡ None)) ⊎ ((mode ≡ Enum) × (g ≡ goal.Ties bound))
 
 -- The answers that the search of number n knows, its bound and its units go with the board.
 pub record IsAtWork (b : Board) (n : ℕ) (mode : Mode) (known : List Atoms) (bound : Option (List ℤ)) (u : Units) : Type 0 where

@@ -72,7 +72,7 @@ pub fn two_searches_find_all_optima()
     ensures joined { (p : Program) (models units : ℕ) (first ties : Report) (S : Atoms) (c : List ℤ) → IsReport p (asks Opt models) units first → first.second ≡ None → first.results.end ≡ Finished → first.results.best ≡ Some (S, c)
         → IsJournalOf (ties_of p (asks Opt models) c first.paid.left) ties.journal → IsToldBy (board_by (ties_of p (asks Opt models) c first.paid.left) ties) ties
         → IsReport p (record { mode = Opt; models = models; all_optima = true }) units (joined first ties) }
-    ensures alone { (p : Program) (ask : Ask) (units : ℕ) (r : Report) → IsReport p (asks ask.mode ask.models) units r → r.second ≡ None → IsWhole ask.all_optima r.results.end r.results.best → IsReport p ask units r }
+    ensures alone { (p : Program) (ask : Ask) (units : ℕ) (r : Report) → IsReport p (asks ask.mode ask.models ask.by_name) units r → r.second ≡ None → IsWhole ask.all_optima r.results.end r.results.best → IsReport p ask units r }
 {}
 
 /// A search at work goes with the board still when the board went on and its number's units are as they were; so it does

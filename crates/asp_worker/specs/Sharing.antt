@@ -7,7 +7,7 @@ use Rattle.asp_model.specs.Consequences.{common_sets}
 use Rattle.asp_model.specs.Costs.{betters, cost}
 use Rattle.asp_vars.specs.declared.nogood.Nogood.{Nogood}
 use Rattle.asp_vars.specs.Knowing.{Knowing}
-use Rattle.asp_core.specs.Boards.{Board}
+use Rattle.asp_core.specs.Boards.{Board, showing_of}
 use Rattle.asp_search.specs.Beside.{Adopts, Imports, count_unshown, left_to_show}
 use Rattle.asp_search_laws.specs.Searching.{Searching}
 use Rattle.asp_search_laws.specs.Steps.{is_of_use}
@@ -39,14 +39,14 @@ TakesKnown s t x = MatchBool (is_fewer (count_unshown x.reasoning x.program x.se
 
 -- Whether an answer was delivered, and those delivered leave fewer atoms to be shown than those that the search knows.
 abbrev pub show_more : Reasoning → Board → Searching → Bool
-show_more r b s = is_fewer (count_unshown r b.task.program b.answers) (left_to_show s)
+show_more r b s = is_fewer (count_unshown r b.task.program (showing_of b)) (left_to_show s)
 
 -- In an optimisation the cost of the best is taken over; where consequences are sought what the answers delivered have in common, exactly
 -- where they show more than the search knows.
 abbrev pub TakesBest : Mode → Board → Searching → Searching → Type 0
 TakesBest mode.Enum b s t = t ≡ s
 TakesBest mode.Opt b s t = t ≡ lowered_by (option_map (cost b.task.program) b.best) s
-TakesBest (mode.Consequences r) b s t = MatchBool (show_more r b s) (Adopts s t (common_sets r b.task.program b.answers)) (t ≡ s)
+TakesBest (mode.Consequences r) b s t = MatchBool (show_more r b s) (Adopts s t (common_sets r b.task.program (showing_of b))) (t ≡ s)
 
 -- The nogood was imported, where it counts for the search.
 abbrev pub ImportsIf : Searching → Searching → Nogood → Type 0
