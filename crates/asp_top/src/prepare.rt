@@ -76,8 +76,8 @@ fn seeks_consequences(mode: Option<Mode>) -> bool
     }
 }
 
-// Whether consequences are told by name.
-fn is_named(options: &Options) -> bool
+/// Whether consequences are told by name.
+pub fn is_named(options: &Options) -> bool
     ensures { result ≡ is_named options.now }
 {
     is_settled(options)
