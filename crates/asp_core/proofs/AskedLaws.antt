@@ -1,5 +1,5 @@
 -- What isn't asked for counts as shown: what that changes of the answers known, and what it leaves.
-use Rattle.std.proofs.Common.{◌≡◌, inl, inr, ℕ, ℤ, pos, negsuc, Bool, true, false, not, cond, ◌&&◌, ◌||◌, eqb, List, [], ◌∷◌, ◌++◌, map, flat_map, filter, Option, Some, None, refl, sym, ap, ◌∙◌, subst}
+use Rattle.std.proofs.Common.{◌≡◌, inl, inr, ℕ, ℤ, pos, negsuc, Bool, true, false, not, cond, ◌&&◌, ◌||◌, eqb, List, [], ◌∷◌, ◌++◌, map, flat_map, filter, Some, None, refl, sym, ap, ◌∙◌, subst}
 use Rattle.std.specs.List.{list_any, list_all}
 use Rattle.std.specs.Option.{is_some}
 use Rattle.std.specs.Prelude.{slice_get}
@@ -14,7 +14,7 @@ use Rattle.asp_model.specs.Holding.{all_hold, atom_of, holds}
 use Rattle.asp_model.specs.Models.{atoms_of}
 use Rattle.asp_model.specs.Sets.{Atoms, has, same_set, set_of, IsSubset}
 use Rattle.asp_model.specs.Texts.{shown}
-use Rattle.asp_model.proofs.ConsequenceLaws.{AreAmong, any-same, common-more, consequences-covered, consequences-same, covers-itself, filter-atoms, first-among, has-filter, listed-filter, shows-common, unshown-among}
+use Rattle.asp_model.proofs.ConsequenceLaws.{AreAmong, any-same, common-more, consequences-chosen, consequences-covered, consequences-same, covers-itself, filter-atoms, first-among, has-filter, listed-filter, shows-common, unshown-among}
 use Rattle.asp_model.proofs.MemberLaws.{list_any-flat_map, list_any-map}
 use Rattle.asp_model.proofs.SetLaws.{has-set_of}
 use Rattle.asp_core.specs.declared.goal.Goal.{Goal}
@@ -23,17 +23,6 @@ use Rattle.asp_core.specs.Boards.{beside, output_atoms, showing, showing_by, sou
 use Rattle.asp_core.specs.Stored.{seed_by, seed_of, with_answer}
 
 -- ---- whose members are there
-pub among-showing_by : (n : Bool) (r : Reasoning) (p : Program) (K : List Atoms) → AreAmong K (showing_by n r p K)
-among-showing_by false r p K S h = h
-among-showing_by true r p [] S h = h
-among-showing_by true r p (U ∷ K) S h = or_right (same_set S (unasked r p)) (list_any (same_set S) (U ∷ K)) h
-
-pub among-showing : (g : Goal) (p : Program) (K : List Atoms) → AreAmong K (showing g p K)
-among-showing goal.Enum p K S h = h
-among-showing goal.Opt p K S h = h
-among-showing (goal.Ties c) p K S h = h
-among-showing (goal.Consequences r n) p K S h = among-showing_by n r p K S h
-
 empty-member : (L : List Atoms) (S : Atoms) → L ≡ [] → list_any (same_set S) L ≡ true → ⊥
 empty-member L S e h = false≢true (ap (λ (M : List Atoms). list_any (same_set S) M) (sym e) ∙ h)
 
@@ -74,12 +63,6 @@ sought-none goal.Enum p K e = refl
 sought-none goal.Opt p K e = refl
 sought-none (goal.Ties c) p K e = refl
 sought-none (goal.Consequences r n) p K e = absurd (let f : ⊥ = cc in f)
-
-pub showing-sought : (g : Goal) (r : Reasoning) (p : Program) → sought g ≡ Some r → (n : Bool) × ((K : List Atoms) → showing g p K ≡ showing_by n r p K)
-showing-sought goal.Enum r p e = absurd (let f : ⊥ = cc in f)
-showing-sought goal.Opt r p e = absurd (let f : ⊥ = cc in f)
-showing-sought (goal.Ties c) r p e = absurd (let f : ⊥ = cc in f)
-showing-sought (goal.Consequences w n) r p e = let same : w ≡ r = cc in (n, λ K. ap (λ x. showing_by n x p K) same)
 
 -- ---- one answer more
 push-among : (n : Bool) (r : Reasoning) (p : Program) (K : List Atoms) (S : Atoms) → AreAmong (showing_by n r p K ++ S ∷ []) (showing_by n r p (K ++ S ∷ []))
@@ -127,7 +110,8 @@ showing_by-same n r p K L there back =
 
 -- Those found are as good as what a choice of the answers leaves.
 pub showing_by-chosen : (n : Bool) (r : Reasoning) (p : Program) (K L : List Atoms) → AreAmong K L → consequences_of r p (showing_by n r p K) ≡ consequences_of r p (showing_by n r p (filter (λ S. list_any (same_set S) K) L))
-showing_by-chosen n r p K L among = showing_by-same n r p K (filter (λ S. list_any (same_set S) K) L) in_chosen of_chosen
+showing_by-chosen false r p K L among = consequences-chosen r p K L among
+showing_by-chosen true r p K L among = showing_by-same true r p K (filter (λ S. list_any (same_set S) K) L) in_chosen of_chosen
   where
     in_chosen : AreAmong K (filter (λ S. list_any (same_set S) K) L)
     in_chosen S h = listed-filter (λ T. list_any (same_set T) K) L S ∙ and_from (list_any (same_set S) K) (list_any (same_set S) L) h (among S h)
@@ -159,15 +143,6 @@ showing-common (goal.Consequences w n) r p K S e = let same : w ≡ r = cc in su
 pub answer-first : (r : Reasoning) (p : Program) (K : List Atoms) (T S : Atoms) → is_some (slice_get K 0) ≡ false → common_sets r p (common_sets r p (K ++ T ∷ []) ++ S ∷ []) ≡ common_sets r p (with_answer (Some T) K S)
 answer-first r p [] T S e = common-more r p (T ∷ []) S
 answer-first r p (U ∷ K) T S e = absurd (false≢true (sym e))
-
--- a later one
-pub answer-later : (seed : Option Atoms) (K : List Atoms) (S : Atoms) → (is_some (slice_get K 0) ≡ false → seed ≡ None) → K ++ S ∷ [] ≡ with_answer seed K S
-answer-later None K S e = refl
-answer-later (Some T) [] S e = absurd (some (e refl))
-  where
-    some : Some T ≡ None → ⊥
-    some q = cc
-answer-later (Some T) (U ∷ K) S e = refl
 
 -- ---- what is asked for
 -- whether the atom stands in the condition of one of the outputs
