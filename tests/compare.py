@@ -122,7 +122,7 @@ def with_outputs(text):
     return "\n".join([*kept, *lines[random_.randint(0, 4) :]]) + "\n0\n"
 
 
-def names_differ(aspenum, case, with_clasp):
+def names_differ(aspenum, case):
     """What is wrong with consequences by name, or nothing."""
     text = with_outputs(case.text)
     for mode in ("brave", "cautious"):
@@ -133,9 +133,6 @@ def names_differ(aspenum, case, with_clasp):
         told = json.loads(run([*aspenum, "--mode", mode, "--output", "json"], text).stdout)
         if told.get("Consequences") != (wanted.split("\n")[0].split()[1:] if "FOUND" in wanted else None):
             return f"--mode {mode} --output json differs from the reference:\n{text}"
-        other = clasp_consequences(text, mode) if with_clasp else None
-        if other is not None and other != sorted(set(wanted.split("\n")[0].split()[1:])):
-            print(f"clasp finds other {mode} consequences by name than the reference:\n{text}")
     return None
 
 
@@ -159,7 +156,7 @@ def limit_differs(aspenum, case, mode, limit):
     return None
 
 
-def differs(aspenum, case, with_clasp):
+def differs(aspenum, case):
     """What is wrong with aspenum's answers to a program, or nothing."""
     for mode, (words, part) in MODES.items():
         wanted = wanted_of(case.text, mode)
@@ -169,7 +166,7 @@ def differs(aspenum, case, with_clasp):
         if given.returncode != (20 if "UNSATISFIABLE" in wanted else 30):
             return f"the status is {given.returncode} with {' '.join(words)}"
     if not case.words:
-        wrong = names_differ(aspenum, case, with_clasp)
+        wrong = names_differ(aspenum, case)
         if wrong:
             return wrong
     for mode in ("enum", "optima"):
@@ -224,6 +221,11 @@ def my_consequences(text, mode):
     return None if first == "UNSATISFIABLE" else sorted(f"p({atom})" for atom in first.split()[1:])
 
 
+def my_names(text, mode):
+    first, *rest = wanted_of(text, f"{mode} names").split("\n")
+    return None if first == "UNSATISFIABLE" else sorted(first.split()[1:])
+
+
 def clasp_differs(case):
     """Whether clasp lists other answers than the reference: its own affair, and worth knowing."""
     text, source, _ = case
@@ -246,6 +248,9 @@ def clasp_differs(case):
     for mode in ("brave", "cautious"):
         if clasp_consequences(source, mode) != my_consequences(text, mode):
             return f"clasp finds other {mode} consequences than the reference"
+        named = with_outputs(text)
+        if not case.words and clasp_consequences(named, mode) != my_names(named, mode):
+            return f"clasp finds other {mode} consequences by name than the reference:\n{named}"
     return None
 
 
@@ -267,7 +272,7 @@ def main():
     failed = others = 0
     for number in range(count):
         case = made(random_, "--smodels" in sys.argv)
-        wrong = differs(aspenum, case, with_clasp) or (parts_differ(aspenum, case) if number % 4 == 0 else None)
+        wrong = differs(aspenum, case) or (parts_differ(aspenum, case) if number % 4 == 0 else None)
         failed += 1 if wrong else 0
         other = clasp_differs(case) if with_clasp else None
         others += 1 if other else 0

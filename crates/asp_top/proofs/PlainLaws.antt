@@ -23,7 +23,7 @@ use Rattle.asp_cli.specs.declared.Form.{Form}
 use Rattle.asp_cli.specs.declared.Form.TheVariants.{Text, Json}
 use Rattle.asp_top.specs.Meaning.{has_model_in}
 use Rattle.asp_top.specs.Naming.{is_json}
-use Rattle.asp_top.specs.Runs.{SaysOf, ShowsAs, text_in, with_known, without_names}
+use Rattle.asp_top.specs.Runs.{SaysOf, ShowsAs, text_in}
 
 -- ---- what is said
 as-itself : (n : Bool) (p : Program) (known : Option Atoms) → ShowsAs n p known known
