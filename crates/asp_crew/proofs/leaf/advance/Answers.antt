@@ -20,10 +20,10 @@ record-requires g c = record {
   wanted = c.requires.wanted;
 }
 
-pub returns-in_ok-record-in-Answer : goal.returns-in_ok-record-in-Answer
-returns-in_ok-record-in-Answer g c =
-    answered _ _ c.args.mode c.args.book.now c.record.new.book c.args.search.now c.step.new.search c.args.fuel.now c.step.new.fuel c.requires.underway _ c.in_ok-step.ensures.ok c.in-Answer.set c.in-Answer.is
-    c.in_ok-record-in-Answer.ensures.only c.in_ok-record-in-Answer.ensures.recorded
+pub take_known-requires : goal.take_known-requires
+take_known-requires g c =
+    (c.args.mode, c.step.new.fuel, (answered _ _ c.args.mode c.args.book.now c.record.new.book c.args.search.now c.step.new.search c.args.fuel.now c.step.new.fuel c.requires.underway _ c.in_ok-step.ensures.ok c.in-Answer.set c.in-Answer.is
+    c.in_ok-record-in-Answer.ensures.only c.in_ok-record-in-Answer.ensures.recorded).underway.ready)
 
 pub returns-in-Closed : goal.returns-in-Closed
 returns-in-Closed g c = closed _ _ c.args.mode c.args.book.now c.args.search.now c.step.new.search c.args.fuel.now c.step.new.fuel c.requires.underway _ c.in_ok-step.ensures.ok c.in-Closed.is
