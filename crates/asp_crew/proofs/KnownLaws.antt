@@ -1,5 +1,5 @@
 -- What the answers delivered show is taken over by the search.
-use Rattle.std.proofs.Common.{◌≡◌, ℕ, ◌+◌, ◌≤◌, Bool, true, false, ltb, List, [], length, Option, Some, None, inl, inr, refl, sym, ap, ◌∙◌, subst, arith}
+use Rattle.std.proofs.Common.{◌≡◌, ℕ, ◌+◌, ◌≤◌, Bool, true, false, ltb, List, [], length, Option, Some, None, inr, refl, sym, ap, ◌∙◌, subst, arith}
 use Rattle.std.specs.Prelude.{MatchBool}
 use Rattle.std.proofs.lemmas.Bool.{false≢true, ltb-true}
 use Rattle.asp_model.specs.declared.program.Program.{Program}
@@ -14,7 +14,7 @@ use Rattle.asp_vars.specs.Knowing.{Knowing}
 use Rattle.asp_vars.specs.Numbering.{var_count}
 use Rattle.asp_vars.specs.Paid.{Units}
 use Rattle.asp_core.specs.declared.task.Task.{Task}
-use Rattle.asp_core.specs.Boards.{Board, known_of}
+use Rattle.asp_core.specs.Boards.{known_of}
 use Rattle.asp_book.specs.Books.{Booked, board}
 use Rattle.asp_search.specs.Beside.{Adopts, count_unshown, left_to_show, unshown_by}
 use Rattle.asp_search_laws.specs.Searching.{Searching, used}
