@@ -1,9 +1,9 @@
 -- What stays done, and bounds that fall.
-use Rattle.std.proofs.Common.{◌≡◌, ◌<◌, ◌≤◌, Bool, true, false, not, cond, ◌||◌, List, [], ◌∷◌, ◌++◌, length, filter, Option, Some, None, refl, sym, ap, ◌∙◌, subst, arith}
+use Rattle.std.proofs.Common.{◌≡◌, ◌<◌, ◌≤◌, Bool, true, false, not, cond, ◌||◌, List, [], ◌∷◌, ◌++◌, length, filter, Option, Some, None, refl, sym, ap, ◌∙◌, subst, inl, inr, arith}
 use Rattle.std.specs.Prelude.{ℤ, IsTrue}
 use Rattle.std.specs.List.{list_any}
 use Rattle.std.specs.Cmp.Lexicographic.{same_text}
-use Rattle.std.proofs.lemmas.Bool.{false≢true, or_left, or_right}
+use Rattle.std.proofs.lemmas.Bool.{false≢true, or_cases, or_left, or_right}
 use Rattle.std.proofs.lemmas.List.Folds.{list_any-append}
 use Rattle.asp_model.specs.declared.program.Program.{Program}
 use Rattle.asp_model.specs.Sets.{Atoms, same_set}
@@ -11,7 +11,7 @@ use Rattle.asp_model.specs.Models.{is_stable, models}
 use Rattle.asp_model.specs.Costs.{cost, betters}
 use Rattle.asp_model.specs.declared.results.Reasoning.{Reasoning}
 use Rattle.asp_model.specs.Consequences.{common_sets, used_up}
-use Rattle.asp_model.proofs.ConsequenceLaws.{used-common, used-itself}
+use Rattle.asp_model.proofs.ConsequenceLaws.{AreAmong, used-common, used-itself}
 use Rattle.asp_model.proofs.ListedLaws.{test_from_contains}
 use Rattle.asp_model.proofs.ModelLaws.{models-are}
 use Rattle.asp_vars.specs.Entailment.{costs, costs_bound, is_done}
@@ -81,6 +81,16 @@ fewer-open : (p : Program) (K M : List Atoms) (b c : Option (List ℤ)) (S : Ato
 fewer-open p K M b c S stable w fails passes =
     fewer (λ T. not (is_done p K b T)) (λ T. not (is_done p M c T)) (models p) S (λ T. not_turned (is_done p K b T) (is_done p M c T) (w T)) (ap not fails) (ap not passes)
     (test_from_contains (models p) S ((models-are p S).1 stable))
+
+-- What is used up stays so.
+pub fewer-among : (p : Program) (K M : List Atoms) (b : Option (List ℤ)) → AreAmong K M → unfound p M b ≤ unfound p K b
+fewer-among p K M b among = no_more (λ T. not (is_done p K b T)) (λ T. not (is_done p M b T)) (models p) (λ T. not_turned (is_done p K b T) (is_done p M b T) (done T))
+  where
+    done : (T : Atoms) → is_done p K b T ≡ true → is_done p M b T ≡ true
+    done T h = elim (or_cases (list_any (same_set T) K) (costs_bound p b T) h) [
+      | inl e ↦ or_left (list_any (same_set T) M) (costs_bound p b T) (among T e)
+      | inr e ↦ or_right (list_any (same_set T) M) (costs_bound p b T) e
+    ]
 
 -- An answer that is added is done from then on, and so is one whose cost is the bound.
 pub fewer-push : (p : Program) (K : List Atoms) (b : Option (List ℤ)) (S : Atoms) → IsTrue (is_stable p S) → list_any (same_set S) K ≡ false → IsSmaller (cost p S) b → unfound p (K ++ S ∷ []) b < unfound p K b

@@ -5,6 +5,7 @@ pub mod BookLaws
 pub mod AddLaws
 pub mod RecordLaws
 pub mod StepLaws
+pub mod KnownLaws
 pub mod FinishLaws
 pub mod ReportLaws
 pub mod ProofLaws

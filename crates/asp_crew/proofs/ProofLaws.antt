@@ -55,5 +55,5 @@ pub report_with : (p : Program) (ask : Ask) (units : ℕ) (r s : Report) → s �
 report_with p ask units r s same alone is = subst (IsReport p ask units) (sym same) (with_it p ask units r s.proof alone is)
 
 -- where all optima aren't asked for, one search is the whole run
-pub first-whole : (p : Program) (ask : Ask) (units : ℕ) (r : Report) → ask.all_optima ≡ false → r.second ≡ None → IsReport p (asks ask.mode ask.models) units r → IsReport p ask units r
+pub first-whole : (p : Program) (ask : Ask) (units : ℕ) (r : Report) → ask.all_optima ≡ false → r.second ≡ None → IsReport p (asks ask.mode ask.models ask.by_name) units r → IsReport p ask units r
 first-whole p ask units r not-all alone is = alone-reports p ask units r is alone (subst (λ x. IsWhole x r.results.end r.results.best) (sym not-all) tt)

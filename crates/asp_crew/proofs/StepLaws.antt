@@ -106,6 +106,7 @@ module _ (gives : Nogood → Type 0) (silent : List (Option Bool) → Type 0) (m
         underway = underway-same mode v s t f f is d.same (subst (λ k. k < 2 ^ 64) (sym d.learnt) is.learnt) is.ready.work;
         only = unchanged v;
         cube = d.same.cube;
+        shown = λ e. inl d.same.known;
         course = less-same s t f (work_left s f) d.same
             (subst (λ k. work f.left (length (models s.program)) (unfound s.program (used s) s.bound) k (var_count s.program + 1) (length t.entries) < work_left s f) (sym d.learnt)
             (work-decided f.left (length (models s.program)) (unfound s.program (used s) s.bound) s.learnt (var_count s.program + 1) (length s.entries) (length t.entries) d.longer
@@ -119,6 +120,7 @@ module _ (gives : Nogood → Type 0) (silent : List (Option Bool) → Type 0) (m
         underway = underway-same mode v s t f f is d.same (omega (arith, d.learnt)) is.ready.work;
         only = unchanged v;
         cube = d.same.cube;
+        shown = λ e. inl d.same.known;
         course = less-same s t f (work_left s f) d.same
             (subst (λ k. work f.left (length (models s.program)) (unfound s.program (used s) s.bound) k (var_count s.program + 1) (length t.entries) < work_left s f) (sym d.learnt)
             (work-restarted f.left (length (models s.program)) (unfound s.program (used s) s.bound) s.learnt (var_count s.program + 1) (length s.entries) (length t.entries) (omega (arith, d.due))));
@@ -133,6 +135,7 @@ module _ (gives : Nogood → Type 0) (silent : List (Option Bool) → Type 0) (m
         underway = underway-same mode v s t f (burnt f x) is d.same small (work-burnt (board v) 0 mode s.known s.bound f x is.ready.work d.burns.left (d.burns.conflict.reasoning ∙ ap reasoning_of is.ready.mode_is) d.burns.conflict.known d.burns.conflict.bound);
         only = unchanged v;
         cube = d.same.cube;
+        shown = λ e. inl d.same.known;
         course = less-same s t (burnt f x) (work_left s f) d.same
             (work-paid f.left (length (models s.program)) (unfound s.program (used s) s.bound) s.learnt (var_count s.program + 1) (length s.entries) (f.left - 1) (unfound s.program (used s) s.bound) t.learnt (length t.entries) (omega (arith, d.burns.left))
             (unfound-le s.program (used s) s.bound) small);
@@ -145,6 +148,7 @@ module _ (gives : Nogood → Type 0) (silent : List (Option Bool) → Type 0) (m
         underway = underway-same mode v s t f f is d.same (subst (λ k. k < 2 ^ 64) (sym d.learnt) is.learnt) is.ready.work;
         only = unchanged v;
         cube = d.same.cube;
+        shown = λ e. inl d.same.known;
         course = λ q entered.
             settled-excused (board v) s.known s.bound q is.ready.work.agrees
             (subst (λ (p : Program). Settled p (used_up (sought (board v).task.goal) p s.known) s.bound q) (program-is mode v s f is.ready)
@@ -159,6 +163,7 @@ module _ (gives : Nogood → Type 0) (silent : List (Option Bool) → Type 0) (m
         underway = underway-same mode v s t f f is d.same (subst (λ k. k < 2 ^ 64) (sym d.learnt) is.learnt) is.ready.work;
         only = unchanged v;
         cube = d.same.cube;
+        shown = λ e. inl d.same.known;
         course = (
           more,
           d.none,
@@ -231,15 +236,22 @@ fewer-used mode s t is same h =
     subst (λ (m : Mode). unfound s.program (used_up (reasoning_of m) s.program t.known) t.bound < unfound s.program (used s) s.bound) (sym (same ∙ is))
     (subst (λ (m : Mode). unfound s.program (used_up (reasoning_of mode) s.program t.known) t.bound < unfound s.program (used_up (reasoning_of m) s.program s.known) s.bound) (sym is) h)
 
+-- An answer was recorded, and nothing was taken over yet.
+pub record IsAnswered (mode : Mode) (v w : Booked) (s t : Searching) (f g : Units) : Type 0 where
+  pub underway : IsUnderway mode w t g
+  pub only : OnlyRecords v w
+  pub cube : t.cube ≡ s.cube
+  pub left : work_left t g < work_left s f
+
 pub answered : (gives : Nogood → Type 0) (silent : List (Option Bool) → Type 0) (mode : Mode) (v w : Booked) (s t : Searching) (f g : Units) (is : IsUnderway mode v s f) (r : Step) (h : IsStep gives silent s t f g r) (S : Atoms) → r ≡ step.Answer S →
-    OnlyRecords v w → IsRecorded mode (board v) (board w) S → Goes mode v w s t f g Open
+    OnlyRecords v w → IsRecorded mode (board v) (board w) S → IsAnswered mode v w s t f g
 answered gives silent mode v w s t f g is r h S e only done =
     let path = entered-by v.task s.cube is.entered in
     let d = at gives silent s t f g r (step.Answer S) e h path.0 path.1 in
     let records = subst (λ (m : Mode). Records m s t path.0 S) is.ready.mode_is d.records in
     let small : t.learnt < 2 ^ 64 = subst (λ k. k < 2 ^ 64) (sym d.learnt) is.learnt in
     let new : list_any (same_set S) (used_up (reasoning_of mode) s.program s.known) ≡ false = ap (λ (m : Mode). list_any (same_set S) (used_up (reasoning_of m) s.program s.known)) (sym is.ready.mode_is) ∙ d.new in
-    subst (λ (u : Units). Goes mode v w s t f u Open) (sym d.fuel) (record {
+    subst (λ (u : Units). IsAnswered mode v w s t f u) (sym d.fuel) (record {
       underway = record {
         ready = record {
           task = subst HasNoQuery (sym only.task) is.ready.task;
@@ -252,7 +264,7 @@ answered gives silent mode v w s t f g is r h S e only done =
       };
       only = only;
       cube = d.cube;
-      course =
+      left =
           subst (λ (p : Program). work f.left (length (models p)) (unfound p (used_up (reasoning_of t.mode) p t.known) t.bound) t.learnt (var_count p + 1) (length t.entries) < work_left s f) (sym d.program)
           (work-found f.left (length (models s.program)) (unfound s.program (used s) s.bound) s.learnt (var_count s.program + 1) (length s.entries) (unfound s.program (used_up (reasoning_of t.mode) s.program t.known) t.bound) t.learnt (length t.entries)
           (fewer-used mode s t is.ready.mode_is d.mode (fewer-by mode s t path.0 S d.stable new d.cheaper records)) small);

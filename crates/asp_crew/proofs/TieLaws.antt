@@ -80,30 +80,30 @@ record HasOptimum (p : Program) (mode : Mode) (best : Atoms × List ℤ) : Type 
   pub opt : mode ≡ Opt
   pub optimum : IsOptimum p best.0 best.1
 
-has-optimum : (p : Program) (mode : Mode) (n : ℕ) (r : Report) (best : Atoms × List ℤ) → Says p (asks mode n) r Finished → r.results.best ≡ Some best → HasOptimum p mode best
-has-optimum p Enum n r best says found = absurd (none-some best (sym says.1 ∙ found))
-has-optimum p Opt n r best says found = record { opt = refl; optimum = subst (IsBest p) found says.1 }
-has-optimum p (Consequences w) n r best says found = absurd (none-some best (sym says.1 ∙ found))
+has-optimum : (p : Program) (mode : Mode) (n : ℕ) (named : Bool) (r : Report) (best : Atoms × List ℤ) → Says p (asks mode n named) r Finished → r.results.best ≡ Some best → HasOptimum p mode best
+has-optimum p Enum n named r best says found = absurd (none-some best (sym says.1 ∙ found))
+has-optimum p Opt n named r best says found = record { opt = refl; optimum = subst (IsBest p) found says.1 }
+has-optimum p (Consequences w) n named r best says found = absurd (none-some best (sym says.1 ∙ found))
 
-first-optimum : (p : Program) (ask : Ask) (units : ℕ) (r : Report) (best : Atoms × List ℤ) → IsReport p (asks ask.mode ask.models) units r → r.results.end ≡ Finished → r.results.best ≡ Some best → HasOptimum p ask.mode best
-first-optimum p ask units r best is end found = has-optimum p ask.mode ask.models r best (subst (Says p (asks ask.mode ask.models) r) end is.says) found
+first-optimum : (p : Program) (ask : Ask) (units : ℕ) (r : Report) (best : Atoms × List ℤ) → IsReport p (asks ask.mode ask.models ask.by_name) units r → r.results.end ≡ Finished → r.results.best ≡ Some best → HasOptimum p ask.mode best
+first-optimum p ask units r best is end found = has-optimum p ask.mode ask.models ask.by_name r best (subst (Says p (asks ask.mode ask.models ask.by_name) r) end is.says) found
 
-pub may-search : (p : Program) (ask : Ask) (r : Report) (best : Atoms × List ℤ) → (units : ℕ) × IsReport p (asks ask.mode ask.models) units r → r.results.end ≡ Finished → r.results.best ≡ Some best → IsOptimum p best.0 (cost p best.0)
+pub may-search : (p : Program) (ask : Ask) (r : Report) (best : Atoms × List ℤ) → (units : ℕ) × IsReport p (asks ask.mode ask.models ask.by_name) units r → r.results.end ≡ Finished → r.results.best ≡ Some best → IsOptimum p best.0 (cost p best.0)
 may-search p ask r best is end found =
     let has = first-optimum p ask is.0 r best is.1 end found in
     subst (IsOptimum p best.0) has.optimum.sums has.optimum
 
 -- ---- no second search
 -- ---- both
-pub joins-program : (p : Program) (ask : Ask) (first ties : Report) → (units : ℕ) × IsReport p (asks ask.mode ask.models) units first → IsSecond p ask first ties → ties.paid.program ≡ first.paid.program
+pub joins-program : (p : Program) (ask : Ask) (first ties : Report) → (units : ℕ) × IsReport p (asks ask.mode ask.models ask.by_name) units first → IsSecond p ask first ties → ties.paid.program ≡ first.paid.program
 joins-program p ask first ties is second =
     second.searched.told.paid.fits.program ∙ ap (λ (t : Task). t.program) (task-run (start (ties_of p ask (cost p second.best) first.paid.left)) ties.journal) ∙ sym is.1.program
 
 pub joins-units : (p : Program) (ask : Ask) (first ties : Report) → IsSecond p ask first ties → ties.paid.left + ties.spent ≡ first.paid.left
 joins-units p ask first ties second = told-budget (ties_of p ask (cost p second.best) first.paid.left) ties tt second.searched.lawful second.searched.told
 
-pub joined-reports : (p : Program) (ask : Ask) (units : ℕ) (first ties : Report) → first.second ≡ None → IsSecond p ask first ties → IsReport p (asks ask.mode ask.models) units first → IsReport p ask units (joined first ties)
+pub joined-reports : (p : Program) (ask : Ask) (units : ℕ) (first ties : Report) → first.second ≡ None → IsSecond p ask first ties → IsReport p (asks ask.mode ask.models ask.by_name) units first → IsReport p ask units (joined first ties)
 joined-reports p ask units first ties alone second is =
-    subst (λ x. let a : Ask = record { mode = ask.mode; models = ask.models; all_optima = x } in IsReport p a units (joined first ties)) (sym second.all)
-    (subst (λ (m : Mode). let a : Ask = record { mode = m; models = ask.models; all_optima = true } in IsReport p a units (joined first ties)) (sym second.opt)
-    (ties-report p ask.models units first ties second.best (cost p second.best) (subst (λ (m : Mode). IsReport p (asks m ask.models) units first) second.opt is) alone second.finished second.found second.searched.lawful second.searched.told))
+    subst (λ x. let a : Ask = record { mode = ask.mode; models = ask.models; all_optima = x; by_name = ask.by_name } in IsReport p a units (joined first ties)) (sym second.all)
+    (subst (λ (m : Mode). let a : Ask = record { mode = m; models = ask.models; all_optima = true; by_name = ask.by_name } in IsReport p a units (joined first ties)) (sym second.opt)
+    (ties-report p ask.models units ask.by_name first ties second.best (cost p second.best) (subst (λ (m : Mode). IsReport p (asks m ask.models ask.by_name) units first) second.opt is) alone second.finished second.found second.searched.lawful second.searched.told))

@@ -28,3 +28,11 @@ work-decided l m u r v e e' longer within = more (((l * (m + 1) + u) * 2 ^ 64 + 
   where
     more : (x : ℕ) → x + (v - e') < x + (v - e)
     more x = omega arith
+
+-- Fewer models to be found are no more work.
+pub work-fewer : (l m u r v e u' : ℕ) → u' ≤ u → work l m u' r v e ≤ work l m u r v e
+work-fewer l m u r v e u' fewer =
+    no-larger ((l * (m + 1) + u') * 2 ^ 64 + r) ((l * (m + 1) + u) * 2 ^ 64 + r) (v + 1) (v - e) (no-larger (l * (m + 1) + u') (l * (m + 1) + u) (2 ^ 64) r (omega (arith, fewer)))
+  where
+    no-larger : (x y w s : ℕ) → x ≤ y → x * w + s ≤ y * w + s
+    no-larger x y w s le = omega (arith, mul-le-mul_left w le)

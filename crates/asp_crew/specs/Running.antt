@@ -1,5 +1,5 @@
 -- One search that works off the leaves of a board by number 0: what holds after each step, and what is left to do.
-use Rattle.std.specs.Prelude.{◌≡◌, ◌⊎◌, Bool, true, ℕ, ◌+◌, ◌-◌, ◌*◌, ◌^◌, ◌<◌, not, false, List, [], ◌++◌, filter, length, ℤ, Option, None, Some, IsTrue}
+use Rattle.std.specs.Prelude.{◌≡◌, ◌⊎◌, Bool, true, ℕ, ◌+◌, ◌-◌, ◌*◌, ◌^◌, ◌<◌, not, false, List, [], ◌++◌, filter, length, ℤ, Option, None, Some, IsTrue, MatchBool, nat_lt}
 use Rattle.std.specs.List.{AllByRecursion}
 use Rattle.std.specs.Option.{IfSome}
 use Rattle.asp_model.specs.declared.program.Program.{Program}
@@ -13,6 +13,7 @@ use Rattle.asp_vars.specs.Entailment.{is_done, HitsOnly}
 use Rattle.asp_vars.specs.Literals.{Literal}
 use Rattle.asp_vars.specs.Numbering.{var_count}
 use Rattle.asp_vars.specs.Paid.{Clash, Units}
+use Rattle.asp_vars.specs.Knowing.{Knowing}
 use Rattle.asp_path.specs.declared.status.Status.{Status}
 use Rattle.asp_path.specs.declared.status.Status.TheVariants as status
 use Rattle.asp_path.specs.Trees.{with_status, held_count, open_from}
@@ -20,10 +21,11 @@ use Rattle.asp_core.specs.declared.event.Event.{Event}
 use Rattle.asp_core.specs.declared.event.Event.TheVariants as event
 use Rattle.asp_core.specs.declared.task.Task.{Task}
 use Rattle.asp_core.specs.Units.{out_of}
-use Rattle.asp_core.specs.Boards.{Board, is_enough, is_excused, lists, optimises}
+use Rattle.asp_core.specs.Boards.{Board, is_enough, is_excused, known_of, lists, optimises}
 use Rattle.asp_core.specs.Events.{Guard, happens, maker}
 use Rattle.asp_core.specs.Invariant.{IsCube}
 use Rattle.asp_book.specs.Books.{Booked, board}
+use Rattle.asp_search.specs.Beside.{Adopts, count_unshown, left_to_show}
 use Rattle.asp_search_laws.specs.Searching.{Searching, used}
 use Rattle.asp_crew_laws.specs.Runs.{task_of}
 use Rattle.asp_crew_laws.specs.Reports.{IsIdle, IsMet, IsUnpaidAt, IsWorkedOff}
@@ -101,6 +103,33 @@ IsRecorded Enum b c S = Guard b (event.Deliver 0 S) × (c ≡ happens b (event.D
 IsRecorded (Consequences r) b c S = Guard b (event.Deliver 0 S) × (c ≡ happens b (event.Deliver 0 S))
 IsRecorded Opt b c S = (Guard b (event.Improve 0 S) × (c ≡ happens b (event.Improve 0 S))) ⊎ ((c ≡ b) × IsUnbettered b S)
 
+-- ---- what was delivered is taken over
+-- Whether there are answers that leave fewer atoms to be shown than a search has to show. Any number is fewer where it knows no answer.
+abbrev pub is_fewer : Option ℕ → Option ℕ → Bool
+is_fewer None left = false
+is_fewer (Some n) None = true
+is_fewer (Some n) (Some left) = nat_lt n left
+
+-- What these answers have in common is taken over, exactly where they leave fewer atoms to be shown than those that the search knows.
+abbrev pub TakesKnown : Searching → Searching → Knowing → Type 0
+TakesKnown s t k = MatchBool (is_fewer (count_unshown k.reasoning k.program k.sets) (left_to_show s)) (Adopts s t k.sets) (t ≡ s)
+
+-- the same of what a book tells, where consequences are sought
+abbrev pub TakesOver : Option Knowing → Searching → Searching → Type 0
+TakesOver None s t = t ≡ s
+TakesOver (Some k) s t = TakesKnown s t k
+
+-- It is, where the search had found no answer before.
+abbrev pub TakesFirst : Option ℕ → Option Knowing → Searching → Searching → Type 0
+TakesFirst None o s t = TakesOver o s t
+TakesFirst (Some left) o s t = t ≡ s
+
+-- Those answers don't leave fewer atoms to be shown than the search has to show.
+abbrev pub ShowsAll : Option Knowing → Searching → Type 0
+ShowsAll None s = Unit {0}
+ShowsAll (Some k) s = is_fewer (count_unshown k.reasoning k.program k.sets) (left_to_show s) ≡ false
+
+-- ---- one step
 -- Each stable model below the path is excused.
 abbrev pub IsSettled : Board → Searching → Type 0
 IsSettled b s = (q : List Literal) → s.cube ≡ Some q → HitsOnly b.task.program (is_excused b) q
@@ -121,6 +150,8 @@ pub record Goes (mode : Mode) (v w : Booked) (s t : Searching) (f g : Units) (ho
   pub only : OnlyRecords v w
   pub cube : t.cube ≡ s.cube
   pub course : IsCourse (board w) s t f g how
+  -- After the first answer the search shows all that was delivered.
+  pub shown : left_to_show s ≡ None → (t.known ≡ s.known) ⊎ ShowsAll (known_of (board w)) t
 
 -- how the steps on a path ended
 abbrev pub IsOver : Board → Searching → Units → Option Clash → Type 0

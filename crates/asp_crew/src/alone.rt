@@ -31,7 +31,7 @@ fn first<W: Watch>(
     watch: &mut W,
     recorder: Option<&Recorder>,
 ) -> Result<Report, AllocError>
-    ensures report { IfOk result (IsReport compiled.now (asks ask.mode ask.models) budget) }
+    ensures report { IfOk result (IsReport compiled.now (asks ask.mode ask.models ask.by_name) budget) }
     ensures second { IfOk result (λ r. r.second ≡ None) }
     ensures log { IfOk result (λ r. r.log ≡ 0) }
     ensures short { IfOk result (λ r. r.short ≡ false) }
@@ -41,7 +41,7 @@ fn first<W: Watch>(
     let state = State::start(
         alloc,
         compiled,
-        Goal::of(ask.mode),
+        Goal::of(ask.mode, ask.by_name),
         budget,
         ask.limit(),
         [].as_slice(),

@@ -16,6 +16,7 @@ ghost use Rattle.asp_book.specs.Books.{board};
 ghost use Rattle.asp_search_laws.specs.Steps.{IsStep};
 ghost use Rattle.asp_crew.specs.Running.{HasNoQuery, IsReady, IsUnderway, MayRecord, OnlyRecords, IsRecorded, Goes, Ends, LeavesLeaf};
 
+use crate::known::take_known;
 use asp_book::book::Book;
 use asp_counts::counts::Counts;
 use asp_counts::watch::Watch;
@@ -92,7 +93,8 @@ fn step<P: Propagator>(
     Ok(step)
 }
 
-// One step, where more answers are wanted. It is counted, and an answer is recorded.
+// One step, where more answers are wanted. It is counted, and an answer is recorded; after the first the search takes over what the board
+// knows.
 fn advance<P: Propagator>(
     book: &mut Book,
     mode: Mode,
@@ -105,12 +107,14 @@ fn advance<P: Propagator>(
     requires wanted { is_enough (board book.old) ≡ false }
     ensures { IfOk result (Goes mode book.old book.new search.old search.new fuel.old fuel.new) }
 {
+    let knew = search.unshown_atoms();
     match step(search, fuel, counts, recorder)? {
         Step::Decided => Ok(Course::Open),
         Step::Learnt => Ok(Course::Open),
         Step::Restarted => Ok(Course::Open),
         Step::Answer(set) => {
             record(book, mode, set)?;
+            take_known(book, search, knew)?;
             Ok(Course::Open)
         }
         Step::Closed => Ok(Course::Closed),

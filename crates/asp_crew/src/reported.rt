@@ -75,7 +75,7 @@ pub fn reported(ask: Ask, book: Book, unpaid: Option<Conflict>, log: u32, short:
     requires task { IsRunFor ask book.task }
     requires idle { IsIdle (board book) }
     requires over { IsWorkedOff (board book) unpaid }
-    ensures report { IsReport book.task.program (asks ask.mode ask.models) book.task.budget result }
+    ensures report { IsReport book.task.program (asks ask.mode ask.models ask.by_name) book.task.budget result }
     ensures journal { result.journal ≡ book.journal }
     ensures second { result.second ≡ None }
     ensures log { result.log ≡ log }

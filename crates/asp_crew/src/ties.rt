@@ -110,7 +110,7 @@ fn second<W: Watch>(
     counts: &mut Counts,
     watch: &mut W,
 ) -> Result<Option<Report>, AllocError>
-    requires { (units : ℕ) × IsReport compiled.now (asks ask.mode ask.models) units report.now }
+    requires { (units : ℕ) × IsReport compiled.now (asks ask.mode ask.models ask.by_name) units report.now }
     ensures second { IfOk result (λ ties. MatchOption ties (IsWhole ask.all_optima report.now.results.end report.now.results.best) (IsSecond compiled.now ask report.now)) }
     ensures heard { W.IsAfter watch.old watch.new }
 {
@@ -197,10 +197,10 @@ pub fn with_ties<W: Watch>(
     counts: &mut Counts,
     watch: &mut W,
 ) -> Result<Report, AllocError>
-    requires report { (units : ℕ) × IsReport compiled.now (asks ask.mode ask.models) units report }
+    requires report { (units : ℕ) × IsReport compiled.now (asks ask.mode ask.models ask.by_name) units report }
     requires second { report.second ≡ None }
     requires proof { report.proof ≡ None }
-    ensures report { IfOk result (λ r. (units : ℕ) → IsReport compiled.now (asks ask.mode ask.models) units report → IsReport compiled.now ask units r) }
+    ensures report { IfOk result (λ r. (units : ℕ) → IsReport compiled.now (asks ask.mode ask.models ask.by_name) units report → IsReport compiled.now ask units r) }
     ensures log { IfOk result (λ r. r.log ≡ report.log) }
     ensures short { IfOk result (λ r. r.short ≡ report.short) }
     ensures same { IfOk result (λ r. (r.journal ≡ report.journal) × (r.short ≡ report.short)) }

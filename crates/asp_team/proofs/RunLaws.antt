@@ -45,10 +45,10 @@ pub run-query : (p : Program) (ask : Ask) (budget : ℕ) (t : Task) → t ≡ ta
 run-query p ask budget t e = subst HasNoQuery (sym e) refl
 
 pub run-begins : (p : Program) (ask : Ask) (budget : ℕ) (t : Task) → t ≡ task_of p ask budget → MayBegin ask.mode None t.goal
-run-begins p ask budget t e = subst (λ (x : Task). MayBegin ask.mode None x.goal) (sym e) (inl (refl, refl))
+run-begins p ask budget t e = subst (λ (x : Task). MayBegin ask.mode None x.goal) (sym e) (inl ((ask.by_name, refl), refl))
 
-pub report-is : (p : Program) (ask : Ask) (budget : ℕ) (t : Task) (r : Report) → t ≡ task_of p ask budget → IsReport t.program (asks ask.mode ask.models) t.budget r → IsReport p (asks ask.mode ask.models) budget r
-report-is p ask budget t r e is = subst (λ (x : Task). IsReport x.program (asks ask.mode ask.models) x.budget r) e is
+pub report-is : (p : Program) (ask : Ask) (budget : ℕ) (t : Task) (r : Report) → t ≡ task_of p ask budget → IsReport t.program (asks ask.mode ask.models ask.by_name) t.budget r → IsReport p (asks ask.mode ask.models ask.by_name) budget r
+report-is p ask budget t r e is = subst (λ (x : Task). IsReport x.program (asks ask.mode ask.models ask.by_name) x.budget r) e is
 
 -- ---- who did what
 -- what the workers left, once all have come back
@@ -70,10 +70,10 @@ have-left stopped never denied c l k hs forks ready j first last mine now came =
     }
 
 -- the report of a run whose main thread went on alone
-pub report-shared : (p : Program) (ask : Ask) (budget : ℕ) (r : Report) → IsReport p (asks ask.mode ask.models) budget r → r.second ≡ None → (workers : ℕ) (short never : Bool) (begun rest more : List Event) → 0 < workers → IsCrewGone (task_of p ask budget) workers short never begun rest →
+pub report-shared : (p : Program) (ask : Ask) (budget : ℕ) (r : Report) → IsReport p (asks ask.mode ask.models ask.by_name) budget r → r.second ≡ None → (workers : ℕ) (short never : Bool) (begun rest more : List Event) → 0 < workers → IsCrewGone (task_of p ask budget) workers short never begun rest →
     r.journal ≡ (begun ++ rest) ++ more → AllByRecursion (λ e. maker e ≡ 0) more → r.short ≡ short → IsShared (task_of p ask budget) r.short never r.journal
 report-shared p ask budget r is second workers short never begun rest more some crew journal main same =
     let t : Task = task_of p ask budget in
-    let played : IsPlayed t r = subst (λ (o : Option (List Event)). IsPlayedBy o p (asks ask.mode ask.models) budget r) second is.played in
+    let played : IsPlayed t r = subst (λ (o : Option (List Event)). IsPlayedBy o p (asks ask.mode ask.models ask.by_name) budget r) second is.played in
     subst (λ (s : Bool). IsShared t s never r.journal) (sym same)
     (subst (IsShared t short never) (sym journal) (shared-when t workers short never begun rest crew some more (subst (IsJournalOf t) journal played.lawful) main))

@@ -6,6 +6,7 @@ use Rattle.std.proofs.lemmas.List.Elements.{All-append, All-nil}
 use lib.ListN.{get_elem?}
 use Rattle.asp_model.specs.declared.program.Program.{Program}
 use Rattle.asp_model.specs.declared.results.Ask.{Ask}
+use Rattle.asp_model.specs.declared.results.Mode.{Mode}
 use Rattle.asp_vault.specs.declared.view.View.{View}
 use Rattle.asp_vault.specs.Makers.{NoneBy}
 use Rattle.asp_vault.specs.Rules.{parted, fresh, opened}
@@ -154,7 +155,7 @@ host-begun p ask budget c l mode book log is for first =
     record {
       lead = record { book = book; log = log; first = is.first; pages_first = first; rests = is.idle.settled.seated.rests; lawful = is.idle.settled.seated.lawful };
       idle = is.idle;
-      run = record { program = refl; goal = ap (λ (x : Task). x.goal) same ∙ ap goal_of mode };
+      run = record { program = refl; goal = (ask.by_name, ap (λ (x : Task). x.goal) same ∙ ap (λ (m : Mode). goal_of m ask.by_name) mode) };
       program = for ∙ ap (λ (x : Task). x.program) (sym same);
       new = is.new;
       forks = is.forks;

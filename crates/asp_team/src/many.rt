@@ -167,7 +167,7 @@ fn ended<W: Watch>(
     requires home { (n : ℕ) → 0 < n → n ≤ (view lead.seat).splits → IsHome (view lead.seat) n }
     requires some { 0 < (view lead.seat).splits }
     requires about { (view lead.seat).about ≡ Some (task_of compiled.now plan.ask plan.budget) }
-    ensures report { IfOk result (λ r. IsReport compiled.now (asks plan.ask.mode plan.ask.models) plan.budget r.0) }
+    ensures report { IfOk result (λ r. IsReport compiled.now (asks plan.ask.mode plan.ask.models plan.ask.by_name) plan.budget r.0) }
     ensures second { IfOk result (λ r. r.0.second ≡ None) }
     ensures proof { IfOk result (λ r. r.0.proof ≡ None) }
     ensures shared { IfOk result (λ r. (never : Bool) (begun : List Event) → HaveLeft lead never begun → IsShared (task_of compiled.now plan.ask plan.budget) r.0.short never r.0.journal) }

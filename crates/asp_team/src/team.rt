@@ -53,7 +53,7 @@ fn start(
     let state = State::start(
         alloc,
         compiled,
-        Goal::of(ask.mode),
+        Goal::of(ask.mode, ask.by_name),
         budget,
         ask.limit(),
         [].as_slice(),

@@ -41,7 +41,7 @@ owes-none p m v u run home e =
 pub run-passes : (p : Program) (m : Mode) (v w : Knows) → IsRunOf p m v → Passes v w → IsRunOf p m w
 run-passes p m v w run i =
     let same : task_of w ≡ task_of v = task-stays v w i.stays in
-    record { program = ap (λ (t : Task). t.program) same ∙ run.program; goal = ap (λ (t : Task). t.goal) same ∙ run.goal }
+    record { program = ap (λ (t : Task). t.program) same ∙ run.program; goal = (run.goal.0, ap (λ (t : Task). t.goal) same ∙ run.goal.1) }
 
 pub home-passes : (v w : Knows) → out_of (seen_board v).out v.number ≡ 0 → Passes v w → out_of (seen_board w).out w.number ≡ 0
 home-passes v w home i = ap (out_of (seen_board w).out) i.stays.number ∙ i.units ∙ home
@@ -52,12 +52,12 @@ idle-passes v w idle i free = record { settled = settled-passes v w idle.settled
 -- a new search goes with the board
 pub begins : (p : Program) (m : Mode) (v : Knows) (s : Searching) (u : Units) → IsRunOf p m v → out_of (seen_board v).out v.number ≡ 0 → s ≡ new_search p m s.slots → u ≡ record { program = p; left = 0; burnt = 0; reasoned = false; known = 0; least = None } → GoesOn m v s u
 begins p m v s u run home e f =
-    let goal : (seen_board v).task.goal ≡ goal_of m = ap (λ (t : Task). t.goal) (board-task v) ∙ run.goal in
+    let goal : (seen_board v).task.goal ≡ goal_of m run.goal.0 = ap (λ (t : Task). t.goal) (board-task v) ∙ run.goal.1 in
     let owes : Owes v u = owes-none p m v u run home f in
     subst (λ (x : Searching). GoesOn m v x u) (sym e) (record {
       program = sym run.program;
       mode_is = refl;
-      work = work-begins (seen_board v) v.number m u goal owes.back;
+      work = work-begins (seen_board v) v.number m run.goal.0 u goal owes.back;
       few = owes.few;
     })
 

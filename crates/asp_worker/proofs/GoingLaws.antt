@@ -21,7 +21,7 @@ use Rattle.asp_vault.specs.Moments.{Stays}
 use Rattle.asp_path.specs.declared.status.Status.TheVariants as status
 use Rattle.asp_core.specs.declared.task.Task.{Task}
 use Rattle.asp_core.specs.Units.{out_of}
-use Rattle.asp_core.specs.Boards.{Board, is_excused, known_by, known_of, sought}
+use Rattle.asp_core.specs.Boards.{Board, is_excused, known_by, known_of, showing_of, sought}
 use Rattle.asp_core.specs.declared.event.Event.{Event}
 use Rattle.asp_core.specs.Events.{replay}
 use Rattle.asp_core.specs.Growth.{Grows}
@@ -31,9 +31,9 @@ use Rattle.asp_book.proofs.CallLaws.{task-stays, seen-after}
 use Rattle.asp_propagate.specs.Useful.{IsSmaller}
 use Rattle.asp_search_laws.specs.Searching.{Searching, used}
 use Rattle.asp_search.specs.Beside.{Adopts, count_unshown, left_to_show}
-use Rattle.asp_crew_laws.specs.Agrees.{AreRecorded}
 use Rattle.asp_crew_laws.specs.Working.{IsAtWork, Works}
 use Rattle.asp_crew_laws.proofs.AgreeLaws.{settled-excused}
+use Rattle.asp_crew_laws.proofs.KnownLaws.{IsKnown, MayTakeOver, known-is, may-take_over}
 use Rattle.asp_crew_laws.proofs.WorkLaws.{sought-is, work-adopted, work-on, work-unimproved}
 use Rattle.asp_worker.specs.Seats.{Passes, Idles, Owes}
 use Rattle.asp_worker.specs.Sharing.{is_fewer, is_smaller, lowered, lowered_by, show_more, TakesBest, TakesKnown}
@@ -121,7 +121,7 @@ best-goes Opt v s t u g e = subst (λ (x : Searching). GoesOn Opt v x u) (sym e)
     here (Some B) e = lowered-goes v B s u (sym e) g
 best-goes (Consequences r) v s t u g h = here (show_more r (seen_board v) s) h
   where
-    here : (more : Bool) → MatchBool more (Adopts s t (common_sets r (seen_board v).task.program (seen_board v).answers)) (t ≡ s) → GoesOn (Consequences r) v t u
+    here : (more : Bool) → MatchBool more (Adopts s t (common_sets r (seen_board v).task.program (showing_of (seen_board v)))) (t ≡ s) → GoesOn (Consequences r) v t u
     here true a =
         subst (λ (x : Searching). GoesOn (Consequences r) v x u) (sym a.same)
         (record { program = g.program; mode_is = g.mode_is; work = work-adopted (seen_board v) v.number r s.known s.bound u g.work; few = g.few })
@@ -136,28 +136,13 @@ best-cube Opt b s t e = ap (λ (x : Searching). x.cube) e ∙ here (option_map (
     here (Some c) = (lowered-same s c).3
 best-cube (Consequences r) b s t h = here (show_more r b s) h
   where
-    here : (more : Bool) → MatchBool more (Adopts s t (common_sets r b.task.program b.answers)) (t ≡ s) → t.cube ≡ s.cube
+    here : (more : Bool) → MatchBool more (Adopts s t (common_sets r b.task.program (showing_of b))) (t ≡ s) → t.cube ≡ s.cube
     here true a = ap (λ (x : Searching). x.cube) a.same
     here false e = ap (λ (x : Searching). x.cube) e
 
 -- ---- what the answers delivered have in common is known
 pub known-seen : (v w : Knows) (before : List Event) → Stays v w → IsCall v w before [] → (r : Option Knowing) → r ≡ known_of (replay (task_of v) before) → r ≡ known_of (seen_board w)
 known-seen v w before stays call r e = e ∙ ap known_of (sym (seen-after v w before [] stays call))
-
-pub record IsKnown (b : Board) (x : Knowing) : Type 0 where
-  pub reasoning : Reasoning
-  pub seeks : sought b.task.goal ≡ Some reasoning
-  pub is : x ≡ record { program = b.task.program; reasoning = reasoning; sets = common_sets reasoning b.task.program b.answers }
-
-pub known-is : (b : Board) (x : Knowing) → known_of b ≡ Some x → IsKnown b x
-known-is b x e = here (sought b.task.goal) refl e
-  where
-    here : (k : Option Reasoning) → sought b.task.goal ≡ k → known_by k b.task.program b.answers ≡ Some x → IsKnown b x
-    here None q h = absurd (none h)
-      where
-        none : None ≡ Some x → ⊥
-        none z = cc
-    here (Some r) q h = record { reasoning = r; seeks = q; is = sym (same_Some (record { program = b.task.program; reasoning = r; sets = common_sets r b.task.program b.answers }) x h) }
 
 pub told-known : (v w : Knows) (before : List Event) → Stays v w → IsCall v w before [] → (r : Option Knowing) (x : Knowing) → r ≡ known_of (replay (task_of v) before) → r ≡ Some x → IsKnown (seen_board w) x
 told-known v w before stays call r x e is = known-is (seen_board w) x (sym (known-seen v w before stays call r e) ∙ is)
@@ -171,14 +156,8 @@ pub record MayTake (s : Searching) (x : Knowing) : Type 0 where
 pub may-take : (m : Mode) (v : Knows) (s : Searching) (u : Units) (x : Knowing) → GoesOn m v s u → IsKnown (seen_board v) x → MayTake s x
 may-take m v s u x g k =
     let b : Board = seen_board v in
-    let r : Reasoning = k.reasoning in
-    let recorded : AreRecorded (Some r) b.task.program s.known b.answers = subst (λ (o : Option Reasoning). AreRecorded o b.task.program s.known b.answers) k.seeks g.work.agrees.recorded in
-    record {
-      program = ap (λ (y : Knowing). y.program) k.is ∙ ap (λ (t : Task). t.program) (board-task v) ∙ sym g.program;
-      reasoning = ap (λ (y : Knowing). Some y.reasoning) k.is ∙ sym k.seeks ∙ sought-is m s.bound b.task.goal g.work.goal ∙ ap reasoning_of (sym g.mode_is);
-      all = subst (λ (y : Knowing). IsSubset (unshown y.reasoning y.program y.sets) (unshown y.reasoning y.program s.known)) (sym k.is)
-          (subst (λ (A : Atoms). IsSubset A (unshown r b.task.program s.known)) (sym (unshown-common r b.task.program b.answers)) recorded.0);
-    }
+    let may : MayTakeOver b m s.known x = may-take_over b v.number m s.known s.bound u x g.work k in
+    record { program = may.program ∙ ap (λ (t : Task). t.program) (board-task v) ∙ sym g.program; reasoning = may.reasoning ∙ ap reasoning_of (sym g.mode_is); all = may.all }
 
 -- what a call told of the answers delivered
 pub taken-over : (m : Mode) (v w : Knows) (before : List Event) → Stays v w → IsCall v w before [] → (s : Searching) (u : Units) (r : Option Knowing) (x : Knowing) → GoesOn m v s u → r ≡ known_of (replay (task_of v) before) → r ≡ Some x → MayTake s x
@@ -207,8 +186,8 @@ takes-known m v s t u x g k h = here m refl
     here Opt e = absurd (none (seeks Opt e))
     here (Consequences r) e =
         subst (λ (q : Reasoning). TakesBest (Consequences q) (seen_board v) s t) (sym (same_Some r k.reasoning (seeks (Consequences r) e)))
-        (subst (λ (o : Option ℕ). MatchBool (is_fewer o (left_to_show s)) (Adopts s t (common_sets k.reasoning (seen_board v).task.program (seen_board v).answers)) (t ≡ s))
-        (counted-common k.reasoning (seen_board v).task.program (seen_board v).answers)
+        (subst (λ (o : Option ℕ). MatchBool (is_fewer o (left_to_show s)) (Adopts s t (common_sets k.reasoning (seen_board v).task.program (showing_of (seen_board v)))) (t ≡ s))
+        (counted-common k.reasoning (seen_board v).task.program (showing_of (seen_board v)))
         (subst (TakesKnown s t) k.is h))
 
 pub taken-best : (m : Mode) (v w : Knows) (before : List Event) → Stays v w → IsCall v w before [] → (s t : Searching) (u : Units) (r : Option Knowing) (x : Knowing) → GoesOn m v s u →
@@ -219,7 +198,7 @@ taken-best m v w before stays call s t u r x g e is =
 -- where they are sought a call always tells what the answers delivered have in common
 pub always-known : (m : Mode) (r : Reasoning) (v w : Knows) (before : List Event) → Stays v w → IsCall v w before [] → (s t : Searching) (u : Units) (k : Option Knowing) → GoesOn m v s u → m ≡ Consequences r →
     k ≡ known_of (replay (task_of v) before) → k ≡ None → TakesBest m (seen_board w) s t
-always-known m r v w before stays call s t u k g is e none = absurd (apart (sym none ∙ known-seen v w before stays call k e ∙ ap (λ (o : Option Reasoning). known_by o (seen_board w).task.program (seen_board w).answers) seeks))
+always-known m r v w before stays call s t u k g is e none = absurd (apart (sym none ∙ known-seen v w before stays call k e ∙ ap (λ (o : Option Reasoning). known_by o (seen_board w).task.program (showing_of (seen_board w))) seeks))
   where
     on : GoesOn m w s u
     on = goes-on m v w s u g (idles-passes v w (idles-call v w before stays call))
@@ -227,7 +206,7 @@ always-known m r v w before stays call s t u k g is e none = absurd (apart (sym 
     seeks : sought (seen_board w).task.goal ≡ Some r
     seeks = sought-is m s.bound (seen_board w).task.goal on.work.goal ∙ ap reasoning_of is
 
-    apart : None ≡ known_by (Some r) (seen_board w).task.program (seen_board w).answers → ⊥
+    apart : None ≡ known_by (Some r) (seen_board w).task.program (showing_of (seen_board w)) → ⊥
     apart z = cc
 
 -- ---- a leaf may be closed for what the search has settled

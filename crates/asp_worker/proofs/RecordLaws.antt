@@ -23,7 +23,7 @@ use Rattle.asp_core.specs.declared.event.Event.{Event}
 use Rattle.asp_core.specs.declared.event.Event.TheVariants as event
 use Rattle.asp_core.specs.declared.task.Task.{Task}
 use Rattle.asp_core.specs.Units.{out_of}
-use Rattle.asp_core.specs.Boards.{Board, goal_of, start, lists, is_answer, optimises, sought}
+use Rattle.asp_core.specs.Boards.{Board, start, lists, is_answer, optimises, sought}
 use Rattle.asp_core.specs.Events.{happens, replay}
 use Rattle.asp_core.specs.Growth.{Grows}
 use Rattle.asp_core.proofs.BoardLaws.{wanted-stand}
@@ -38,6 +38,7 @@ use Rattle.asp_book.proofs.CallLaws.{task-stays, seen-after}
 use Rattle.asp_propagate.specs.Useful.{IsSmaller}
 use Rattle.asp_search_laws.specs.Searching.{Searching}
 use Rattle.asp_search_laws.specs.Steps.{Records}
+use Rattle.asp_crew_laws.specs.Proofs.{is_opt}
 use Rattle.asp_crew_laws.specs.Working.{IsAtWork, IsSought}
 use Rattle.asp_crew_laws.proofs.WorkLaws.{work-on, work-delivered, work-improved, work-unimproved, work-leased, work-told, out_of-leased, Fits-merged, may-list, may-optimise, may-tell}
 use Rattle.asp_worker.specs.Seats.{IsRun, IsSettled, Idles, Leases, WasEmpty}
@@ -53,8 +54,8 @@ pub found-program : (m : Mode) (v : Knows) (s t : Searching) (u : Units) (leaf :
 found-program m v s t u leaf S f = f.program ∙ f.on.going.program ∙ ap (λ (x : Task). x.program) (sym (board-task v))
 
 -- an enumeration doesn't optimise
-pub listing-enum : (m : Mode) → m ≡ Enum → optimises (goal_of m) ≡ false
-listing-enum m e = ap (λ (k : Mode). optimises (goal_of k)) e
+pub listing-enum : (m : Mode) → m ≡ Enum → is_opt m ≡ false
+listing-enum m e = ap is_opt e
 
 -- an enumeration doesn't seek consequences
 pub sought-none : (m : Mode) (v : Knows) (s t : Searching) (u : Units) (leaf : ℕ) (S : Atoms) → m ≡ Enum → Finds m v s t u leaf S → sought (seen_board v).task.goal ≡ None
@@ -77,7 +78,7 @@ not-dear p None S less = refl
 not-dear p (Some d) S less = ap not less
 
 -- in an enumeration and in a search for consequences it may be delivered
-pub is-listed : (m : Mode) (v : Knows) (s t : Searching) (u : Units) (leaf : ℕ) (S : Atoms) → optimises (goal_of m) ≡ false → Finds m v s t u leaf S → IsTrue (lists (seen_board v).task S)
+pub is-listed : (m : Mode) (v : Knows) (s t : Searching) (u : Units) (leaf : ℕ) (S : Atoms) → is_opt m ≡ false → Finds m v s t u leaf S → IsTrue (lists (seen_board v).task S)
 is-listed Enum v s t u leaf S listing f =
     let same : s.program ≡ (seen_board v).task.program = f.on.going.program ∙ ap (λ (x : Task). x.program) (sym (board-task v)) in
     may-list (seen_board v).task s.bound S f.on.going.work.goal (subst (λ (p : Program). costs_bound p s.bound S ≡ false) same (not-dear s.program s.bound S f.cheaper))
@@ -110,7 +111,7 @@ module _ (v w : Knows) (before : List Event) (stays : Stays v w) (s t : Searchin
   new-in : (m : Mode) → Finds m v s t u leaf S → list_any (same_set S) (used_up (reasoning_of m) s.program s.known) ≡ false
   new-in m f = ap (λ (k : Mode). list_any (same_set S) (used_up (reasoning_of k) s.program s.known)) (sym f.on.going.mode_is) ∙ f.new
 
-  delivered-in : (m : Mode) → optimises (goal_of m) ≡ false → Finds m v s t u leaf S → IsCall v w before (event.Deliver v.number S ∷ []) → IsAtWork (happens (replay (task_of v) before) (event.Deliver v.number S)) v.number m t.known t.bound u
+  delivered-in : (m : Mode) → is_opt m ≡ false → Finds m v s t u leaf S → IsCall v w before (event.Deliver v.number S ∷ []) → IsAtWork (happens (replay (task_of v) before) (event.Deliver v.number S)) v.number m t.known t.bound u
   delivered-in Enum listing f call =
       let b : Board = replay (task_of v) before in
       let r = records-in Enum f in
@@ -125,7 +126,7 @@ module _ (v w : Knows) (before : List Event) (stays : Stays v w) (s t : Searchin
       (subst (λ (o : Option (List ℤ)). IsAtWork (happens b (event.Deliver v.number S)) v.number (Consequences k) (common_sets k b.task.program (s.known ++ S ∷ [])) o u) (sym r.1)
       (work-told b v.number S k s.known s.bound u (at-moment (Consequences k) (event.Deliver v.number S ∷ []) call f) (guard-was v w before stays (event.Deliver v.number S) call)))
 
-  module _ (m : Mode) (listing : optimises (goal_of m) ≡ false) (f : Finds m v s t u leaf S) where
+  module _ (m : Mode) (listing : is_opt m ≡ false) (f : Finds m v s t u leaf S) where
     goes-delivered : IsCall v w before (event.Deliver v.number S ∷ []) → GoesOn m w t u
     goes-delivered call =
         let b : Board = replay (task_of v) before in

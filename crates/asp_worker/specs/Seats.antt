@@ -142,7 +142,7 @@ pub record IsIdle (v : Knows) : Type 0 where
 -- The seat's board is for a run of this program.
 pub record IsRunOf (p : Program) (m : Mode) (v : Knows) : Type 0 where
   pub program : (task_of v).program ≡ p
-  pub goal : (task_of v).goal ≡ goal_of m
+  pub goal : (n : Bool) × ((task_of v).goal ≡ goal_of m n)
 
 -- The worker is one of those that share these.
 pub record IsPlaced (c : Shared) (h : Worker) : Type 0 where

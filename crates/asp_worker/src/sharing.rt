@@ -8,13 +8,13 @@ ghost use Rattle.asp_model.specs.Sets.{IsSubset};
 ghost use Rattle.asp_model.specs.Models.{atoms_of};
 ghost use Rattle.asp_rows.specs.Listed.{IsRowFor};
 ghost use Rattle.asp_vars.specs.Paid.{Units};
-ghost use Rattle.asp_core.specs.Boards.{goal_of, optimises};
 ghost use Rattle.asp_vault.specs.Seats.{view, IsOf, IsBeside};
 ghost use Rattle.asp_log.specs.Entries.{IsEntry};
 ghost use Rattle.asp_book.specs.Calls.{seen_board};
 ghost use Rattle.asp_search.specs.Beside.{count_unshown, left_to_show, Leaves};
 ghost use Rattle.asp_search_laws.specs.Searching.{Searching};
 ghost use Rattle.asp_slots.specs.Shelves.{program_of, seen_count, listed, IsAt, ReadsOn};
+ghost use Rattle.asp_crew_laws.specs.Proofs.{is_opt};
 ghost use Rattle.asp_worker.specs.Seats.{IsReady, Keeps, IsSettled, Idles, Leases, WasEmpty};
 ghost use Rattle.asp_worker.specs.Sharing.{is_fewer, is_smaller, lowered, ImportsAll, ImportsNew, Remembers, RemembersAll, TakesBest, TakesKnown, TakesOver};
 ghost use Rattle.asp_worker.specs.Working.{GoesOn, Finds, IsStop};
@@ -248,7 +248,7 @@ fn deliver<R: Wait, P: Propagator>(
 ) -> Result<(), Stop>
     requires of { IsOf shared.now.book seat.old }
     requires settled { IsSettled (view seat.old) }
-    requires listing { optimises (goal_of shared.now.mode) ≡ false }
+    requires listing { is_opt shared.now.mode ≡ false }
     requires found { (s : Searching) × (leaf : ℕ) × Finds shared.now.mode (view seat.old) s engine.old.search engine.old.fuel leaf set }
     ensures of { IsBeside seat.old seat.new }
     ensures idles { Idles (view seat.old) (view seat.new) }

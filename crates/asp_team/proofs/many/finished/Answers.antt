@@ -29,7 +29,7 @@ with_ties-requires-clause-report g c = (c.args.plan.budget, c.in_ok-report.ensur
 pub returns-else-plan-clause-report : goal.returns-else-plan-clause-report
 returns-else-plan-clause-report g c =
     let first : Report = c.in_ok-report.report in
-    IfOk-weaker c.with_ties.result (λ (r : Report). (units : ℕ) → IsReport c.args.compiled.now (asks c.args.plan.ask.mode c.args.plan.ask.models) units first → IsReport c.args.compiled.now c.args.plan.ask units r) (IsReport c.args.compiled.now c.args.plan.ask c.args.plan.budget)
+    IfOk-weaker c.with_ties.result (λ (r : Report). (units : ℕ) → IsReport c.args.compiled.now (asks c.args.plan.ask.mode c.args.plan.ask.models c.args.plan.ask.by_name) units first → IsReport c.args.compiled.now c.args.plan.ask units r) (IsReport c.args.compiled.now c.args.plan.ask c.args.plan.budget)
     (λ r is. is c.args.plan.budget c.in_ok-report.ensures.report) c.with_ties.ensures.report
 
 pub returns-else-plan-clause-proof : goal.returns-else-plan-clause-proof
