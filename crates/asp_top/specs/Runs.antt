@@ -103,7 +103,7 @@ report_text p r layout = text_by r.proof p r.results layout
 
 -- what is asked of the program by the options
 abbrev pub ask_of : Options → Program → Ask
-ask_of given p = record { mode = mode_of given.mode p; models = given.models; all_optima = given.all_optima }
+ask_of given p = record { mode = mode_of given.mode p; models = given.models; all_optima = given.all_optima; by_name = is_named given }
 
 -- ---- outputs get atoms, and facts and copies are set aside, before the search
 -- the program that is searched
@@ -357,16 +357,9 @@ pub record Misuses (a : Around) (o : Outcome) : Type 0 where
   pub untouched : IsUntouched a o.report
   pub unasked : IsUnasked a
 
--- a run whose words give this
-abbrev pub RunsOn : Given → Around → Outcome → Type 0
-RunsOn help a o = Helps help_page a o
-RunsOn version a o = Helps version_line a o
-RunsOn (misuse m) a o = Misuses a o
-RunsOn (options given) a o = Runs given a o
-
--- No workers are started: one search does it all with one worker, and none where parts are asked for.
+-- No workers are started: one search does it all with one worker and of queries, and none where parts are asked for.
 abbrev pub is_alone : Options → Bool
-is_alone given = (given.workers == 1) || is_some given.split
+is_alone given = (given.workers == 1) || is_some given.split || given.queries
 
 -- how many workers are started
 abbrev pub crew_of : Options → ℕ
