@@ -1,12 +1,11 @@
 -- Cores: lists of literals, and what holds in a set that has them.
-use Rattle.std.proofs.Common.{◌≡◌, ◌∙◌, ℕ, ◌+◌, ◌≤◌, Bool, true, false, not, ◌||◌, ◌&&◌, cond, List, [], ◌∷◌, ◌++◌, length, take, drop, refl, sym, ap, subst, arith}
+use Rattle.std.proofs.Common.{◌≡◌, ◌∙◌, ℕ, ◌+◌, ◌≤◌, Bool, true, false, not, ◌||◌, ◌&&◌, cond, List, [], ◌∷◌, ◌++◌, length, take, drop, take-append-drop, refl, sym, ap, subst, arith}
 use Rattle.std.specs.Prelude.{ℤ, Contains, filter, nat_le}
 use Rattle.std.specs.Ordering.{int_eq}
 use Rattle.std.specs.List.{insert, list_all, list_any}
 use Rattle.std.proofs.lemmas.Bool.{and_parts, and_from, false≢true, le-leb, leb-true, or_left, or_right}
 use Rattle.std.proofs.lemmas.List.{append-nil, length-append}
 use Rattle.std.proofs.lemmas.List.Folds.{list_all-append, list_any-append}
-use Rattle.std.proofs.Math.Seq.{take-append-drop}
 use Rattle.asp_model.specs.declared.program.Program.{Program}
 use Rattle.asp_model.specs.Holding.{all_hold, holds}
 use Rattle.asp_model.specs.Models.{answers, is_stable, is_violated, least_model, rules_in_force}
@@ -65,17 +64,23 @@ listed-more old now new xs y was puts l =
     puts l ∙ ap (λ (b : Bool). b || int_eq y l) (was l) ∙ or_more (is_listed old l) (is_listed xs l) (int_eq y l)
     ∙ ap (λ (b : Bool). is_listed old l || b) (sym (listed-push xs y l))
 
+-- the literals of two lists were put in
+pub listed-both : (none one two xs ys : List ℤ) → none ≡ [] → ((l : ℤ) → is_listed one l ≡ (is_listed none l || is_listed xs l)) → ((l : ℤ) → is_listed two l ≡ (is_listed one l || is_listed ys l)) → (l : ℤ)
+    → is_listed two l ≡ is_listed (xs ++ ys) l
+listed-both none one two xs ys e first second l =
+    second l ∙ ap (λ (b : Bool). b || is_listed ys l) (first l ∙ ap (λ (ls : List ℤ). is_listed ls l || is_listed xs l) e) ∙ sym (listed-append xs ys l)
+
 pub listed-none : (xs : List ℤ) (l : ℤ) → is_listed xs l ≡ (is_listed xs l || is_listed [] l)
 listed-none xs l = sym (or_none (is_listed xs l))
 
 -- ---- a literal is left out
 pub without-push : (l k : ℤ) (xs : List ℤ) → without l (xs ++ k ∷ []) ≡ without l xs ++ without l (k ∷ [])
 without-push l k [] = refl
-without-push l k (x ∷ xs) = by (not (int_eq x l))
+without-push l k (x ∷ xs) = by (not (int_eq x l)) (without-push l k xs)
   where
-    by : (b : Bool) → cond b (x ∷ without l (xs ++ k ∷ [])) (without l (xs ++ k ∷ [])) ≡ cond b (x ∷ without l xs) (without l xs) ++ without l (k ∷ [])
-    by true = ap (λ (ls : List ℤ). x ∷ ls) (without-push l k xs)
-    by false = without-push l k xs
+    by : (b : Bool) → without l (xs ++ k ∷ []) ≡ without l xs ++ without l (k ∷ []) → cond b (x ∷ without l (xs ++ k ∷ [])) (without l (xs ++ k ∷ [])) ≡ cond b (x ∷ without l xs) (without l xs) ++ without l (k ∷ [])
+    by true h = ap (λ (ls : List ℤ). x ∷ ls) h
+    by false h = h
 
 pub length-without : (l : ℤ) (xs : List ℤ) → length (without l xs) ≤ length xs
 length-without l [] = omega arith
@@ -86,30 +91,37 @@ length-without l (x ∷ xs) = by (not (int_eq x l)) (length-without l xs)
     by false h = omega (arith, h)
 
 -- what is listed of the others
-other-listed : (l k : ℤ) (xs : List ℤ) → is_listed (without l xs) k ≡ true → (is_listed xs k ≡ true) × (int_eq k l ≡ false)
-other-listed l k [] h = absurd (false≢true h)
-other-listed l k (x ∷ xs) h = by (int_eq x l) refl h
-  where
-    more : (is_listed xs k ≡ true) × (int_eq k l ≡ false) → (is_listed (x ∷ xs) k ≡ true) × (int_eq k l ≡ false)
-    more r = (or_right (int_eq x k) (is_listed xs k) r.0, r.1)
+abbrev IsOther : ℤ → ℤ → List ℤ → Type 0
+IsOther l k xs = (is_listed xs k ≡ true) × (int_eq k l ≡ false)
 
-    by : (b : Bool) → int_eq x l ≡ b → is_listed (cond (not b) (x ∷ without l xs) (without l xs)) k ≡ true → (is_listed (x ∷ xs) k ≡ true) × (int_eq k l ≡ false)
-    by true e h = more (other-listed l k xs h)
-    by false e h = either ((is_listed (x ∷ xs) k ≡ true) × (int_eq k l ≡ false)) (int_eq x k) (is_listed (without l xs) k) h
-        (λ same. (or_left (int_eq x k) (is_listed xs k) same, subst (λ (y : ℤ). int_eq y l ≡ false) (int_eq_same x k same) e))
-        (λ rest. more (other-listed l k xs rest))
+other-more : (l k x : ℤ) (xs : List ℤ) → IsOther l k xs → IsOther l k (x ∷ xs)
+other-more l k x xs r = (or_right (int_eq x k) (is_listed xs k) r.0, r.1)
+
+other-by : (l k x : ℤ) (xs : List ℤ) (b : Bool) → int_eq x l ≡ b → (is_listed (without l xs) k ≡ true → IsOther l k xs) → is_listed (cond (not b) (x ∷ without l xs) (without l xs)) k ≡ true → IsOther l k (x ∷ xs)
+other-by l k x xs true e rest h = other-more l k x xs (rest h)
+other-by l k x xs false e rest h =
+    either (IsOther l k (x ∷ xs)) (int_eq x k) (is_listed (without l xs) k) h
+    (λ same. (or_left (int_eq x k) (is_listed xs k) same, subst (λ (y : ℤ). int_eq y l ≡ false) (int_eq_same x k same) e))
+    (λ later. other-more l k x xs (rest later))
+
+other-listed : (l k : ℤ) (xs : List ℤ) → is_listed (without l xs) k ≡ true → IsOther l k xs
+other-listed l k [] h = absurd (false≢true h)
+other-listed l k (x ∷ xs) h = other-by l k x xs (int_eq x l) refl (other-listed l k xs) h
+
+listed-by : (l k x : ℤ) (xs : List ℤ) (b : Bool) → int_eq x l ≡ b → int_eq k l ≡ false → is_listed (x ∷ xs) k ≡ true → (is_listed xs k ≡ true → is_listed (without l xs) k ≡ true)
+    → is_listed (cond (not b) (x ∷ without l xs) (without l xs)) k ≡ true
+listed-by l k x xs true e no h rest =
+    either (is_listed (without l xs) k ≡ true) (int_eq x k) (is_listed xs k) h
+    (λ same. absurd (false≢true (sym no ∙ (ap (λ (y : ℤ). int_eq y l) (sym (int_eq_same x k same)) ∙ e))))
+    rest
+listed-by l k x xs false e no h rest =
+    either (is_listed (x ∷ without l xs) k ≡ true) (int_eq x k) (is_listed xs k) h
+    (λ same. or_left (int_eq x k) (is_listed (without l xs) k) same)
+    (λ later. or_right (int_eq x k) (is_listed (without l xs) k) (rest later))
 
 listed-other : (l k : ℤ) (xs : List ℤ) → is_listed xs k ≡ true → int_eq k l ≡ false → is_listed (without l xs) k ≡ true
 listed-other l k [] h no = absurd (false≢true h)
-listed-other l k (x ∷ xs) h no = by (int_eq x l) refl
-  where
-    by : (b : Bool) → int_eq x l ≡ b → is_listed (cond (not b) (x ∷ without l xs) (without l xs)) k ≡ true
-    by true e = either (is_listed (without l xs) k ≡ true) (int_eq x k) (is_listed xs k) h
-        (λ same. absurd (false≢true (sym no ∙ (ap (λ (y : ℤ). int_eq y l) (sym (int_eq_same x k same)) ∙ e))))
-        (λ rest. listed-other l k xs rest no)
-    by false e = either (is_listed (x ∷ without l xs) k ≡ true) (int_eq x k) (is_listed xs k) h
-        (λ same. or_left (int_eq x k) (is_listed (without l xs) k) same)
-        (λ rest. or_right (int_eq x k) (is_listed (without l xs) k) (listed-other l k xs rest no))
+listed-other l k (x ∷ xs) h no = listed-by l k x xs (int_eq x l) refl no h (λ later. listed-other l k xs later no)
 
 pub among-without : (l : ℤ) (xs : List ℤ) → AreAmong (without l xs) xs
 among-without l xs = λ k h. (other-listed l k xs h).0
@@ -154,7 +166,7 @@ pub meets-fewer : (p : Program) (some all : List ℤ) → AreAmong some all → 
 meets-fewer p some all among met = (met.0, met.1, among-holds met.0 some all among met.2)
 
 -- ---- assumptions don't change what is stable
-abbrev assuming : Program → List ℤ → Program
+abbrev pub assuming : Program → List ℤ → Program
 assuming p ls = record p { assumptions = ls }
 
 same-least : (p : Program) (ls : List ℤ) → IsSound p → IsSound (assuming p ls) → (S : Atoms) → least_model (assuming p ls) S ≡ least_model p S

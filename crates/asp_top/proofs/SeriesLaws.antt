@@ -1,6 +1,6 @@
 -- Queries that are answered one after another.
 use Rattle.std.proofs.Common.{◌≡◌, ◌∙◌, ◌⊎◌, ℕ, ◌+◌, ◌-◌, ◌≤◌, zero, suc, Bool, true, false, not, ◌&&◌, ◌||◌, List, [], ◌∷◌, ◌++◌, length, drop, refl, sym, ap, subst, inl, inr, arith}
-use Rattle.std.specs.Prelude.{ℤ, Option, None, Some, Result, Ok, Err, IfSome, IsErrOf, OnOk}
+use Rattle.std.specs.Prelude.{ℤ, Option, None, Some, Result, Ok, Err, IfErr, IfSome, IsErrOf, OnOk}
 use Rattle.std.specs.Io.KnownBytes.{Appends, IsAtEnd, Keeps}
 use Rattle.std.proofs.KnownBytes.{Appends-kept, Appends-nil, Appends-trans, Keeps-refl}
 use Rattle.std.proofs.lemmas.Bool.{false≢true}
@@ -44,7 +44,7 @@ use Rattle.asp_top.proofs.ToldLaws.{listed-text}
 spends : (c : Option Core) (spent left units all : ℕ) → spent + left ≡ units → all ≡ spent + spent_in c → IfSome (literals_in c) (λ core. minimal_in c ≡ false → spent_in c ≡ left)
     → IfSome (literals_in c) (λ core. minimal_in c ≡ false → all ≡ units)
 spends None spent left units all a b h = tt
-spends (Some c) spent left units all a b h = λ open. let e = h open in omega (arith, a, b, e)
+spends (Some c) spent left units all a b h = λ spent_all. let e = h spent_all in omega (arith, a, b, e)
 
 pub reply-is : (given : Options) (p : Program) (query : List ℤ) (units : ℕ) (s : Sought) (c : Option Core) (left spent : ℕ) → seeks_consequences (Some given.mode) ≡ false → IsSound (with_query p query)
     → IsSought given (with_query p query) (about given (with_query p query)) units s → left ≡ units - s.report.spent → IsReason given.core_min p (p.assumptions ++ query) (is_refuted s.report.results) left c
@@ -84,11 +84,24 @@ step-means given p query number c held held' w w' x (Err Unknown) is text quiet 
 step-means given p query number c held held' w w' x (Err status) is text quiet goes = absurd goes
 
 -- what follows a reply doesn't say that the sink failed
-pub goes-closed : (c : Course) (x : Answered) (result : Result Course Status) (is_closed : Bool) → GoesOn c x result → (s : Status) → result ≡ Err s → TellsClosed s is_closed
-goes-closed c x (Ok d) is_closed goes s e = absurd (let f : ⊥ = cc in f)
-goes-closed c x (Err Partial) is_closed goes s e = subst (λ (t : Status). TellsClosed t is_closed) (let same : Partial ≡ s = cc in same) tt
-goes-closed c x (Err Unknown) is_closed goes s e = subst (λ (t : Status). TellsClosed t is_closed) (let same : Unknown ≡ s = cc in same) tt
-goes-closed c x (Err status) is_closed goes s e = absurd goes
+pub goes-closed : (c : Course) (x : Answered) (result : Result Course Status) (is_closed : Bool) → GoesOn c x result → IfErr result (λ s. TellsClosed s is_closed)
+goes-closed c x (Ok d) is_closed goes = tt
+goes-closed c x (Err Partial) is_closed goes = tt
+goes-closed c x (Err Unknown) is_closed goes = tt
+goes-closed c x (Err status) is_closed goes = absurd goes
+
+pub goes-sent : (result : Result Course Status) (is_sent : Bool) → is_sent ≡ true → IfErr result (λ s. IsSentOn s is_sent)
+goes-sent (Ok d) is_sent sent = tt
+goes-sent (Err s) is_sent sent = λ written. sent
+
+pub goes-sent_on : (result : Result Course Status) (is_sent : Bool) → is_sent ≡ true → OnOk result (is_sent ≡ true)
+goes-sent_on (Ok d) is_sent sent = sent
+goes-sent_on (Err s) is_sent sent = tt
+
+-- a front of the text of a reply was written
+pub breaks : (given : Options) (p : Program) (query : List ℤ) (number : ℕ) (c : Course) (held held' : Option (List ℕ)) (w w' : ℕ) (y : Reply) (text : List ℕ) → IsReply given p query c.left y → text ≡ answered_text given p query number (answered_of y)
+    → AppendsFront held held' text → Rose w w' → w ≤ w' → Breaks given p query number c held held' w w'
+breaks given p query number c held held' w w' y text reply same front rose later = record { x = answered_of y; is = reply.answered; text = subst (AppendsFront held held') same front; cause = rose; later = later }
 
 -- ---- one more query
 nothing-left : {A : Type 0} (n : ℕ) (x : A) (xs : List A) → drop n [] ≡ x ∷ xs → ⊥
@@ -104,7 +117,7 @@ done-parts true false e = absurd (false≢true e)
 done-parts false b e = absurd (false≢true e)
 
 not-open : (x : Answered) → is_done x.done.results.end ≡ true → is_open x ≡ true → ⊥
-not-open x done open = false≢true (sym (ap not done) ∙ open)
+not-open x done o = false≢true (sym (ap not done) ∙ o)
 
 pub answered-push : (given : Options) (p : Program) (queries : List (List ℤ)) (query : List ℤ) (rest : List (List ℤ)) (units : ℕ) (xs : List Answered) (x : Answered) (left : ℕ) → drop (length xs) queries ≡ query ∷ rest
     → AreAnswered given p queries units xs left → all_done xs ≡ true → IsAnsweredBy given p query left x → AreAnswered given p queries units (xs ++ x ∷ []) (left - x.spent)
@@ -113,12 +126,12 @@ answered-push given p [] query rest units (y ∷ xs) x left at are done is = abs
 answered-push given p (q ∷ queries) query rest units [] x left at are done is =
     let same : query ≡ q = sym (first-is q query queries rest at) in (
       subst (λ (n : ℕ). IsAnsweredBy given p q n x) are (subst (λ (l : List ℤ). IsAnsweredBy given p l left x) same is),
-      λ open. refl,
+      λ o. refl,
       ap (λ (n : ℕ). n - x.spent) are,
     )
 answered-push given p (q ∷ queries) query rest units (y ∷ xs) x left at are done is =
     let both = done-parts (is_done y.done.results.end) (all_done xs) done in
-    (are.0, λ open. absurd (not-open y both.0 open), answered-push given p queries query rest (units - y.spent) xs x left at are.2 both.1 is)
+    (are.0, λ o. absurd (not-open y both.0 o), answered-push given p queries query rest (units - y.spent) xs x left at are.2 both.1 is)
 
 pub text-push : (given : Options) (p : Program) (queries : List (List ℤ)) (query : List ℤ) (rest : List (List ℤ)) (units n : ℕ) (xs : List Answered) (x : Answered) (left : ℕ) → drop (length xs) queries ≡ query ∷ rest
     → AreAnswered given p queries units xs left → series_text given p queries n (xs ++ x ∷ []) ≡ series_text given p queries n xs ++ answered_text given p query (n + length xs) x
@@ -245,7 +258,7 @@ at-stops given s count query rest held held' held'' w w' w'' c (WriteFault close
         text = subst (AppendsFront held held'') (sym (text-more given s count query rest held held' held'' w w' c x at next)) (front-after held held' held'' _ _ at.text step.text);
         cause = subst (λ (n : ℕ). Rose n w'') b rose;
       };
-      later = omega (arith, b, rose);
+      later = let l = step.later in omega (arith, b, l);
     }
 at-stops given s count query rest held held' held'' w w' w'' c status at next step = absurd step
 
@@ -434,3 +447,6 @@ unclosed (errors.Refused fault line) is_closed = tt
 
 pub unread-closed : (e : ReadError) (status : Status) (o : Outcome) (is_closed : Bool) → o ≡ record { status = status; report = None } → status ≡ status_of e → TellsClosed o.status is_closed
 unread-closed e status o is_closed is same = subst (λ (x : Status). TellsClosed x is_closed) (sym (ap (λ (y : Outcome). y.status) is ∙ same)) (unclosed e is_closed)
+
+pub ok-no-fault : (s : Series) (e : ReadError) → ¬ IsErrOf {T = Series} (Ok s) e
+ok-no-fault s e is = cc

@@ -117,7 +117,7 @@ least-reason p literals all units c sound bare same least = record {
   );
   paid = least.paid;
   plain = λ e. absurd (false≢true (sym e));
-  spends = λ e open. least.open_at open;
+  spends = λ e all_spent. least.open_at all_spent;
 }
 
 -- all that was assumed

@@ -156,6 +156,7 @@ pub record Breaks (given : Options) (p : Program) (query : List ℤ) (number : �
   pub is : IsAnsweredBy given p query c.left x
   pub text : AppendsFront held held' (answered_text given p query number x)
   pub cause : Rose writes writes'
+  pub later : writes ≤ writes'
 
 -- what a query led to
 abbrev pub StepMeans : Options → Program → List ℤ → ℕ → Course → Option (List ℕ) → Option (List ℕ) → ℕ → ℕ → Result Course Status → Type 0

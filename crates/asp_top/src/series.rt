@@ -25,6 +25,7 @@ use asp_model::results::End;
 use asp_print::{Query, print_query};
 use asp_read::{Series, read_queries};
 use std::alloc::{AllocError, Global};
+use std::mem;
 
 /// What was found of a query.
 #[derive(Drop)]
@@ -171,7 +172,31 @@ fn go_on(course: Course, reply: &Reply) -> Result<Course, Status>
     }
 }
 
-// Asks one query, and writes what was found before the next begins.
+// Writes what was found of a query, and says what follows.
+fn hand_over<K: Sink>(
+    alloc: Global,
+    options: &Options,
+    program: &Program,
+    query: &[i32],
+    number: u64,
+    course: Course,
+    reply: &Reply,
+    sink: &mut K,
+) -> Result<Course, Status>
+    requires plain { seeks_consequences (Some options.now.mode) ≡ false }
+    requires reply { IsReply options.now program.now query.now course.left reply.now }
+    ensures means { StepMeans options.now program.now query.now number course (K.held sink.old) (K.held sink.new) (K.faults sink.old) (K.faults sink.new) result }
+    ensures sent_on { OnOk result (K.is_sent sink.new ≡ true) }
+    ensures sent { IfErr result (λ s. IsSentOn s (K.is_sent sink.new)) }
+    ensures closed { IfErr result (λ s. TellsClosed s (K.is_closed sink.new)) }
+{
+    match tell(alloc, options, program, number, reply, sink) {
+        Ok(()) => go_on(course, reply),
+        Err(Failed) => Err(Status::WriteFault(sink.is_closed())),
+    }
+}
+
+// Asks one query. What was found is written, and sent on, before the next begins.
 fn step<K: Sink, W: Watch>(
     alloc: Global,
     options: &Options,
@@ -187,17 +212,20 @@ fn step<K: Sink, W: Watch>(
     requires itself { IsSound program.now }
     requires sound { IsSound (with_query program.now query.now) }
     ensures means { StepMeans options.now program.now query.now number course (K.held sink.old) (K.held sink.new) (K.faults sink.old) (K.faults sink.new) result }
+    ensures sent_on { OnOk result (K.is_sent sink.new ≡ true) }
     ensures sent { IfErr result (λ s. IsSentOn s (K.is_sent sink.new)) }
     ensures closed { IfErr result (λ s. TellsClosed s (K.is_closed sink.new)) }
     ensures heard { W.IsAfter watch.old watch.new }
 {
-    let reply = match answer(alloc, options, program, query, course.left, counts, watch) {
-        Ok(reply) => reply,
-        Err(_) => return Err(Status::Memory),
-    };
-    match tell(alloc, options, program, number, &reply, sink) {
-        Ok(()) => go_on(course, &reply),
-        Err(Failed) => Err(Status::WriteFault(sink.is_closed())),
+    match answer(alloc, options, program, query, course.left, counts, watch) {
+        Ok(reply) => {
+            let next = hand_over(
+                alloc, options, program, query, number, course, &reply, sink,
+            );
+            mem::drop(reply);
+            next
+        }
+        Err(_) => Err(Status::Memory),
     }
 }
 
