@@ -35,9 +35,10 @@ use Rattle.asp_core.specs.declared.event.Event.TheVariants as event
 use Rattle.asp_core.specs.declared.goal.Goal.{Goal}
 use Rattle.asp_core.specs.declared.goal.Goal.TheVariants as goal
 use Rattle.asp_core.specs.declared.task.Task.{Task}
-use Rattle.asp_core.specs.Boards.{Board, IsQuery, wanted, is_answer, start, lists, optimises, sought, bound_by, bound_of, used, distinct, is_excused}
+use Rattle.asp_core.specs.Boards.{Board, IsQuery, wanted, is_answer, start, lists, optimises, sought, bound_by, bound_of, used, distinct, is_excused, showing_of}
 use Rattle.asp_core.specs.Events.{held_by, Guard, happens}
 use Rattle.asp_core.specs.Invariant.{IsCube, IsSettled, IsReason, IsBoard}
+use Rattle.asp_core.proofs.AskedLaws.{showing-among}
 use Rattle.asp_core.proofs.UnitLaws.{total-leased, total-returned, single-none, single-leased, single-returned}
 use Rattle.asp_core.proofs.CubeLaws.{IsCube-start, IsCube-push, cube-at}
 
@@ -222,7 +223,8 @@ pub among-more : (K : List Atoms) (S : Atoms) → AreAmong K (K ++ S ∷ [])
 among-more K S T h = list_any-append (same_set T) K (S ∷ []) ∙ or_left (list_any (same_set T) K) (list_any (same_set T) (S ∷ [])) h
 
 pub excused-delivered : (b : Board) (S T : Atoms) → is_excused b T ≡ true → is_excused (record b { answers = b.answers ++ S ∷ [] }) T ≡ true
-excused-delivered b S T h = done-used (sought b.task.goal) b.task.program b.answers (b.answers ++ S ∷ []) (bound_of b) T (among-more b.answers S) h
+excused-delivered b S T h =
+    done-used (sought b.task.goal) b.task.program (showing_of b) (showing_of (record b { answers = b.answers ++ S ∷ [] })) (bound_of b) T (showing-among b.task.goal b.task.program b.answers (b.answers ++ S ∷ []) (among-more b.answers S)) h
 
 pub not_after : (c d : List ℤ) → betters d c ≡ true → betters c d ≡ false
 not_after c d e = subst (λ x. betters c (cond x d c) ≡ false) e (smaller_left c d)
@@ -231,7 +233,7 @@ pub done-improved : (m : Goal) (p : Program) (K : List Atoms) (best : Option Ato
     is_done p K (bound_by m p best) T ≡ true → is_done p K (bound_by m p (Some S)) T ≡ true
 done-improved goal.Enum p K best S T o less h = absurd (false≢true o)
 done-improved (goal.Ties c) p K best S T o less h = absurd (false≢true o)
-done-improved (goal.Consequences r) p K best S T o less h = absurd (false≢true o)
+done-improved (goal.Consequences r n) p K best S T o less h = absurd (false≢true o)
 done-improved goal.Opt p K None S T o less h = or_right_more (list_any (same_set T) K) false (costs p (cost p S) T) (λ e. absurd (false≢true e)) h
 done-improved goal.Opt p K (Some B) S T o less h =
     let betters_it : betters (cost p S) (cost p B) ≡ true = not_false (betters (cost p S) (cost p B)) (or_none (list_any (same_set S) K) (costs p (cost p B) S) less) in

@@ -8,6 +8,7 @@ use Rattle.std.proofs.lemmas.List.Folds.{list_any-append}
 use Rattle.asp_model.specs.declared.program.Program.{Program}
 use Rattle.asp_model.specs.declared.results.Reasoning.{Reasoning}
 use Rattle.asp_model.specs.Consequences.{common_sets}
+use Rattle.asp_model.proofs.ConsequenceLaws.{pushed-some}
 use Rattle.asp_model.specs.Sets.{Atoms, same_set}
 use Rattle.asp_model.specs.Costs.{cost, betters}
 use Rattle.asp_vars.specs.Entailment.{costs, is_done}
@@ -21,9 +22,10 @@ use Rattle.asp_core.specs.declared.event.Event.TheVariants as event
 use Rattle.asp_core.specs.declared.goal.Goal.{Goal}
 use Rattle.asp_core.specs.declared.goal.Goal.TheVariants as goal
 use Rattle.asp_core.specs.Units.{out_of, leased, returned}
-use Rattle.asp_core.specs.Boards.{Board, IsBoundBy, bound_by, count_by, distinct, sought, used}
+use Rattle.asp_core.specs.Boards.{Board, IsBoundBy, bound_by, count_by, distinct, showing, showing_by, sought, used}
 use Rattle.asp_core.specs.Events.{Guard, happens, held_by, maker, run, IsLawful}
 use Rattle.asp_core.specs.Growth.{Grows, Spares}
+use Rattle.asp_core.proofs.AskedLaws.{showing_by-empty}
 use Rattle.asp_core.proofs.BoardLaws.{distinct-push, excused-delivered, done-improved, held-changed, held-split, not_after, not_false, or_none}
 use Rattle.asp_core.proofs.HeldLaws.{stays-happens}
 
@@ -50,19 +52,23 @@ distinct-grows A S = here (list_any (same_set S) (distinct A)) (distinct-push A 
 bound-improved : (m : Goal) (p : Program) (K : List Atoms) (best : Option Atoms) (S : Atoms) (d : List ℤ) → is_done p K (bound_by m p best) S ≡ false → IsBoundBy m p best d → IsBoundBy m p (Some S) d
 bound-improved goal.Enum p K best S d less h = absurd h
 bound-improved (goal.Ties c) p K best S d less h = h
-bound-improved (goal.Consequences r) p K best S d less h = absurd h
+bound-improved (goal.Consequences r n) p K best S d less h = absurd h
 bound-improved goal.Opt p K None S d less h = absurd h
 bound-improved goal.Opt p K (Some B) S d less h =
     let better : betters (cost p S) (cost p B) ≡ true = not_false (betters (cost p S) (cost p B)) (or_none (list_any (same_set S) K) (costs p (cost p B) S) less) in
     betters_trans d (cost p B) (cost p S) h (not_after (cost p B) (cost p S) better)
 
-one-grows : (r : Reasoning) (p : Program) (A : List Atoms) (S : Atoms) → length (common_sets r p A) ≤ length (common_sets r p (A ++ S ∷ []))
-one-grows r p [] S = omega arith
-one-grows r p (T ∷ A) S = omega arith
+one-grows : (r : Reasoning) (p : Program) (A B : List Atoms) → (B ≡ [] → A ≡ []) → length (common_sets r p A) ≤ length (common_sets r p B)
+one-grows r p [] B some = omega arith
+one-grows r p (T ∷ A) [] some = absurd (let e : T ∷ A ≡ [] = some refl in let f : ⊥ = cc in f)
+one-grows r p (T ∷ A) (U ∷ B) some = omega arith
 
-count-grows : (k : Option Reasoning) (p : Program) (A : List Atoms) (S : Atoms) → count_by k p A ≤ count_by k p (A ++ S ∷ [])
-count-grows None p A S = distinct-grows A S
-count-grows (Some r) p A S = one-grows r p A S
+count-grows : (g : Goal) (p : Program) (A : List Atoms) (S : Atoms) → count_by (sought g) p (showing g p A) ≤ count_by (sought g) p (showing g p (A ++ S ∷ []))
+count-grows goal.Enum p A S = distinct-grows A S
+count-grows goal.Opt p A S = distinct-grows A S
+count-grows (goal.Ties c) p A S = distinct-grows A S
+count-grows (goal.Consequences r n) p A S =
+    one-grows r p (showing_by n r p A) (showing_by n r p (A ++ S ∷ [])) (λ e. absurd (pushed-some A S (showing_by-empty n r p (A ++ S ∷ []) e)))
 
 pub Grows-happens : (b : Board) (e : Event) → Guard b e → Grows b (happens b e)
 Grows-happens b (event.Take s leaf) g = record { task = refl; excused = λ S h. h; listed = λ S h. h; known = omega arith; bounds = λ d h. h }
@@ -71,7 +77,7 @@ Grows-happens b (event.Deliver s S) g = record {
   task = refl;
   excused = λ T h. excused-delivered b S T h;
   listed = λ T h. list_any-append (same_set T) b.answers (S ∷ []) ∙ or_left (list_any (same_set T) b.answers) (list_any (same_set T) (S ∷ [])) h;
-  known = count-grows (sought b.task.goal) b.task.program b.answers S;
+  known = count-grows b.task.goal b.task.program b.answers S;
   bounds = λ d h. h;
 }
 Grows-happens b (event.Improve s S) g = record {

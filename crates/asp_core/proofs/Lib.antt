@@ -11,3 +11,4 @@ pub mod RowLaws
 pub mod PriceLaws
 pub mod GrowthLaws
 pub mod SeenLaws
+pub mod AskedLaws

@@ -13,7 +13,7 @@ use Rattle.asp_model.specs.Costs.{cost, betters}
 use Rattle.asp_model.proofs.MemberLaws.{each_weaker, one_passes}
 use Rattle.asp_model.proofs.ModelLaws.{same_bools, models-are}
 use Rattle.asp_model.proofs.ListedLaws.{contains_from_test, test_from_contains}
-use Rattle.asp_model.proofs.ConsequenceLaws.{listed-filter, used-covered, consequences-covered}
+use Rattle.asp_model.proofs.ConsequenceLaws.{listed-filter, used-covered}
 use Rattle.asp_model.specs.Consequences.{used_up, consequences_of}
 use Rattle.asp_vars.specs.Literals.{hits}
 use Rattle.asp_vars.specs.Numbering.{values}
@@ -27,10 +27,11 @@ use Rattle.asp_core.specs.declared.event.Event.TheVariants as event
 use Rattle.asp_core.specs.declared.goal.Goal.{Goal}
 use Rattle.asp_core.specs.declared.goal.Goal.TheVariants as goal
 use Rattle.asp_core.specs.declared.task.Task.{Task}
-use Rattle.asp_core.specs.Boards.{Board, IsQuery, wanted, is_answer, start, lists_by, lists, optimises, sought, bound_by, used, is_excused}
+use Rattle.asp_core.specs.Boards.{Board, IsQuery, wanted, is_answer, start, lists_by, lists, optimises, sought, bound_by, used, is_excused, showing, showing_by}
 use Rattle.asp_core.specs.Events.{happens, run, IsLawful, replay}
 use Rattle.asp_core.specs.Invariant.{IsSettled, IsBoard, IsOptimum, HasResult}
 use Rattle.asp_core.specs.Sorting.{answers_of}
+use Rattle.asp_core.proofs.AskedLaws.{showing_by-covered}
 use Rattle.asp_core.proofs.SortingLaws.{sorted-answers}
 use Rattle.asp_core.proofs.BoardLaws.{IsBoard-start, IsBoard-happens}
 
@@ -116,12 +117,12 @@ listed-answers t S = listed-filter (λ T. all_hold T (wanted t)) (models t.progr
 abbrev Result : Goal → Task → List Atoms → Option Atoms → Type 0
 Result goal.Enum t A best = (S : Atoms) → list_any (same_set S) A ≡ is_answer t S
 Result goal.Opt t A best = MatchOption best ((S : Atoms) → is_answer t S ≡ false) (IsOptimum t)
-Result (goal.Consequences r) t A best = consequences_of r t.program A ≡ consequences_of r t.program (answers_of t)
+Result (goal.Consequences r n) t A best = consequences_of r t.program (showing_by n r t.program A) ≡ consequences_of r t.program (showing_by n r t.program (answers_of t))
 Result (goal.Ties c) t A best = (S : Atoms) → list_any (same_set S) A ≡ (is_answer t S && lists_by (goal.Ties c) t.program S)
 
 result-by : (m : Goal) (t : Task) (A : List Atoms) (best : Option Atoms) →
     AllByRecursion (λ S. IsTrue (lists_by m t.program S) × IsTrue (is_answer t S)) A → IfSome best (λ S. IsTrue (optimises m) × IsTrue (is_answer t S)) →
-    ((S : Atoms) → is_answer t S ≡ true → is_done t.program (used_up (sought m) t.program A) (bound_by m t.program best) S ≡ true) →
+    ((S : Atoms) → is_answer t S ≡ true → is_done t.program (used_up (sought m) t.program (showing m t.program A)) (bound_by m t.program best) S ≡ true) →
     Result m t A best
 result-by goal.Enum t A best delivered kept excused = λ S. same_bools (list_any (same_set S) A) (is_answer t S) (λ h. (and_parts (is_answer t S) true (delivered_all goal.Enum t A S delivered h)).0) (λ h. or-false (list_any (same_set S) A) (excused S h))
 result-by goal.Opt t A None delivered kept excused = λ S.
@@ -133,10 +134,10 @@ result-by goal.Opt t A (Some B) delivered kept excused = (
 result-by (goal.Ties c) t A best delivered kept excused = λ S.
     same_bools (list_any (same_set S) A) (is_answer t S && lists_by (goal.Ties c) t.program S) (delivered_all (goal.Ties c) t A S delivered)
     (λ h. let parts = and_parts (is_answer t S) (lists_by (goal.Ties c) t.program S) h in or_else (list_any (same_set S) A) (costs_bound t.program c S) (excused S parts.0) parts.1)
-result-by (goal.Consequences r) t A best delivered kept excused =
-    consequences-covered r t.program A (answers_of t)
-    (λ S h. listed-answers t S ∙ (and_parts (is_answer t S) true (delivered_all (goal.Consequences r) t A S delivered h)).0)
-    (λ S h. used-covered r t.program A S (or-false (list_any (same_set S) (used_up (Some r) t.program A)) (excused S (sym (listed-answers t S) ∙ h))))
+result-by (goal.Consequences r n) t A best delivered kept excused =
+    showing_by-covered n r t.program A (answers_of t)
+    (λ S h. listed-answers t S ∙ (and_parts (is_answer t S) true (delivered_all (goal.Consequences r n) t A S delivered h)).0)
+    (λ S h. used-covered r t.program (showing_by n r t.program A) S (or-false (list_any (same_set S) (used_up (Some r) t.program (showing_by n r t.program A))) (excused S (sym (listed-answers t S) ∙ h))))
 
 and-true : (a : Bool) → a ≡ (a && true)
 and-true true = refl
@@ -149,7 +150,7 @@ filter-all (S ∷ L) = ap (λ (X : List Atoms). S ∷ X) (filter-all L)
 result-is : (m : Goal) (b : Board) → m ≡ b.task.goal → Result m b.task b.answers b.best → HasResult m b
 result-is goal.Enum b q h = sorted-answers b.task (λ S. true) b.answers (λ S. h S ∙ and-true (is_answer b.task S)) ∙ filter-all (answers_of b.task)
 result-is goal.Opt b q h = h
-result-is (goal.Consequences r) b q h = h
+result-is (goal.Consequences r n) b q h = h
 result-is (goal.Ties c) b q h = sorted-answers b.task (lists b.task) b.answers (λ S. h S ∙ ap (λ m. is_answer b.task S && lists_by m b.task.program S) q)
 
 pub HasResult-board : (b : Board) → IsBoard b → all_closed b.nodes ≡ true → HasResult b.task.goal b
@@ -162,17 +163,17 @@ HasResult-finished t journal query lawful closed =
     subst By (task-run (start t) journal) (HasResult-board b (IsBoard-replay t journal query lawful) closed)
 
 -- ---- what an optimisation doesn't excuse
-none-by : (m : Goal) (t : Task) (A : List Atoms) (S : Atoms) → optimises m ≡ true → AllByRecursion (λ T. IsTrue (lists_by m t.program T) × IsTrue (is_answer t T)) A → is_done t.program (used_up (sought m) t.program A) (bound_by m t.program None) S ≡ false
+none-by : (m : Goal) (t : Task) (A : List Atoms) (S : Atoms) → optimises m ≡ true → AllByRecursion (λ T. IsTrue (lists_by m t.program T) × IsTrue (is_answer t T)) A → is_done t.program (used_up (sought m) t.program (showing m t.program A)) (bound_by m t.program None) S ≡ false
 none-by goal.Enum t A S o delivered = absurd (false≢true o)
 none-by (goal.Ties c) t A S o delivered = absurd (false≢true o)
-none-by (goal.Consequences r) t A S o delivered = absurd (false≢true o)
+none-by (goal.Consequences r n) t A S o delivered = absurd (false≢true o)
 none-by goal.Opt t A S o delivered = ap (λ (K : List Atoms). list_any (same_set S) K || false) (none_listed t A delivered)
 
 better-by : (m : Goal) (t : Task) (A : List Atoms) (B S : Atoms) → optimises m ≡ true → AllByRecursion (λ T. IsTrue (lists_by m t.program T) × IsTrue (is_answer t T)) A → betters (cost t.program S) (cost t.program B) ≡ true
-    → is_done t.program (used_up (sought m) t.program A) (bound_by m t.program (Some B)) S ≡ false
+    → is_done t.program (used_up (sought m) t.program (showing m t.program A)) (bound_by m t.program (Some B)) S ≡ false
 better-by goal.Enum t A B S o delivered h = absurd (false≢true o)
 better-by (goal.Ties c) t A B S o delivered h = absurd (false≢true o)
-better-by (goal.Consequences r) t A B S o delivered h = absurd (false≢true o)
+better-by (goal.Consequences r n) t A B S o delivered h = absurd (false≢true o)
 better-by goal.Opt t A B S o delivered h = ap (λ (K : List Atoms). list_any (same_set S) K || costs t.program (cost t.program B) S) (none_listed t A delivered) ∙ ap not h
 
 pub unexcused-none : (b : Board) (S : Atoms) → IsBoard b → optimises b.task.goal ≡ true → b.best ≡ None → is_excused b S ≡ false

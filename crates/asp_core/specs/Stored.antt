@@ -1,5 +1,5 @@
 -- How a board is stored: the best with its cost, the minimize statements by which sets are priced, and the rows of the different answers.
-use Rattle.std.specs.Prelude.{◌≡◌, ◌+◌, ◌<◌, ◌≤◌, List, [], length, map, Option, None, Some, option_map}
+use Rattle.std.specs.Prelude.{◌≡◌, ◌+◌, ◌<◌, ◌≤◌, Bool, true, false, List, [], ◌∷◌, ◌++◌, length, map, Option, None, Some, option_map}
 use Rattle.std.specs.Option.{IfSome}
 use Rattle.std.specs.Vec.{vec_capacity}
 use Rattle.asp_model.specs.declared.program.Program.{Program}
@@ -14,7 +14,8 @@ use Rattle.asp_rows.specs.Listed.{AreRows}
 use Rattle.asp_path.specs.Trees.{held_count}
 use Rattle.asp_core.specs.declared.state.State.TheInside.{Inside}
 use Rattle.asp_core.specs.declared.goal.Goal.{Goal}
-use Rattle.asp_core.specs.Boards.{Board, known_by, showing, sought}
+use Rattle.asp_core.specs.declared.goal.Goal.TheVariants as goal
+use Rattle.asp_core.specs.Boards.{Board, known_by, showing, sought, unasked}
 use Rattle.asp_core.specs.Invariant.{IsBoard}
 use Rattle.asp_core.specs.Sorting.{sorted_once, with_set}
 
@@ -34,6 +35,23 @@ board_of s = record {
   burnt = s.burnt;
   reasons = s.reasons.items;
 }
+
+-- the set that stands beside the answers: where consequences are asked for by name, that which shows what isn't asked for
+abbrev pub seed_by : Bool → Reasoning → Program → Option Atoms
+seed_by false r p = None
+seed_by true r p = Some (unasked r p)
+
+abbrev pub seed_of : Goal → Program → Option Atoms
+seed_of goal.Enum p = None
+seed_of goal.Opt p = None
+seed_of (goal.Ties c) p = None
+seed_of (goal.Consequences r n) p = seed_by n r p
+
+-- One answer more is known; beside the first stands the seed.
+abbrev pub with_answer : Option Atoms → List Atoms → Atoms → List Atoms
+with_answer None K S = K ++ S ∷ []
+with_answer (Some T) [] S = T ∷ S ∷ []
+with_answer (Some T) (U ∷ K) S = U ∷ K ++ S ∷ []
 
 -- Where consequences are sought none is listed, and what the answers told have in common and the program's atoms are there.
 abbrev pub IsSeen : Goal → Option Reasoning → Program → Option Knowing → List Atoms → List Atoms → Atoms → Type 0
@@ -58,6 +76,7 @@ pub record IsState (s : Inside) : Type 0 where
   -- With a limit, the different answers stand in a sorted set.
   pub sorted : 0 < s.limit → AreDifferent (atoms_of s.program.value) s.different.keys (answers_in (sought s.goal) s.answers.sets s.told.items)
   pub seen : IsSeen s.goal (sought s.goal) s.program.value s.known s.answers.sets s.told.items s.atoms.items
+  pub seeded : s.seed ≡ seed_of s.goal s.program.value
   -- The answers are rows among the program's atoms.
   pub among : s.answers.atoms ≡ atoms_of s.program.value
   -- There is a free place for the reason of each held leaf.

@@ -1,10 +1,14 @@
 //! Laws of the board. Each function's contract is a law, and its body is empty.
-ghost use Rattle.std.specs.Prelude.{◌≡◌, ◌<◌, ◌++◌, ◌∷◌, [], ℕ, List, length, IsTrue};
+ghost use Rattle.std.specs.Prelude.{◌≡◌, ◌<◌, ◌++◌, ◌∷◌, [], ℕ, Bool, List, length, IsTrue};
 ghost use Rattle.std.specs.List.{AllByRecursion};
 ghost use Rattle.std.specs.List.Retain.{IsFiltered, DiffersFromLast};
 ghost use Rattle.std.specs.List.Sorted.{IsPermutation, IsSorted};
+ghost use Rattle.asp_model.specs.declared.program.Program.{Program};
+ghost use Rattle.asp_model.specs.declared.results.Reasoning.{Reasoning};
+ghost use Rattle.asp_model.specs.Consequences.{consequences};
 ghost use Rattle.asp_model.specs.Models.{is_stable};
 ghost use Rattle.asp_model.specs.Sets.{Atoms, same_set, set_cmp};
+ghost use Rattle.asp_model.specs.Texts.{shown};
 ghost use Rattle.asp_vars.specs.Conflicts.{has_all};
 ghost use Rattle.asp_vars.specs.Literals.{F, T, hits};
 ghost use Rattle.asp_vars.specs.Numbering.{values};
@@ -13,7 +17,7 @@ ghost use Rattle.asp_path.specs.Trees.{all_closed, cube_of, status_of};
 ghost use Rattle.asp_core.specs.declared.event.Event.{Event};
 ghost use Rattle.asp_core.specs.declared.event.Event.TheVariants as event;
 ghost use Rattle.asp_core.specs.declared.task.Task.{Task};
-ghost use Rattle.asp_core.specs.Boards.{Board, start, IsQuery, is_answer};
+ghost use Rattle.asp_core.specs.Boards.{Board, start, IsQuery, is_answer, showing_by};
 ghost use Rattle.asp_core.specs.Events.{Guard, happens, maker, run, IsLawful, replay};
 ghost use Rattle.asp_core.specs.Growth.{Grows, Spares};
 ghost use Rattle.asp_core.specs.Invariant.{IsBoard, IsCube, HasResult};
@@ -65,4 +69,9 @@ pub fn units_are_home()
 /// A list of sets that is sorted, and then freed of repeats that follow one another, has each set once in order.
 pub fn a_sort_without_repeats_makes_single()
     ensures { (sets sorted single : List Atoms) → IsPermutation sets sorted → IsSorted set_cmp sorted → IsFiltered (DiffersFromLast same_set) [] sorted single → single ≡ sorted_once sets }
+{}
+
+/// By name the outputs that are shown are the same, whatever else counts as shown.
+pub fn what_is_asked_is_told()
+    ensures { (p : Program) (n : Bool) (r : Reasoning) (S : Atoms) (K : List Atoms) → shown p (consequences r p (showing_by n r p (S ∷ K))) ≡ shown p (consequences r p (S ∷ K)) }
 {}

@@ -15,6 +15,7 @@ ghost use Rattle.asp_core.specs.Events.{Guard, happens, wants_memory};
 ghost use Rattle.asp_core.specs.Invariant.{IsBoard, HasResult};
 ghost use Rattle.asp_core.specs.Stored.{Counts};
 
+use crate::asked::{seed, with_answer};
 use crate::event::Event;
 use crate::goal::Goal;
 use crate::prices::prices;
@@ -68,6 +69,8 @@ pub struct State {
     told: Vec<Snapshot<Interp>>,
     /// Where consequences are sought, what the answers delivered have in common.
     known: Option<Known>,
+    /// Where they are asked for by name the set that shows what isn't asked for: it stands beside the answers, from the first on.
+    seed: Option<Interp>,
     /// Where consequences are sought the atoms that stand in the program, ascending; else none.
     atoms: Vec<Atom>,
     /// The rows of the different ones among them, where there is a limit; else empty.
@@ -200,6 +203,7 @@ impl State {
         let query = Vec::from_slice(alloc, query)?;
         let tree = Tree::root(alloc, root)?;
         let known = nothing_known(alloc, compiled, &goal)?;
+        let seed = seed(alloc, compiled, &goal)?;
         let atoms = stated_atoms(alloc, compiled, &goal)?;
         let listed = compiled.atoms().copy()?;
         // The prices are a program: they are made last, so that no way out has them to drop.
@@ -216,6 +220,7 @@ impl State {
             answers: Rows::new(alloc, listed),
             told: Vec::new(alloc),
             known,
+            seed,
             atoms,
             different: BTreeSet::new(alloc),
             best: None,
@@ -287,7 +292,7 @@ impl State {
                 self.list(by, row, set)
             }
             Some(known) => {
-                let known = known.with(&set)?;
+                let known = with_answer(known, self.seed.as_ref(), &set)?;
                 let told = Snapshot::of(&set);
                 self.told.reserve(1)?;
                 count_in(
@@ -483,6 +488,7 @@ impl State {
             answers,
             told,
             known,
+            seed,
             atoms,
             different,
             best,
@@ -494,6 +500,7 @@ impl State {
         mem::drop(prices);
         mem::drop(tree);
         mem::drop(told);
+        mem::drop(seed);
         mem::drop(different);
         mem::drop(reasons);
         (answers, best, common(known, atoms))

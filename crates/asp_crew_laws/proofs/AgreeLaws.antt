@@ -16,9 +16,10 @@ use Rattle.asp_vars.specs.Entailment.{HitsOnly, Settled, costs_bound, is_done}
 use Rattle.asp_vars.proofs.ResolutionLaws.{HitsOnly-weaker}
 use Rattle.asp_core.specs.declared.event.Event.TheVariants as event
 use Rattle.asp_core.specs.declared.task.Task.{Task}
-use Rattle.asp_core.specs.Boards.{Board, IsBoundOf, bound_of, is_excused, sought, used}
+use Rattle.asp_core.specs.Boards.{Board, IsBoundOf, bound_of, is_excused, showing, showing_of, sought, used}
 use Rattle.asp_core.specs.Events.{happens}
 use Rattle.asp_core.specs.Growth.{Grows}
+use Rattle.asp_core.proofs.AskedLaws.{showing-among, showing-empty, sought-none, unshown-showing}
 use Rattle.asp_core.proofs.BoardLaws.{excused-delivered}
 use Rattle.asp_core.proofs.SortingLaws.{same_itself}
 use Rattle.asp_crew_laws.specs.Agrees.{Agrees, AreRecorded}
@@ -51,7 +52,9 @@ recorded-more (Some r) p known A B among h = (λ a e. h.0 a (unshown-among r p A
 pub agrees-grows : (b c : Board) (known : List Atoms) (bound : Option (List ℤ)) → Grows b c → Agrees b known bound → Agrees c known bound
 agrees-grows b c known bound g a = record {
   excused = excused-grows b c known bound g a;
-  recorded = subst (λ (t : Task). AreRecorded (sought t.goal) t.program known c.answers) (sym g.task) (recorded-more (sought b.task.goal) b.task.program known b.answers c.answers g.listed a.recorded);
+  recorded =
+      subst (λ (t : Task). AreRecorded (sought t.goal) t.program known (showing t.goal t.program c.answers)) (sym g.task)
+      (recorded-more (sought b.task.goal) b.task.program known (showing_of b) (showing b.task.goal b.task.program c.answers) (showing-among b.task.goal b.task.program b.answers c.answers g.listed) a.recorded);
   bounded = bounded-grows b c bound g a.bounded;
 }
 
@@ -104,51 +107,67 @@ among-push K L S h =
 pub agrees-delivered : (b : Board) (s : ℕ) (S : Atoms) (known : List Atoms) (bound : Option (List ℤ)) → sought b.task.goal ≡ None → Agrees b known bound → Agrees (happens b (event.Deliver s S)) (known ++ S ∷ []) bound
 agrees-delivered b s S known bound none a =
     let p : Program = b.task.program in
-    let was : AllByRecursion (λ T. IsTrue (list_any (same_set T) b.answers)) known = subst (λ (k : Option Reasoning). AreRecorded k p known b.answers) none a.recorded in
-    let all : AllByRecursion (λ T. IsTrue (list_any (same_set T) (b.answers ++ S ∷ []))) (known ++ S ∷ []) = among-push known b.answers S was in
+    let more : List Atoms = b.answers ++ S ∷ [] in
+    let shown : List Atoms = showing b.task.goal p more in
+    let was : AllByRecursion (λ T. IsTrue (list_any (same_set T) b.answers)) known =
+    subst (λ (L : List Atoms). AreRecorded None p known L) (sought-none b.task.goal p b.answers none) (subst (λ (k : Option Reasoning). AreRecorded k p known (showing_of b)) none a.recorded) in
+    let all : AllByRecursion (λ T. IsTrue (list_any (same_set T) shown)) (known ++ S ∷ []) =
+    subst (λ (L : List Atoms). AllByRecursion (λ T. IsTrue (list_any (same_set T) L)) (known ++ S ∷ [])) (sym (sought-none b.task.goal p more none)) (among-push known b.answers S was) in
     record {
-      excused = λ T h. done-more p (used_by b (known ++ S ∷ [])) (used_by b (b.answers ++ S ∷ [])) bound (bound_of b) T
-          (used-more (sought b.task.goal) p (known ++ S ∷ []) (b.answers ++ S ∷ []) (among-each (known ++ S ∷ []) (b.answers ++ S ∷ []) all)) (dear-delivered b s S known bound T a) h;
-      recorded = subst (λ (k : Option Reasoning). AreRecorded k p (known ++ S ∷ []) (b.answers ++ S ∷ [])) (sym none) all;
+      excused = λ T h. done-more p (used_by b (known ++ S ∷ [])) (used_by b shown) bound (bound_of b) T
+          (used-more (sought b.task.goal) p (known ++ S ∷ []) shown (among-each (known ++ S ∷ []) shown all)) (dear-delivered b s S known bound T a) h;
+      recorded = subst (λ (k : Option Reasoning). AreRecorded k p (known ++ S ∷ []) shown) (sym none) all;
       bounded = a.bounded;
     }
 
 -- ---- where consequences are sought
-recorded-told : (r : Reasoning) (p : Program) (known A : List Atoms) (S : Atoms) → IsSubset (unshown r p A) (unshown r p known) → AreRecorded (Some r) p (common_sets r p (known ++ S ∷ [])) (A ++ S ∷ [])
-recorded-told r p known A S sub = (
-  subst (λ (L : Atoms). IsSubset (unshown r p (A ++ S ∷ [])) L) (sym (unshown-common r p (known ++ S ∷ []))) (unshown-push r p known A S sub),
-  omega (arith, ap length (common-push r p known S), ap length (common-push r p A S)),
+-- what shows where an answer more was delivered shows all that it shows beside what is known
+unshown-told : (b : Board) (r : Reasoning) (known : List Atoms) (S : Atoms) → IsSubset (unshown r b.task.program (showing_of b)) (unshown r b.task.program known) →
+    IsSubset (unshown r b.task.program (showing b.task.goal b.task.program (b.answers ++ S ∷ []))) (unshown r b.task.program (known ++ S ∷ []))
+unshown-told b r known S sub a h =
+    let p : Program = b.task.program in
+    unshown-push r p known (showing_of b) S sub a (unshown-showing r b.task.goal p b.answers S a h)
+
+one-common : (r : Reasoning) (p : Program) (K : List Atoms) → (K ≡ [] → ⊥) → length (common_sets r p K) ≡ 1
+one-common r p [] some = absurd (some refl)
+one-common r p (S ∷ K) some = omega arith
+
+recorded-told : (r : Reasoning) (p : Program) (known D : List Atoms) (S : Atoms) → IsSubset (unshown r p D) (unshown r p (known ++ S ∷ [])) → (D ≡ [] → ⊥) → AreRecorded (Some r) p (common_sets r p (known ++ S ∷ [])) D
+recorded-told r p known D S sub some = (
+  subst (λ (L : Atoms). IsSubset (unshown r p D) L) (sym (unshown-common r p (known ++ S ∷ []))) sub,
+  omega (arith, ap length (common-push r p known S), one-common r p D some),
 )
 
-used-told : (r : Reasoning) (p : Program) (known A : List Atoms) (S : Atoms) → IsSubset (unshown r p A) (unshown r p known) → AreAmong (used_up (Some r) p (common_sets r p (known ++ S ∷ []))) (used_up (Some r) p (A ++ S ∷ []))
-used-told r p known A S sub =
-    subst (λ (L : List Atoms). AreAmong L (used_up (Some r) p (A ++ S ∷ []))) (sym (used-common r p (known ++ S ∷ [])))
-    (used-less r p (known ++ S ∷ []) (A ++ S ∷ []) (unshown-push r p known A S sub) (pushed-some A S))
+used-told : (r : Reasoning) (p : Program) (known D : List Atoms) (S : Atoms) → IsSubset (unshown r p D) (unshown r p (known ++ S ∷ [])) → (D ≡ [] → ⊥) → AreAmong (used_up (Some r) p (common_sets r p (known ++ S ∷ []))) (used_up (Some r) p D)
+used-told r p known D S sub some =
+    subst (λ (L : List Atoms). AreAmong L (used_up (Some r) p D)) (sym (used-common r p (known ++ S ∷ []))) (used-less r p (known ++ S ∷ []) D sub some)
 
 pub agrees-told : (b : Board) (s : ℕ) (S : Atoms) (r : Reasoning) (known : List Atoms) (bound : Option (List ℤ)) → sought b.task.goal ≡ Some r → Agrees b known bound →
     Agrees (happens b (event.Deliver s S)) (common_sets r b.task.program (known ++ S ∷ [])) bound
 agrees-told b s S r known bound is a =
     let p : Program = b.task.program in
-    let was : AreRecorded (Some r) p known b.answers = subst (λ (k : Option Reasoning). AreRecorded k p known b.answers) is a.recorded in
+    let was : AreRecorded (Some r) p known (showing_of b) = subst (λ (k : Option Reasoning). AreRecorded k p known (showing_of b)) is a.recorded in
     let more : List Atoms = common_sets r p (known ++ S ∷ []) in
-    let among : AreAmong (used_by b more) (used_by b (b.answers ++ S ∷ [])) =
-    subst (λ (k : Option Reasoning). AreAmong (used_up k p more) (used_up k p (b.answers ++ S ∷ []))) (sym is) (used-told r p known b.answers S was.0) in
+    let shown : List Atoms = showing b.task.goal p (b.answers ++ S ∷ []) in
+    let some : shown ≡ [] → ⊥ = λ e. pushed-some b.answers S (showing-empty b.task.goal p (b.answers ++ S ∷ []) e) in
+    let less : IsSubset (unshown r p shown) (unshown r p (known ++ S ∷ [])) = unshown-told b r known S was.0 in
+    let among : AreAmong (used_by b more) (used_by b shown) = subst (λ (k : Option Reasoning). AreAmong (used_up k p more) (used_up k p shown)) (sym is) (used-told r p known shown S less some) in
     record {
-      excused = λ T h. done-more p (used_by b more) (used_by b (b.answers ++ S ∷ [])) bound (bound_of b) T among (dear-delivered b s S known bound T a) h;
-      recorded = subst (λ (k : Option Reasoning). AreRecorded k p more (b.answers ++ S ∷ [])) (sym is) (recorded-told r p known b.answers S was.0);
+      excused = λ T h. done-more p (used_by b more) (used_by b shown) bound (bound_of b) T among (dear-delivered b s S known bound T a) h;
+      recorded = subst (λ (k : Option Reasoning). AreRecorded k p more shown) (sym is) (recorded-told r p known shown S less some);
       bounded = a.bounded;
     }
 
--- what all answers delivered have in common is taken over
-pub agrees-adopted : (b : Board) (r : Reasoning) (known : List Atoms) (bound : Option (List ℤ)) → sought b.task.goal ≡ Some r → Agrees b known bound → Agrees b (common_sets r b.task.program b.answers) bound
+-- what all that shows has in common is taken over
+pub agrees-adopted : (b : Board) (r : Reasoning) (known : List Atoms) (bound : Option (List ℤ)) → sought b.task.goal ≡ Some r → Agrees b known bound → Agrees b (common_sets r b.task.program (showing_of b)) bound
 agrees-adopted b r known bound is a =
     let p : Program = b.task.program in
-    let all : List Atoms = common_sets r p b.answers in
+    let all : List Atoms = common_sets r p (showing_of b) in
     let among : AreAmong (used_by b all) (used b) =
-    subst (λ (k : Option Reasoning). AreAmong (used_up k p all) (used_up k p b.answers)) (sym is)
-    (subst (λ (L : List Atoms). AreAmong (used_up (Some r) p all) L) (used-common r p b.answers) (λ S h. h)) in
+    subst (λ (k : Option Reasoning). AreAmong (used_up k p all) (used_up k p (showing_of b))) (sym is)
+    (subst (λ (L : List Atoms). AreAmong (used_up (Some r) p all) L) (used-common r p (showing_of b)) (λ S h. h)) in
     record {
       excused = λ T h. done-more p (used_by b all) (used b) bound (bound_of b) T among (λ e. a.excused T (or_right (list_any (same_set T) (used_by b known)) (costs_bound p bound T) e)) h;
-      recorded = subst (λ (k : Option Reasoning). AreRecorded k p all b.answers) (sym is) (subst (IsSubset (unshown r p b.answers)) (sym (unshown-common r p b.answers)) (λ a h. h), omega arith);
+      recorded = subst (λ (k : Option Reasoning). AreRecorded k p all (showing_of b)) (sym is) (subst (IsSubset (unshown r p (showing_of b))) (sym (unshown-common r p (showing_of b))) (λ a h. h), omega arith);
       bounded = a.bounded;
     }

@@ -1,5 +1,5 @@
 -- What a lawful journal says after which every leaf is closed.
-use Rattle.std.proofs.Common.{◌≡◌, ℕ, true, false, ◌||◌, List, [], ◌∷◌, filter, get_or, Option, Some, None, refl, sym, ap, ◌∙◌, subst}
+use Rattle.std.proofs.Common.{◌≡◌, ℕ, Bool, true, false, ◌||◌, List, [], ◌∷◌, filter, get_or, Option, Some, None, refl, sym, ap, ◌∙◌, subst}
 use Rattle.std.specs.Prelude.{IsTrue, MatchOption, option_map, ℤ}
 use Rattle.std.specs.List.{list_any, AllByRecursion}
 use Rattle.std.specs.List.Sorted.{IsPermutation, IsSorted}
@@ -23,7 +23,7 @@ use Rattle.asp_model.proofs.ListedLaws.{contains_from_test, test_from_contains}
 use Rattle.asp_core.specs.declared.event.Event.{Event}
 use Rattle.asp_core.specs.declared.goal.Goal.TheVariants as goal
 use Rattle.asp_core.specs.declared.task.Task.{Task}
-use Rattle.asp_core.specs.Boards.{Board, common_by, listed_by, start, lists, lists_by, optimises, is_answer, IsQuery}
+use Rattle.asp_core.specs.Boards.{Board, common_by, goal_of, listed_by, showing, showing_by, start, lists, lists_by, optimises, is_answer, IsQuery}
 use Rattle.asp_core.specs.Events.{IsLawful, replay}
 use Rattle.asp_core.specs.Invariant.{IsOptimum}
 use Rattle.asp_core.specs.Sorting.{sorted_once, answers_of}
@@ -53,14 +53,14 @@ none-of p ask budget none = sym (answers-same p ask budget) ∙ empty (answers_o
     empty [] h = refl
     empty (S ∷ L) h = absurd (false≢true (sym (h S) ∙ ap (λ x. x || list_any (same_set S) L) (same_itself S)))
 
-best-by : (p : Program) (n budget : ℕ) (best : Option Atoms) → MatchOption best ((S : Atoms) → is_answer (task_of p (asks Opt n) budget) S ≡ false) (IsOptimum (task_of p (asks Opt n) budget)) → IsBest p (option_map (with_cost p) best)
-best-by p n budget None h = none-of p (asks Opt n) budget h
+best-by : (p : Program) (n budget : ℕ) (best : Option Atoms) → MatchOption best ((S : Atoms) → is_answer (task_of p (asks Opt n false) budget) S ≡ false) (IsOptimum (task_of p (asks Opt n false) budget)) → IsBest p (option_map (with_cost p) best)
+best-by p n budget None h = none-of p (asks Opt n false) budget h
 best-by p n budget (Some S) h = record {
-  answer = contains_from_test (answers p) S (ap (λ (L : List Atoms). list_any (same_set S) L) (sym (answers-same p (asks Opt n) budget)) ∙ has-answers_of (task_of p (asks Opt n) budget) S ∙ h.0);
+  answer = contains_from_test (answers p) S (ap (λ (L : List Atoms). list_any (same_set S) L) (sym (answers-same p (asks Opt n false) budget)) ∙ has-answers_of (task_of p (asks Opt n false) budget) S ∙ h.0);
   sums = refl;
   least = list_any_none (λ (T : Atoms). betters (cost p T) (cost p S)) (answers p) (λ k d within.
       let T : Atoms = get_or (answers p) k d in
-      h.1 T (sym (has-answers_of (task_of p (asks Opt n) budget) T) ∙ ap (λ (L : List Atoms). list_any (same_set T) L) (answers-same p (asks Opt n) budget) ∙ test_from_contains (answers p) T (Contains-get_or (answers p) k d within)));
+      h.1 T (sym (has-answers_of (task_of p (asks Opt n false) budget) T) ∙ ap (λ (L : List Atoms). list_any (same_set T) L) (answers-same p (asks Opt n false) budget) ∙ test_from_contains (answers p) T (Contains-get_or (answers p) k d within)));
 }
 
 pub sorted-nil : (A : List Atoms) → A ≡ [] → sorted_once A ≡ []
@@ -74,20 +74,20 @@ pub none-best : (t : Task) (best : Option Atoms) → optimises t.goal ≡ false 
 none-best t None q h = refl
 none-best t (Some S) q h = absurd (false≢true (sym q ∙ h.0))
 
-module _ (p : Program) (n budget : ℕ) (journal : List Event) (L : List Atoms) where
-  found-by : (mode : Mode) → IsLawful (start (task_of p (asks mode n) budget)) journal → all_closed (replay (task_of p (asks mode n) budget) journal).nodes ≡ true →
-      L ≡ sorted_once (listed_by (reasoning_of mode) (replay (task_of p (asks mode n) budget) journal).answers) →
-      IsFound p mode L (option_map (with_cost p) (replay (task_of p (asks mode n) budget) journal).best) (common_by (reasoning_of mode) p (replay (task_of p (asks mode n) budget) journal).answers)
+module _ (p : Program) (n budget : ℕ) (named : Bool) (journal : List Event) (L : List Atoms) where
+  found-by : (mode : Mode) → IsLawful (start (task_of p (asks mode n named) budget)) journal → all_closed (replay (task_of p (asks mode n named) budget) journal).nodes ≡ true →
+      L ≡ sorted_once (listed_by (reasoning_of mode) (replay (task_of p (asks mode n named) budget) journal).answers) →
+      IsFound named p mode L (option_map (with_cost p) (replay (task_of p (asks mode n named) budget) journal).best) (common_by (reasoning_of mode) p (showing (goal_of mode named) p (replay (task_of p (asks mode n named) budget) journal).answers))
   found-by Enum lawful closed sorted =
-      let t : Task = task_of p (asks Enum n) budget in
+      let t : Task = task_of p (asks Enum n named) budget in
       let b : Board = replay t journal in
       let is = IsBoard-replay t journal tt lawful in
       let task : b.task ≡ t = task-run (start t) journal in (
-        sorted ∙ HasResult-finished t journal tt lawful closed ∙ ap answers_of task ∙ answers-same p (asks Enum n) budget,
+        sorted ∙ HasResult-finished t journal tt lawful closed ∙ ap answers_of task ∙ answers-same p (asks Enum n named) budget,
         ap (option_map (with_cost p)) (none-kept b.task b.best (ap (λ (x : Task). x.goal) task) is.best),
       )
   found-by Opt lawful closed sorted =
-      let t : Task = task_of p (asks Opt n) budget in
+      let t : Task = task_of p (asks Opt n named) budget in
       let b : Board = replay t journal in
       let is = IsBoard-replay t journal tt lawful in
       let task : b.task ≡ t = task-run (start t) journal in (
@@ -95,22 +95,22 @@ module _ (p : Program) (n budget : ℕ) (journal : List Event) (L : List Atoms) 
         best-by p n budget b.best (subst (λ (x : Task). MatchOption b.best ((S : Atoms) → is_answer x S ≡ false) (IsOptimum x)) task (HasResult-finished t journal tt lawful closed)),
       )
   found-by (Consequences r) lawful closed sorted =
-      let t : Task = task_of p (asks (Consequences r) n) budget in
+      let t : Task = task_of p (asks (Consequences r) n named) budget in
       let b : Board = replay t journal in
       let is = IsBoard-replay t journal tt lawful in
       let task : b.task ≡ t = task-run (start t) journal in (
         sorted,
         ap (option_map (with_cost p)) (none-best b.task b.best (ap (λ (x : Task). optimises x.goal) task) is.best),
-        ap (λ (x : Task). consequences_of r x.program b.answers) (sym task) ∙ HasResult-finished t journal tt lawful closed ∙ ap (λ (x : Task). consequences_of r x.program (answers_of x)) task
-            ∙ ap (consequences_of r p) (answers-same p (asks (Consequences r) n) budget),
+        ap (λ (x : Task). consequences_of r x.program (showing_by named r x.program b.answers)) (sym task) ∙ HasResult-finished t journal tt lawful closed
+            ∙ ap (λ (x : Task). consequences_of r x.program (showing_by named r x.program (answers_of x))) task ∙ ap (λ (L : List Atoms). consequences_of r p (showing_by named r p L)) (answers-same p (asks (Consequences r) n named) budget),
       )
 
 pub found-once : (p : Program) (ask : Ask) (budget : ℕ) (journal : List Event) (L : List Atoms) → IsLawful (start (task_of p ask budget)) journal → all_closed (replay (task_of p ask budget) journal).nodes ≡ true →
     L ≡ sorted_once (listed_by (reasoning_of ask.mode) (replay (task_of p ask budget) journal).answers) →
-    IsFound p ask.mode L (option_map (with_cost p) (replay (task_of p ask budget) journal).best) (common_by (reasoning_of ask.mode) p (replay (task_of p ask budget) journal).answers)
-found-once p ask budget journal L = found-by p ask.models budget journal L ask.mode
+    IsFound ask.by_name p ask.mode L (option_map (with_cost p) (replay (task_of p ask budget) journal).best) (common_by (reasoning_of ask.mode) p (showing (goal_of ask.mode ask.by_name) p (replay (task_of p ask budget) journal).answers))
+found-once p ask budget journal L = found-by p ask.models budget ask.by_name journal L ask.mode
 
 pub found : (p : Program) (ask : Ask) (budget : ℕ) (journal : List Event) (M L : List Atoms) → IsLawful (start (task_of p ask budget)) journal → all_closed (replay (task_of p ask budget) journal).nodes ≡ true →
     IsPermutation (listed_by (reasoning_of ask.mode) (replay (task_of p ask budget) journal).answers) M → IsSorted set_cmp M → IsFiltered (DiffersFromLast same_set) [] M L →
-    IsFound p ask.mode L (option_map (with_cost p) (replay (task_of p ask budget) journal).best) (common_by (reasoning_of ask.mode) p (replay (task_of p ask budget) journal).answers)
+    IsFound ask.by_name p ask.mode L (option_map (with_cost p) (replay (task_of p ask budget) journal).best) (common_by (reasoning_of ask.mode) p (showing (goal_of ask.mode ask.by_name) p (replay (task_of p ask budget) journal).answers))
 found p ask budget journal M L lawful closed moved sorted kept = found-once p ask budget journal L lawful closed (once-is (listed_by (reasoning_of ask.mode) (replay (task_of p ask budget) journal).answers) M L moved sorted kept)

@@ -14,7 +14,7 @@ use Rattle.asp_vars.proofs.ResolutionLaws.{betters_trans, betters_itself, not_tr
 use Rattle.asp_core.specs.declared.event.Event.TheVariants as event
 use Rattle.asp_core.specs.declared.goal.Goal.{Goal}
 use Rattle.asp_core.specs.declared.goal.Goal.TheVariants as goal
-use Rattle.asp_core.specs.Boards.{Board, IsBoundOf, IsBoundBy, bound_by, is_excused, sought, used}
+use Rattle.asp_core.specs.Boards.{Board, IsBoundOf, IsBoundBy, bound_by, is_excused, showing_of, sought, used}
 use Rattle.asp_core.specs.Events.{happens}
 use Rattle.asp_crew_laws.specs.Agrees.{Agrees, AreApart}
 use Rattle.asp_crew_laws.proofs.AgreeLaws.{none-recorded}
@@ -87,7 +87,7 @@ none-known g p c T h = sym (ap (λ x. x || costs p c T) (used-none (sought g) p 
 pub agrees-improved : (b : Board) (s : ℕ) (S : Atoms) → b.task.goal ≡ goal.Opt → Agrees (happens b (event.Improve s S)) [] (Some (cost b.task.program S))
 agrees-improved b s S e = record {
   excused = λ T h. excused-by (happens b (event.Improve s S)) S T e refl (none-known b.task.goal b.task.program (cost b.task.program S) T h);
-  recorded = none-recorded (sought b.task.goal) b.task.program b.answers;
+  recorded = none-recorded (sought b.task.goal) b.task.program (showing_of b);
   bounded = bound-is (happens b (event.Improve s S)) S (cost b.task.program S) e refl (betters_itself (cost b.task.program S));
 }
 
@@ -95,7 +95,7 @@ agrees-improved b s S e = record {
 pub agrees-unimproved : (b : Board) (S B : Atoms) → b.task.goal ≡ goal.Opt → b.best ≡ Some B → betters (cost b.task.program S) (cost b.task.program B) ≡ false → Agrees b [] (Some (cost b.task.program S))
 agrees-unimproved b S B e best h = record {
   excused = λ T k. excused-by b B T e best (ap not (betters_trans (cost b.task.program T) (cost b.task.program S) (cost b.task.program B) (not_true (betters (cost b.task.program T) (cost b.task.program S)) (none-known b.task.goal b.task.program (cost b.task.program S) T k)) h));
-  recorded = none-recorded (sought b.task.goal) b.task.program b.answers;
+  recorded = none-recorded (sought b.task.goal) b.task.program (showing_of b);
   bounded = bound-is b B (cost b.task.program S) e best h;
 }
 
@@ -107,7 +107,7 @@ bound-later b c d e h k = here b.task.goal refl b.best h
     here goal.Enum q o h = absurd h
     here goal.Opt q None h = absurd h
     here goal.Opt q (Some B) h = betters_trans d c (cost b.task.program B) k h
-    here (goal.Consequences r) q o h = absurd h
+    here (goal.Consequences r n) q o h = absurd h
     here (goal.Ties u) q o h = absurd (apart u (q ∙ e))
       where
         apart : (u : Option (List ℤ)) → goal.Ties u ≡ goal.Opt → ⊥
@@ -117,4 +117,4 @@ bound-later b c d e h k = here b.task.goal refl b.best h
             is_opt goal.Opt = true
             is_opt goal.Enum = false
             is_opt (goal.Ties c) = false
-            is_opt (goal.Consequences r) = false
+            is_opt (goal.Consequences r n) = false

@@ -3,6 +3,7 @@ pub mod QuietLaws
 pub mod AgreeLaws
 pub mod FuelLaws
 pub mod WorkLaws
+pub mod KnownLaws
 pub mod PlayedLaws
 pub mod TieLaws
 pub mod TwiceLaws

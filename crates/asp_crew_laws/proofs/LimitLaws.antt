@@ -22,7 +22,7 @@ use Rattle.asp_model.proofs.ModelLaws.{answers-rise}
 use Rattle.asp_model.proofs.SubsetLaws.{pairs_from_rising}
 use Rattle.asp_core.specs.declared.event.Event.{Event}
 use Rattle.asp_core.specs.declared.task.Task.{Task}
-use Rattle.asp_core.specs.Boards.{sought, start, IsQuery}
+use Rattle.asp_core.specs.Boards.{showing_by, sought, start, IsQuery}
 use Rattle.asp_core.proofs.ResultLaws.{IsBoard-replay, task-run}
 use Rattle.asp_crew_laws.specs.declared.report.Report.{Report}
 use Rattle.asp_crew_laws.specs.Runs.{task_of, ties_of, IsBest}
@@ -49,11 +49,11 @@ none-some : (w : Reasoning) → None ≡ Some w → ⊥
 none-some w e = cc
 
 -- where consequences are sought none is listed
-none-told : (all : Bool) (p : Program) (mode : Mode) (w : Reasoning) (r : Found) → reasoning_of mode ≡ Some w → IsPartOf all p mode r → r.answers ≡ []
-none-told all p Enum w r e part = absurd (none-some w e)
-none-told all p Opt w r e part = absurd (none-some w e)
-none-told false p (Consequences v) w r e part = part.0
-none-told true p (Consequences v) w r e part = part.0
+none-told : (all n : Bool) (p : Program) (mode : Mode) (w : Reasoning) (r : Found) → reasoning_of mode ≡ Some w → IsPartOf all n p mode r → r.answers ≡ []
+none-told all n p Enum w r e part = absurd (none-some w e)
+none-told all n p Opt w r e part = absurd (none-some w e)
+none-told false n p (Consequences v) w r e part = part.0
+none-told true n p (Consequences v) w r e part = part.0
 
 -- ---- a part of the answers
 all-chosen : (L : List Atoms) → filter (λ (S : Atoms). true) L ≡ L
@@ -64,16 +64,16 @@ best-priced : (p : Program) (best : Option (Atoms × List ℤ)) → IsBest p bes
 best-priced p None h = tt
 best-priced p (Some best) h = (h.answer, h.sums)
 
-found-part : (all : Bool) (p : Program) (mode : Mode) (r : Found) → IsAllFound all p mode r.answers r.best r.known → IsPartOf all p mode r
-found-part false p (Consequences w) r h = (h.0, h.1, ((λ S. true), h.2 ∙ ap (consequences_of w p) (sym (all-chosen (answers p)))))
-found-part true p (Consequences w) r h = (h.0, h.1, ((λ S. true), h.2 ∙ ap (consequences_of w p) (sym (all-chosen (answers p)))))
-found-part false p Enum r h = (((λ S. true), h.0 ∙ sym (all-chosen (answers p))), h.1)
-found-part false p Opt r h = (h.0, best-priced p r.best h.1)
-found-part true p Enum r h = (((λ S. true), h.0 ∙ sym (all-chosen (answers p))), h.1)
-found-part true p Opt r h = (((λ S. true), h.0 ∙ sym (all-chosen (optima p))), best-priced p r.best h.1)
+found-part : (all n : Bool) (p : Program) (mode : Mode) (r : Found) → IsAllFound all n p mode r.answers r.best r.known → IsPartOf all n p mode r
+found-part false n p (Consequences w) r h = (h.0, h.1, ((λ S. true), h.2 ∙ ap (λ (L : List Atoms). consequences_of w p (showing_by n w p L)) (sym (all-chosen (answers p)))))
+found-part true n p (Consequences w) r h = (h.0, h.1, ((λ S. true), h.2 ∙ ap (λ (L : List Atoms). consequences_of w p (showing_by n w p L)) (sym (all-chosen (answers p)))))
+found-part false n p Enum r h = (((λ S. true), h.0 ∙ sym (all-chosen (answers p))), h.1)
+found-part false n p Opt r h = (h.0, best-priced p r.best h.1)
+found-part true n p Enum r h = (((λ S. true), h.0 ∙ sym (all-chosen (answers p))), h.1)
+found-part true n p Opt r h = (((λ S. true), h.0 ∙ sym (all-chosen (optima p))), best-priced p r.best h.1)
 
-says-part : (p : Program) (ask : Ask) (r : Report) (e : End) → Says p ask r e → IsPartOf ask.all_optima p ask.mode r.results
-says-part p ask r Finished h = found-part ask.all_optima p ask.mode r.results h
+says-part : (p : Program) (ask : Ask) (r : Report) (e : End) → Says p ask r e → IsPartOf ask.all_optima ask.by_name p ask.mode r.results
+says-part p ask r Finished h = found-part ask.all_optima ask.by_name p ask.mode r.results h
 says-part p ask r Limited h = h.part
 says-part p ask r Unfinished h = h.0
 
@@ -83,7 +83,7 @@ fewer p ask units r is other some = cases (reasoning_of ask.mode) refl
     here : reasoning_of ask.mode ≡ None → (o : Option (List Event)) → IsPlayedBy o p ask units r → length r.results.answers < ask.models
     here none None played =
         let limit : limit_of ask.mode ask.models ≡ ask.models = limit-listed ask.mode ask.models none in
-        omega (arith, under (task_of p ask units) r tt (sought-mode ask.mode ∙ none) played other (omega (arith, some, limit)), limit)
+        omega (arith, under (task_of p ask units) r tt (sought-mode ask.mode ask.by_name ∙ none) played other (omega (arith, some, limit)), limit)
     here none (Some second) twice =
         omega (
           arith,
@@ -93,7 +93,7 @@ fewer p ask units r is other some = cases (reasoning_of ask.mode) refl
 
     cases : (k : Option Reasoning) → reasoning_of ask.mode ≡ k → length r.results.answers < ask.models
     cases None e = here e r.second is.played
-    cases (Some w) e = omega (arith, some, ap length (none-told ask.all_optima p ask.mode w r.results e (says-part p ask r r.results.end is.says)))
+    cases (Some w) e = omega (arith, some, ap length (none-told ask.all_optima ask.by_name p ask.mode w r.results e (says-part p ask r r.results.end is.says)))
 
 -- They are distinct answers of the program, in their order.
 chosen-order : (chosen : Atoms → Bool) (L M : List Atoms) → L ≡ filter chosen M → AllPairs IsBefore M → AllPairs IsBefore L
@@ -105,13 +105,13 @@ none-order L e = subst (λ (K : List Atoms). AllPairs IsBefore K) (sym e) (pairs
 optima-order : (p : Program) → AllPairs IsBefore (optima p)
 optima-order p = chosen-order (λ S. not (list_any (λ T. betters (cost p T) (cost p S)) (answers p))) (optima p) (answers p) refl (answers-rise p)
 
-part-order : (all : Bool) (p : Program) (mode : Mode) (r : Found) → IsPartOf all p mode r → AllPairs IsBefore r.answers
-part-order false p Enum r part = chosen-order part.0.0 r.answers (answers p) part.0.1 (answers-rise p)
-part-order false p Opt r part = none-order r.answers part.0
-part-order false p (Consequences w) r part = none-order r.answers part.0
-part-order true p (Consequences w) r part = none-order r.answers part.0
-part-order true p Enum r part = chosen-order part.0.0 r.answers (answers p) part.0.1 (answers-rise p)
-part-order true p Opt r part = chosen-order part.0.0 r.answers (optima p) part.0.1 (optima-order p)
+part-order : (all n : Bool) (p : Program) (mode : Mode) (r : Found) → IsPartOf all n p mode r → AllPairs IsBefore r.answers
+part-order false n p Enum r part = chosen-order part.0.0 r.answers (answers p) part.0.1 (answers-rise p)
+part-order false n p Opt r part = none-order r.answers part.0
+part-order false n p (Consequences w) r part = none-order r.answers part.0
+part-order true n p (Consequences w) r part = none-order r.answers part.0
+part-order true n p Enum r part = chosen-order part.0.0 r.answers (answers p) part.0.1 (answers-rise p)
+part-order true n p Opt r part = chosen-order part.0.0 r.answers (optima p) part.0.1 (optima-order p)
 
 any-filtered : (q chosen : Atoms → Bool) (L : List Atoms) → list_any q (filter chosen L) ≡ true → list_any q L ≡ true
 any-filtered q chosen [] h = h
@@ -128,17 +128,17 @@ any-filtered q chosen (S ∷ L) h = here (chosen S) h (any-filtered q chosen L)
 chosen-has : (chosen : Atoms → Bool) (L M : List Atoms) (S : Atoms) → L ≡ filter chosen M → list_any (same_set S) L ≡ true → list_any (same_set S) M ≡ true
 chosen-has chosen L M S e h = any-filtered (same_set S) chosen M (sym (ap (list_any (same_set S)) e) ∙ h)
 
-part-has : (all : Bool) (p : Program) (mode : Mode) (r : Found) (S : Atoms) → IsPartOf all p mode r → list_any (same_set S) r.answers ≡ true → list_any (same_set S) (answers p) ≡ true
-part-has false p Enum r S part h = chosen-has part.0.0 r.answers (answers p) S part.0.1 h
-part-has false p Opt r S part h = absurd (false≢true (ap (list_any (same_set S)) (sym part.0) ∙ h))
-part-has false p (Consequences w) r S part h = absurd (false≢true (ap (list_any (same_set S)) (sym part.0) ∙ h))
-part-has true p (Consequences w) r S part h = absurd (false≢true (ap (list_any (same_set S)) (sym part.0) ∙ h))
-part-has true p Enum r S part h = chosen-has part.0.0 r.answers (answers p) S part.0.1 h
-part-has true p Opt r S part h =
+part-has : (all n : Bool) (p : Program) (mode : Mode) (r : Found) (S : Atoms) → IsPartOf all n p mode r → list_any (same_set S) r.answers ≡ true → list_any (same_set S) (answers p) ≡ true
+part-has false n p Enum r S part h = chosen-has part.0.0 r.answers (answers p) S part.0.1 h
+part-has false n p Opt r S part h = absurd (false≢true (ap (list_any (same_set S)) (sym part.0) ∙ h))
+part-has false n p (Consequences w) r S part h = absurd (false≢true (ap (list_any (same_set S)) (sym part.0) ∙ h))
+part-has true n p (Consequences w) r S part h = absurd (false≢true (ap (list_any (same_set S)) (sym part.0) ∙ h))
+part-has true n p Enum r S part h = chosen-has part.0.0 r.answers (answers p) S part.0.1 h
+part-has true n p Opt r S part h =
     chosen-has (λ S. not (list_any (λ T. betters (cost p T) (cost p S)) (answers p))) (optima p) (answers p) S refl (chosen-has part.0.0 r.answers (optima p) S part.0.1 h)
 
 pub in-order : (p : Program) (ask : Ask) (units : ℕ) (r : Report) → IsReport p ask units r → AllPairs IsBefore r.results.answers
-in-order p ask units r is = part-order ask.all_optima p ask.mode r.results (says-part p ask r r.results.end is.says)
+in-order p ask units r is = part-order ask.all_optima ask.by_name p ask.mode r.results (says-part p ask r r.results.end is.says)
 
 pub all-answers : (p : Program) (ask : Ask) (units : ℕ) (r : Report) (S : Atoms) → IsReport p ask units r → Contains r.results.answers S → Contains (answers p) S
-all-answers p ask units r S is has = contains_from_test (answers p) S (part-has ask.all_optima p ask.mode r.results S (says-part p ask r r.results.end is.says) (test_from_contains r.results.answers S has))
+all-answers p ask units r S is has = contains_from_test (answers p) S (part-has ask.all_optima ask.by_name p ask.mode r.results S (says-part p ask r r.results.end is.says) (test_from_contains r.results.answers S has))

@@ -18,7 +18,7 @@ use Rattle.asp_model.specs.Found.{Found}
 use Rattle.asp_model.specs.Sets.{Atoms, same_set}
 use Rattle.asp_model.specs.Models.{answers}
 use Rattle.asp_model.specs.Costs.{cost, betters, optima}
-use Rattle.asp_model.proofs.ConsequenceLaws.{AreAmong, consequences-chosen, used-common}
+use Rattle.asp_model.proofs.ConsequenceLaws.{AreAmong, used-common}
 use Rattle.asp_model.proofs.ListedLaws.{contains_from_test}
 use Rattle.asp_vars.specs.Literals.{Literal}
 use Rattle.asp_vars.specs.Conflicts.{IsConflict}
@@ -31,9 +31,10 @@ use Rattle.asp_core.specs.declared.event.Event.{Event}
 use Rattle.asp_core.specs.declared.goal.Goal.TheVariants as goal
 use Rattle.asp_core.specs.declared.task.Task.{Task}
 use Rattle.asp_core.specs.Units.{total_out}
-use Rattle.asp_core.specs.Boards.{Board, start, IsBoundBy, IsQuery, bound_of, common_by, count_by, distinct, goal_of, is_answer, is_enough, known_count, listed_by, lists, optimises, sought}
+use Rattle.asp_core.specs.Boards.{Board, start, IsBoundBy, IsQuery, bound_of, common_by, count_by, distinct, goal_of, is_answer, is_enough, known_count, listed_by, lists, optimises, showing, sought}
 use Rattle.asp_core.specs.Invariant.{IsBoard}
 use Rattle.asp_core.specs.Sorting.{sorted_once}
+use Rattle.asp_core.proofs.AskedLaws.{showing_by-chosen, sought-none}
 use Rattle.asp_core.proofs.CountLaws.{length-sorted_once}
 use Rattle.asp_core.proofs.ResultLaws.{IsBoard-replay, task-run}
 use Rattle.asp_core.proofs.SortingLaws.{has-answers_of, sorted-answers, sorted-has}
@@ -67,32 +68,33 @@ enough-by false true e = ap is_limited e
 enough-by false false e = ap is_limited e
 
 -- what a mode's goal seeks
-pub sought-mode : (mode : Mode) → sought (goal_of mode) ≡ reasoning_of mode
-sought-mode Enum = refl
-sought-mode Opt = refl
-sought-mode (Consequences r) = refl
+pub sought-mode : (mode : Mode) (n : Bool) → sought (goal_of mode n) ≡ reasoning_of mode
+sought-mode Enum n = refl
+sought-mode Opt n = refl
+sought-mode (Consequences r) n = refl
 
 -- A finished report has found what was asked.
-pub finished-found : (p : Program) (ask : Ask) (units : ℕ) (r : Report) → IsPlayed (task_of p ask units) r → r.results.end ≡ Finished → IsFound p ask.mode r.results.answers r.results.best r.results.known
+pub finished-found : (p : Program) (ask : Ask) (units : ℕ) (r : Report) → IsPlayed (task_of p ask units) r → r.results.end ≡ Finished → IsFound ask.by_name p ask.mode r.results.answers r.results.best r.results.known
 finished-found p ask units r is e =
-    subst (λ (o : Option (Atoms × List ℤ)). IsFound p ask.mode r.results.answers o r.results.known) (sym is.best)
-    (subst (λ (o : Option Atoms). IsFound p ask.mode r.results.answers (option_map (with_cost p) (board_by (task_of p ask units) r).best) o) (sym (is.common ∙ ap (λ (k : Option Reasoning). common_by k p (board_by (task_of p ask units) r).answers) (sought-mode ask.mode)))
-    (found-once p ask units r.journal r.results.answers is.lawful (closed-by (is_enough (board_by (task_of p ask units) r)) (all_closed (board_by (task_of p ask units) r).nodes) (sym is.end ∙ e)) (is.answers ∙ ap (λ (k : Option Reasoning). sorted_once (listed_by k (board_by (task_of p ask units) r).answers)) (sought-mode ask.mode))))
+    subst (λ (o : Option (Atoms × List ℤ)). IsFound ask.by_name p ask.mode r.results.answers o r.results.known) (sym is.best)
+    (subst (λ (o : Option Atoms). IsFound ask.by_name p ask.mode r.results.answers (option_map (with_cost p) (board_by (task_of p ask units) r).best) o) (sym (is.common ∙ ap (λ (k : Option Reasoning). common_by k p (showing (goal_of ask.mode ask.by_name) p (board_by (task_of p ask units) r).answers)) (sought-mode ask.mode ask.by_name)))
+    (found-once p ask units r.journal r.results.answers is.lawful (closed-by (is_enough (board_by (task_of p ask units) r)) (all_closed (board_by (task_of p ask units) r).nodes) (sym is.end ∙ e)) (is.answers ∙ ap (λ (k : Option Reasoning). sorted_once (listed_by k (board_by (task_of p ask units) r).answers)) (sought-mode ask.mode ask.by_name))))
 
 -- No conflict that was paid for knew more answers than are reported.
 listed-common : (w : Reasoning) (p : Program) (A : List Atoms) → common_sets w p A ≡ option_to_list (consequences_of w p A)
 listed-common w p [] = refl
 listed-common w p (S ∷ A) = refl
 
-pub count-reported : (k : Option Reasoning) (p : Program) (A : List Atoms) (r : Found) → r.answers ≡ sorted_once (listed_by k A) → r.known ≡ common_by k p A → count_by k p A ≡ length (known_in k r)
-count-reported None p A r answers known = sym (ap length answers ∙ length-sorted_once A)
-count-reported (Some w) p A r answers known = ap length (listed-common w p A) ∙ ap (λ (o : Option Atoms). length (option_to_list o)) (sym known)
+pub count-reported : (k : Option Reasoning) (p : Program) (A D : List Atoms) (r : Found) → (k ≡ None → D ≡ A) → r.answers ≡ sorted_once (listed_by k A) → r.known ≡ common_by k p D → count_by k p D ≡ length (known_in k r)
+count-reported None p A D r same answers known = ap (λ (L : List Atoms). length (distinct L)) (same refl) ∙ sym (ap length answers ∙ length-sorted_once A)
+count-reported (Some w) p A D r same answers known = ap length (listed-common w p D) ∙ ap (λ (o : Option Atoms). length (option_to_list o)) (sym known)
 
 -- What is reported uses up the same sets as what was delivered.
-used-reported : (k : Option Reasoning) (p : Program) (A : List Atoms) (r : Found) → r.answers ≡ sorted_once (listed_by k A) → r.known ≡ common_by k p A → (S : Atoms) → list_any (same_set S) (used_up k p A) ≡ list_any (same_set S) (used_up k p (known_in k r))
-used-reported None p A r answers known S = sym (sorted-has [] A S) ∙ ap (λ (L : List Atoms). list_any (same_set S) L) (sym answers)
-used-reported (Some w) p A r answers known S =
-    ap (λ (U : List Atoms). list_any (same_set S) U) (sym (used-common w p A) ∙ ap (used_up (Some w) p) (listed-common w p A ∙ ap (λ (o : Option Atoms). option_to_list o) (sym known)))
+used-reported : (k : Option Reasoning) (p : Program) (A D : List Atoms) (r : Found) → (k ≡ None → D ≡ A) → r.answers ≡ sorted_once (listed_by k A) → r.known ≡ common_by k p D → (S : Atoms) →
+    list_any (same_set S) (used_up k p D) ≡ list_any (same_set S) (used_up k p (known_in k r))
+used-reported None p A D r same answers known S = ap (λ (L : List Atoms). list_any (same_set S) L) (same refl) ∙ sym (sorted-has [] A S) ∙ ap (λ (L : List Atoms). list_any (same_set S) L) (sym answers)
+used-reported (Some w) p A D r same answers known S =
+    ap (λ (U : List Atoms). list_any (same_set S) U) (sym (used-common w p D) ∙ ap (used_up (Some w) p) (listed-common w p D ∙ ap (λ (o : Option Atoms). option_to_list o) (sym known)))
 
 -- what a report's board is for
 played-task : (t : Task) (r : Report) → IsPlayed t r → (board_by t r).task ≡ t
@@ -100,8 +102,10 @@ played-task t r is = task-run (start t) r.journal
 
 pub paid-known : (t : Task) (r : Report) → IsPlayed t r → r.paid.known ≤ length (known_in (sought t.goal) r.results)
 paid-known t r is =
-    let count : known_count (board_by t r) ≡ count_by (sought t.goal) t.program (board_by t r).answers = ap (λ (x : Task). count_by (sought x.goal) x.program (board_by t r).answers) (played-task t r is) in
-    omega (arith, is.paid.fits.known, count, count-reported (sought t.goal) t.program (board_by t r).answers r.results is.answers is.common)
+    let A : List Atoms = (board_by t r).answers in
+    let shown : List Atoms = showing t.goal t.program A in
+    let count : known_count (board_by t r) ≡ count_by (sought t.goal) t.program shown = ap (λ (x : Task). count_by (sought x.goal) x.program (showing x.goal x.program A)) (played-task t r is) in
+    omega (arith, is.paid.fits.known, count, count-reported (sought t.goal) t.program A shown r.results (sought-none t.goal t.program A) is.answers is.common)
 
 -- ---- a part of the answers
 pub listed-answers : (t : Task) (A : List Atoms) (S : Atoms) → AllByRecursion (λ T. IsTrue (lists t T) × IsTrue (is_answer t T)) A → list_any (same_set S) A ≡ true → is_answer t S ≡ true
@@ -117,44 +121,44 @@ both x true h = sym (ap (λ z. z && true) (h refl))
 both true false h = refl
 both false false h = refl
 
-module _ (p : Program) (n units : ℕ) (r : Report) where
-  part-by : (mode : Mode) → IsPlayed (task_of p (asks mode n) units) r → IsBoard (board_by (task_of p (asks mode n) units) r) → (board_by (task_of p (asks mode n) units) r).task ≡ task_of p (asks mode n) units → IsPart p mode r.results
+module _ (p : Program) (n units : ℕ) (named : Bool) (r : Report) where
+  part-by : (mode : Mode) → IsPlayed (task_of p (asks mode n named) units) r → IsBoard (board_by (task_of p (asks mode n named) units) r) → (board_by (task_of p (asks mode n named) units) r).task ≡ task_of p (asks mode n named) units → IsPart named p mode r.results
   part-by Enum is board task =
-      let b : Board = board_by (task_of p (asks Enum n) units) r in
-      let t : Task = task_of p (asks Enum n) units in
+      let b : Board = board_by (task_of p (asks Enum n named) units) r in
+      let t : Task = task_of p (asks Enum n named) units in
       let q : Atoms → Bool = λ S. list_any (same_set S) b.answers in
       let delivered : AllByRecursion (λ T. IsTrue (lists t T) × IsTrue (is_answer t T)) b.answers = subst (λ (x : Task). AllByRecursion (λ T. IsTrue (lists x T) × IsTrue (is_answer x T)) b.answers) task board.delivered in (
-        (q, is.answers ∙ sorted-answers t q b.answers (λ S. both (is_answer t S) (q S) (λ h. listed-answers t b.answers S delivered h)) ∙ ap (filter q) (answers-same p (asks Enum n) units)),
+        (q, is.answers ∙ sorted-answers t q b.answers (λ S. both (is_answer t S) (q S) (λ h. listed-answers t b.answers S delivered h)) ∙ ap (filter q) (answers-same p (asks Enum n named) units)),
         is.best ∙ ap (option_map (with_cost p)) (none-kept b.task b.best (ap (λ (x : Task). x.goal) task) board.best),
       )
   part-by (Consequences w) is board task =
-      let b : Board = board_by (task_of p (asks (Consequences w) n) units) r in
-      let t : Task = task_of p (asks (Consequences w) n) units in
+      let b : Board = board_by (task_of p (asks (Consequences w) n named) units) r in
+      let t : Task = task_of p (asks (Consequences w) n named) units in
       let q : Atoms → Bool = λ S. list_any (same_set S) b.answers in
       let delivered : AllByRecursion (λ T. IsTrue (lists t T) × IsTrue (is_answer t T)) b.answers = subst (λ (x : Task). AllByRecursion (λ T. IsTrue (lists x T) × IsTrue (is_answer x T)) b.answers) task board.delivered in
       let among : AreAmong b.answers (answers p) = λ S h.
-      ap (λ (L : List Atoms). list_any (same_set S) L) (sym (answers-same p (asks (Consequences w) n) units)) ∙ has-answers_of t S ∙ listed-answers t b.answers S delivered h in (
+      ap (λ (L : List Atoms). list_any (same_set S) L) (sym (answers-same p (asks (Consequences w) n named) units)) ∙ has-answers_of t S ∙ listed-answers t b.answers S delivered h in (
         is.answers,
         is.best ∙ ap (option_map (with_cost p)) (none-best b.task b.best (ap (λ (x : Task). optimises x.goal) task) board.best),
-        (q, is.common ∙ consequences-chosen w p b.answers (answers p) among),
+        (q, is.common ∙ showing_by-chosen named w p b.answers (answers p) among),
       )
   part-by Opt is board task =
-      let b : Board = board_by (task_of p (asks Opt n) units) r in (
+      let b : Board = board_by (task_of p (asks Opt n named) units) r in (
         is.answers ∙ sorted-nil b.answers (none-listed b.task b.answers (ap (λ (x : Task). x.goal) task) board.delivered),
         subst (λ (o : Option (Atoms × List ℤ)). IfSome o (IsPriced p)) (sym is.best) (priced b.best (subst (λ (x : Task). IfSome b.best (λ S. IsTrue (optimises x.goal) × IsTrue (is_answer x S))) task board.best)),
       )
     where
-      priced : (o : Option Atoms) → IfSome o (λ S. IsTrue (optimises goal.Opt) × IsTrue (is_answer (task_of p (asks Opt n) units) S)) → IfSome (option_map (with_cost p) o) (IsPriced p)
+      priced : (o : Option Atoms) → IfSome o (λ S. IsTrue (optimises goal.Opt) × IsTrue (is_answer (task_of p (asks Opt n named) units) S)) → IfSome (option_map (with_cost p) o) (IsPriced p)
       priced None h = tt
-      priced (Some S) h = (contains_from_test (answers p) S (ap (λ (L : List Atoms). list_any (same_set S) L) (sym (answers-same p (asks Opt n) units)) ∙ has-answers_of (task_of p (asks Opt n) units) S ∙ h.1), refl)
+      priced (Some S) h = (contains_from_test (answers p) S (ap (λ (L : List Atoms). list_any (same_set S) L) (sym (answers-same p (asks Opt n named) units)) ∙ has-answers_of (task_of p (asks Opt n named) units) S ∙ h.1), refl)
 
 -- ---- a bound that the search may have had is at least the best's cost
-at_least-by : (mode : Mode) (p : Program) (best : Option Atoms) (o : Option (List ℤ)) → IfSome o (IsBoundBy (goal_of mode) p best) → IsAtLeast (option_map (λ x. x.1) (option_map (with_cost p) best)) o
-at_least-by mode p best None h = tt
-at_least-by Enum p best (Some c) h = absurd h
-at_least-by (Consequences w) p best (Some c) h = absurd h
-at_least-by Opt p None (Some c) h = absurd h
-at_least-by Opt p (Some S) (Some c) h = ap not h
+at_least-by : (mode : Mode) (named : Bool) (p : Program) (best : Option Atoms) (o : Option (List ℤ)) → IfSome o (IsBoundBy (goal_of mode named) p best) → IsAtLeast (option_map (λ x. x.1) (option_map (with_cost p) best)) o
+at_least-by mode named p best None h = tt
+at_least-by Enum named p best (Some c) h = absurd h
+at_least-by (Consequences w) named p best (Some c) h = absurd h
+at_least-by Opt named p None (Some c) h = absurd h
+at_least-by Opt named p (Some S) (Some c) h = ap not h
 
 -- ---- a conflict by what was recorded is one by what is reported
 settled-more : (p : Program) (K L : List Atoms) (b c : Option (List ℤ)) (way : List Literal) → ((S : Atoms) → list_any (same_set S) K ≡ list_any (same_set S) L) → b ≡ c → Settled p K b way → Settled p L c way
@@ -236,17 +240,17 @@ module _ (t : Task) (r : Report) (is : IsPlayed t r) (board : IsBoard (board_by 
   under-limit none = less none (is_enough (board_by t r)) (all_closed (board_by t r).nodes) refl is.end
 
 -- an enumeration at its limit; an optimisation lists nothing
-limited-asked : (p : Program) (mode : Mode) (n : ℕ) (r : Found) → IsPart p mode r → (0 < n) × (length r.answers ≡ n) → IsAsked p (asks mode n) r
-limited-asked p Enum n r part at = record { listing = refl; some = at.0; count = at.1; part = part; best = tt }
-limited-asked p Opt n r part at = absurd (let f : ⊥ = omega (arith, at.0, at.1, ap length part.0) in f)
-limited-asked p (Consequences w) n r part at = absurd (let f : ⊥ = omega (arith, at.0, at.1, ap length part.0) in f)
+limited-asked : (p : Program) (mode : Mode) (n : ℕ) (named : Bool) (r : Found) → IsPart named p mode r → (0 < n) × (length r.answers ≡ n) → IsAsked p (asks mode n named) r
+limited-asked p Enum n named r part at = record { listing = refl; some = at.0; count = at.1; part = part; best = tt }
+limited-asked p Opt n named r part at = absurd (let f : ⊥ = omega (arith, at.0, at.1, ap length part.0) in f)
+limited-asked p (Consequences w) n named r part at = absurd (let f : ⊥ = omega (arith, at.0, at.1, ap length part.0) in f)
 
 -- what a mode's first search says at its limit, which a search for consequences has none of
-limited-says : (p : Program) (mode : Mode) (n units : ℕ) (r : Report) → IsPlayed (task_of p (asks mode n) units) r → IsBoard (board_by (task_of p (asks mode n) units) r) → (board_by (task_of p (asks mode n) units) r).task ≡ task_of p (asks mode n) units →
-    IsPart p mode r.results → r.results.end ≡ Limited → IsAsked p (asks mode n) r.results
-limited-says p Enum n units r is board task part q = limited-asked p Enum n r.results part (at-limit (task_of p (asks Enum n) units) r is board task refl q)
-limited-says p Opt n units r is board task part q = limited-asked p Opt n r.results part (at-limit (task_of p (asks Opt n) units) r is board task refl q)
-limited-says p (Consequences w) n units r is board task part q = absurd (let f : ⊥ = omega (arith, limited-some (task_of p (asks (Consequences w) n) units) r is board task q) in f)
+limited-says : (p : Program) (mode : Mode) (n units : ℕ) (named : Bool) (r : Report) → IsPlayed (task_of p (asks mode n named) units) r → IsBoard (board_by (task_of p (asks mode n named) units) r) → (board_by (task_of p (asks mode n named) units) r).task ≡ task_of p (asks mode n named) units →
+    IsPart named p mode r.results → r.results.end ≡ Limited → IsAsked p (asks mode n named) r.results
+limited-says p Enum n units named r is board task part q = limited-asked p Enum n named r.results part (at-limit (task_of p (asks Enum n named) units) r is board task refl q)
+limited-says p Opt n units named r is board task part q = limited-asked p Opt n named r.results part (at-limit (task_of p (asks Opt n named) units) r is board task refl q)
+limited-says p (Consequences w) n units named r is board task part q = absurd (let f : ⊥ = omega (arith, limited-some (task_of p (asks (Consequences w) n named) units) r is board task q) in f)
 
 -- ---- a report that tells what the board has
 module _ (t : Task) (r : Report) (query : IsQuery t.program t.query) (lawful : IsJournalOf t r.journal) (told : IsToldBy (board_by t r) r) where
@@ -262,11 +266,14 @@ module _ (t : Task) (r : Report) (query : IsQuery t.program t.query) (lawful : I
   answers-told : r.results.answers ≡ sorted_once (listed_by (sought t.goal) (board_by t r).answers)
   answers-told = told.answers ∙ ap (λ (x : Task). sorted_once (listed_by (sought x.goal) (board_by t r).answers)) task-is
 
-  common-told : r.results.known ≡ common_by (sought t.goal) t.program (board_by t r).answers
-  common-told = told.common ∙ ap (λ (x : Task). common_by (sought x.goal) x.program (board_by t r).answers) task-is
+  abbrev shown : List Atoms
+  shown = showing t.goal t.program (board_by t r).answers
+
+  common-told : r.results.known ≡ common_by (sought t.goal) t.program shown
+  common-told = told.common ∙ ap (λ (x : Task). common_by (sought x.goal) x.program (showing x.goal x.program (board_by t r).answers)) task-is
 
   count-told : known_count (board_by t r) ≡ length (known_in (sought t.goal) r.results)
-  count-told = ap (λ (x : Task). count_by (sought x.goal) x.program (board_by t r).answers) task-is ∙ count-reported (sought t.goal) t.program (board_by t r).answers r.results answers-told common-told
+  count-told = ap (λ (x : Task). count_by (sought x.goal) x.program (showing x.goal x.program (board_by t r).answers)) task-is ∙ count-reported (sought t.goal) t.program (board_by t r).answers shown r.results (sought-none t.goal t.program (board_by t r).answers) answers-told common-told
 
   best : r.results.best ≡ option_map (with_cost t.program) (board_by t r).best
   best = told.best ∙ ap (λ (q : Program). option_map (with_cost q) (board_by t r).best) program
@@ -286,9 +293,9 @@ module _ (t : Task) (r : Report) (query : IsQuery t.program t.query) (lawful : I
         known = omega (arith, is.met.known, count-told);
         bound = is.met.bound;
         conflict =
-            conflict-more t.program (used_up (sought t.goal) t.program b.answers) (used_up (sought t.goal) t.program (known_in (sought t.goal) r.results)) (bound_of b) (bound_of b) x
-            (used-reported (sought t.goal) t.program b.answers r.results answers-told common-told) refl
-            (subst (λ (y : Task). IsConflict y.program (used_up (sought y.goal) y.program b.answers) (bound_of b) x.cube x.decisions x.nogood) task-is is.met.conflict);
+            conflict-more t.program (used_up (sought t.goal) t.program shown) (used_up (sought t.goal) t.program (known_in (sought t.goal) r.results)) (bound_of b) (bound_of b) x
+            (used-reported (sought t.goal) t.program b.answers shown r.results (sought-none t.goal t.program b.answers) answers-told common-told) refl
+            (subst (λ (y : Task). IsConflict y.program (used_up (sought y.goal) y.program (showing y.goal y.program b.answers)) (bound_of b) x.cube x.decisions x.nogood) task-is is.met.conflict);
       }
 
   ends-by : (o : Option Clash) → r.unpaid ≡ o → IsWorkedOff (board_by t r) o → Ends t (board_by t r) r r.results.end
@@ -330,71 +337,71 @@ module _ (t : Task) (r : Report) (query : IsQuery t.program t.query) (lawful : I
   told-bounds = subst (λ (x : Task). IfSome r.paid.least (IsBoundBy x.goal x.program (board_by t r).best)) task-is told.paid.fits.least
 
 -- the report of a first search
-module _ (p : Program) (mode : Mode) (n units : ℕ) (r : Report) (lawful : IsJournalOf (task_of p (asks mode n) units) r.journal) (told : IsToldBy (board_by (task_of p (asks mode n) units) r) r) where
-  first-played : IsPlayed (task_of p (asks mode n) units) r
-  first-played = told-played (task_of p (asks mode n) units) r tt lawful told
+module _ (p : Program) (mode : Mode) (n units : ℕ) (named : Bool) (r : Report) (lawful : IsJournalOf (task_of p (asks mode n named) units) r.journal) (told : IsToldBy (board_by (task_of p (asks mode n named) units) r) r) where
+  first-played : IsPlayed (task_of p (asks mode n named) units) r
+  first-played = told-played (task_of p (asks mode n named) units) r tt lawful told
 
-  first-part : IsPart p mode r.results
-  first-part = part-by p n units r mode first-played (is-board (task_of p (asks mode n) units) r tt lawful told) (task-is (task_of p (asks mode n) units) r tt lawful told)
+  first-part : IsPart named p mode r.results
+  first-part = part-by p n units named r mode first-played (is-board (task_of p (asks mode n named) units) r tt lawful told) (task-is (task_of p (asks mode n named) units) r tt lawful told)
 
-  says-by : (e : End) → r.results.end ≡ e → Says p (asks mode n) r e
-  says-by Finished q = finished-found p (asks mode n) units r first-played q
+  says-by : (e : End) → r.results.end ≡ e → Says p (asks mode n named) r e
+  says-by Finished q = finished-found p (asks mode n named) units r first-played q
   says-by Limited q =
-      limited-says p mode n units r first-played (is-board (task_of p (asks mode n) units) r tt lawful told) (task-is (task_of p (asks mode n) units) r tt lawful told) first-part q
-  says-by Unfinished q = (first-part, told-left (task_of p (asks mode n) units) r tt lawful told q)
+      limited-says p mode n units named r first-played (is-board (task_of p (asks mode n named) units) r tt lawful told) (task-is (task_of p (asks mode n named) units) r tt lawful told) first-part q
+  says-by Unfinished q = (first-part, told-left (task_of p (asks mode n named) units) r tt lawful told q)
 
-  sought-here : sought (board_by (task_of p (asks mode n) units) r).task.goal ≡ reasoning_of mode
-  sought-here = ap (λ (x : Task). sought x.goal) (task-is (task_of p (asks mode n) units) r tt lawful told) ∙ sought-mode mode
+  sought-here : sought (board_by (task_of p (asks mode n named) units) r).task.goal ≡ reasoning_of mode
+  sought-here = ap (λ (x : Task). sought x.goal) (task-is (task_of p (asks mode n named) units) r tt lawful told) ∙ sought-mode mode named
 
-  pub told-reports : r.second ≡ None → r.results.mode ≡ mode → IsReport p (asks mode n) units r
+  pub told-reports : r.second ≡ None → r.results.mode ≡ mode → IsReport p (asks mode n named) units r
   told-reports alone mode_is = record {
     mode_is = mode_is;
     says = says-by r.results.end refl;
-    program = told.paid.fits.program ∙ ap (λ (x : Task). x.program) (task-is (task_of p (asks mode n) units) r tt lawful told);
+    program = told.paid.fits.program ∙ ap (λ (x : Task). x.program) (task-is (task_of p (asks mode n named) units) r tt lawful told);
     spent = told.paid.burnt ∙ sym told.spent;
-    budget = told-budget (task_of p (asks mode n) units) r tt lawful told;
+    budget = told-budget (task_of p (asks mode n named) units) r tt lawful told;
     reasoned = λ e. sym (ap is_some sought-here) ∙ told.paid.fits.reasoned e;
-    known = subst (λ (k : Option Reasoning). r.paid.known ≤ length (known_in k r.results)) (sought-mode mode) (paid-known (task_of p (asks mode n) units) r first-played);
-    untold = λ e. first-played.common ∙ ap (λ (k : Option Reasoning). common_by k p (board_by (task_of p (asks mode n) units) r).answers) (sought-mode mode ∙ e);
+    known = subst (λ (k : Option Reasoning). r.paid.known ≤ length (known_in k r.results)) (sought-mode mode named) (paid-known (task_of p (asks mode n named) units) r first-played);
+    untold = λ e. first-played.common ∙ ap (λ (k : Option Reasoning). common_by k p (showing (goal_of mode named) p (board_by (task_of p (asks mode n named) units) r).answers)) (sought-mode mode named ∙ e);
     least =
         subst (λ (o : Option (Atoms × List ℤ)). IsAtLeast (option_map (λ y. y.1) o) r.paid.least) (sym first-played.best)
-        (at_least-by mode p (board_by (task_of p (asks mode n) units) r).best r.paid.least (told-bounds (task_of p (asks mode n) units) r tt lawful told));
-    played = subst (λ (o : Option (List Event)). IsPlayedBy o p (asks mode n) units r) (sym alone) first-played;
+        (at_least-by mode named p (board_by (task_of p (asks mode n named) units) r).best r.paid.least (told-bounds (task_of p (asks mode n named) units) r tt lawful told));
+    played = subst (λ (o : Option (List Event)). IsPlayedBy o p (asks mode n named) units r) (sym alone) first-played;
   }
 
 -- A first search has found a part at least.
-pub played-part : (p : Program) (ask : Ask) (units : ℕ) (r : Report) → IsPlayed (task_of p ask units) r → IsPart p ask.mode r.results
-played-part p ask units r is = part-by p ask.models units r ask.mode is (IsBoard-replay (task_of p ask units) r.journal tt is.lawful) (task-run (start (task_of p ask units)) r.journal)
+pub played-part : (p : Program) (ask : Ask) (units : ℕ) (r : Report) → IsPlayed (task_of p ask units) r → IsPart ask.by_name p ask.mode r.results
+played-part p ask units r is = part-by p ask.models units ask.by_name r ask.mode is (IsBoard-replay (task_of p ask units) r.journal tt is.lawful) (task-run (start (task_of p ask units)) r.journal)
 
 -- ---- a run that is left to one search
 -- the optima are those of the answers
 optima-none : (p : Program) → answers p ≡ [] → optima p ≡ []
 optima-none p e = ap (λ (A : List Atoms). filter (λ S. not (list_any (λ T. betters (cost p T) (cost p S)) A)) A) e
 
-whole-found : (p : Program) (L : List Atoms) (best : Option (Atoms × List ℤ)) (known : Option Atoms) → IsFound p Opt L best known → IsWhole true Finished best → IsAllFound true p Opt L best known
-whole-found p L None known found whole = (found.0 ∙ sym (optima-none p found.1), found.1)
-whole-found p L (Some b) known found whole = absurd whole
+whole-found : (named : Bool) (p : Program) (L : List Atoms) (best : Option (Atoms × List ℤ)) (known : Option Atoms) → IsFound named p Opt L best known → IsWhole true Finished best → IsAllFound true named p Opt L best known
+whole-found named p L None known found whole = (found.0 ∙ sym (optima-none p found.1), found.1)
+whole-found named p L (Some b) known found whole = absurd whole
 
-whole-says : (p : Program) (mode : Mode) (n : ℕ) (r : Report) (e : End) → IsWhole true e r.results.best → Says p (asks mode n) r e → Says p (record { mode = mode; models = n; all_optima = true }) r e
-whole-says p Enum n r Finished whole h = h
-whole-says p Enum n r Limited whole h = record { listing = refl; some = h.some; count = h.count; part = h.part; best = tt }
-whole-says p Enum n r Unfinished whole h = h
-whole-says p Opt n r Finished whole h = whole-found p r.results.answers r.results.best r.results.known h whole
-whole-says p (Consequences w) n r Finished whole h = h
-whole-says p (Consequences w) n r Limited whole h = absurd (false≢true h.listing)
-whole-says p (Consequences w) n r Unfinished whole h = h
-whole-says p Opt n r Limited whole h = absurd (false≢true h.listing)
-whole-says p Opt n r Unfinished whole h = ((((λ S. false), h.0.0 ∙ sym (none-chosen (optima p))), h.0.1), h.1)
+whole-says : (p : Program) (mode : Mode) (n : ℕ) (named : Bool) (r : Report) (e : End) → IsWhole true e r.results.best → Says p (asks mode n named) r e → Says p (record { mode = mode; models = n; all_optima = true; by_name = named }) r e
+whole-says p Enum n named r Finished whole h = h
+whole-says p Enum n named r Limited whole h = record { listing = refl; some = h.some; count = h.count; part = h.part; best = tt }
+whole-says p Enum n named r Unfinished whole h = h
+whole-says p Opt n named r Finished whole h = whole-found named p r.results.answers r.results.best r.results.known h whole
+whole-says p (Consequences w) n named r Finished whole h = h
+whole-says p (Consequences w) n named r Limited whole h = absurd (false≢true h.listing)
+whole-says p (Consequences w) n named r Unfinished whole h = h
+whole-says p Opt n named r Limited whole h = absurd (false≢true h.listing)
+whole-says p Opt n named r Unfinished whole h = ((((λ S. false), h.0.0 ∙ sym (none-chosen (optima p))), h.0.1), h.1)
   where
     none-chosen : (L : List Atoms) → filter (λ (S : Atoms). false) L ≡ []
     none-chosen [] = refl
     none-chosen (S ∷ L) = none-chosen L
 
-alone-by : (all : Bool) (p : Program) (mode : Mode) (n units : ℕ) (r : Report) → IsReport p (asks mode n) units r → r.second ≡ None → IsWhole all r.results.end r.results.best → IsReport p (record { mode = mode; models = n; all_optima = all }) units r
-alone-by false p mode n units r is alone whole = is
-alone-by true p mode n units r is alone whole = record {
+alone-by : (all named : Bool) (p : Program) (mode : Mode) (n units : ℕ) (r : Report) → IsReport p (asks mode n named) units r → r.second ≡ None → IsWhole all r.results.end r.results.best → IsReport p (record { mode = mode; models = n; all_optima = all; by_name = named }) units r
+alone-by false named p mode n units r is alone whole = is
+alone-by true named p mode n units r is alone whole = record {
   mode_is = is.mode_is;
-  says = whole-says p mode n r r.results.end whole is.says;
+  says = whole-says p mode n named r r.results.end whole is.says;
   program = is.program;
   spent = is.spent;
   budget = is.budget;
@@ -402,8 +409,8 @@ alone-by true p mode n units r is alone whole = record {
   known = is.known;
   untold = is.untold;
   least = is.least;
-  played = subst (λ (o : Option (List Event)). IsPlayedBy o p (record { mode = mode; models = n; all_optima = true }) units r) (sym alone) (subst (λ (o : Option (List Event)). IsPlayedBy o p (asks mode n) units r) alone is.played);
+  played = subst (λ (o : Option (List Event)). IsPlayedBy o p (record { mode = mode; models = n; all_optima = true; by_name = named }) units r) (sym alone) (subst (λ (o : Option (List Event)). IsPlayedBy o p (asks mode n named) units r) alone is.played);
 }
 
-pub alone-reports : (p : Program) (ask : Ask) (units : ℕ) (r : Report) → IsReport p (asks ask.mode ask.models) units r → r.second ≡ None → IsWhole ask.all_optima r.results.end r.results.best → IsReport p ask units r
-alone-reports p ask units r = alone-by ask.all_optima p ask.mode ask.models units r
+pub alone-reports : (p : Program) (ask : Ask) (units : ℕ) (r : Report) → IsReport p (asks ask.mode ask.models ask.by_name) units r → r.second ≡ None → IsWhole ask.all_optima r.results.end r.results.best → IsReport p ask units r
+alone-reports p ask units r = alone-by ask.all_optima ask.by_name p ask.mode ask.models units r

@@ -31,12 +31,12 @@ use Rattle.asp_crew_laws.proofs.FoundLaws.{answers-same}
 use Rattle.asp_crew_laws.proofs.PlayedLaws.{at-limit, closed-by, is-board, listed-answers, paid-known, task-is, told-bounds, told-budget, told-left, told-played}
 use Rattle.asp_crew_laws.proofs.TieLaws.{not-above, ties-optima}
 
-abbrev all_of : ℕ → Ask
-all_of n = record { mode = Opt; models = n; all_optima = true; by_name = false }
+abbrev all_of : ℕ → Bool → Ask
+all_of n named = record { mode = Opt; models = n; all_optima = true; by_name = named }
 
 -- the second search's task
 abbrev ties_task : Program → ℕ → Report → List ℤ → Task
-ties_task p n first c = ties_of p (asks Opt n) c first.paid.left
+ties_task p n first c = ties_of p (asks Opt n false) c first.paid.left
 
 -- ---- some of the answers that pass
 filter-both : (f g : Atoms → Bool) (L : List Atoms) → filter (λ S. f S && g S) L ≡ filter g (filter f L)
@@ -80,10 +80,10 @@ both-unreasoned true y f g e = f refl
 both-unreasoned false y f g e = g e
 
 -- ---- the report of both
-module _ (p : Program) (n units : ℕ) (first ties : Report) (S : Atoms) (c : List ℤ) (is : IsReport p (asks Opt n) units first) (alone : first.second ≡ None) (finished : first.results.end ≡ Finished)
+module _ (p : Program) (n units : ℕ) (named : Bool) (first ties : Report) (S : Atoms) (c : List ℤ) (is : IsReport p (asks Opt n named) units first) (alone : first.second ≡ None) (finished : first.results.end ≡ Finished)
     (found : first.results.best ≡ Some (S, c)) (lawful : IsJournalOf (ties_task p n first c) ties.journal) (told : IsToldBy (board_by (ties_task p n first c) ties) ties) where
-  first-found : IsFound p Opt first.results.answers first.results.best first.results.known
-  first-found = subst (Says p (asks Opt n) first) finished is.says
+  first-found : IsFound named p Opt first.results.answers first.results.best first.results.known
+  first-found = subst (Says p (asks Opt n named) first) finished is.says
 
   optimum : IsOptimum p S c
   optimum = subst (IsBest p) found first-found.1
@@ -102,7 +102,7 @@ module _ (p : Program) (n units : ℕ) (first ties : Report) (S : Atoms) (c : Li
 
   -- those that the second search lists
   are-optima : filter (lists (ties_task p n first c)) (answers_of (ties_task p n first c)) ≡ optima p
-  are-optima = ap (filter (lists (ties_task p n first c))) (answers-same p (asks Opt n) units) ∙ ties-optima p S c optimum
+  are-optima = ap (filter (lists (ties_task p n first c))) (answers-same p (asks Opt n named) units) ∙ ties-optima p S c optimum
 
   all-listed : ties.results.end ≡ Finished → ties.results.answers ≡ optima p
   all-listed q =
@@ -125,7 +125,7 @@ module _ (p : Program) (n units : ℕ) (first ties : Report) (S : Atoms) (c : Li
   priced : IfSome first.results.best (IsPriced p)
   priced = subst (λ (o : Option (Atoms × List ℤ)). IfSome o (IsPriced p)) (sym found) (optimum.answer, optimum.sums)
 
-  ties-say : (e : End) → ties.results.end ≡ e → Says p (all_of n) (joined first ties) e
+  ties-say : (e : End) → ties.results.end ≡ e → Says p (all_of n named) (joined first ties) e
   ties-say Finished q = (all-listed q, first-found.1)
   ties-say Limited q =
       let at = at-limit (ties_task p n first c) ties again board task refl q in
@@ -138,7 +138,7 @@ module _ (p : Program) (n units : ℕ) (first ties : Report) (S : Atoms) (c : Li
       subst (λ (o : Option (Atoms × List ℤ)). IsAtLeast (option_map (λ y. y.1) o) ties.paid.least) (sym found)
       (ties-at_least p c b.best ties.paid.least (told-bounds (ties_task p n first c) ties tt lawful told))
 
-  pub ties-report : IsReport p (all_of n) units (joined first ties)
+  pub ties-report : IsReport p (all_of n named) units (joined first ties)
   ties-report = record {
     mode_is = is.mode_is;
     says = ties-say ties.results.end refl;
@@ -156,7 +156,7 @@ module _ (p : Program) (n units : ℕ) (first ties : Report) (S : Atoms) (c : Li
       both = refl;
       finished = finished;
       found = found;
-      played = subst (λ (o : Option (List Event)). IsPlayedBy o p (asks Opt n) units first) alone is.played;
+      played = subst (λ (o : Option (List Event)). IsPlayedBy o p (asks Opt n named) units first) alone is.played;
       again = again;
     };
   }

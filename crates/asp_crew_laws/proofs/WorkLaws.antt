@@ -27,7 +27,7 @@ use Rattle.asp_core.specs.declared.goal.Goal.{Goal}
 use Rattle.asp_core.specs.declared.goal.Goal.TheVariants as goal
 use Rattle.asp_core.specs.declared.task.Task.{Task}
 use Rattle.asp_core.specs.Units.{out_of, leased}
-use Rattle.asp_core.specs.Boards.{Board, IsBoundBy, IsBoundOf, bound_by, bound_of, count_by, distinct, goal_of, is_excused, known_count, lists_by, lists, optimises, sought, used}
+use Rattle.asp_core.specs.Boards.{Board, IsBoundBy, IsBoundOf, bound_by, bound_of, count_by, distinct, goal_of, is_excused, known_count, lists_by, lists, optimises, showing_of, sought, used}
 use Rattle.asp_core.specs.Events.{Guard, happens}
 use Rattle.asp_core.specs.Growth.{Grows, Spares}
 use Rattle.asp_core.specs.Sorting.{sorted_once}
@@ -43,17 +43,17 @@ use Rattle.asp_crew_laws.proofs.AgreeLaws.{agrees-adopted, agrees-delivered, agr
 use Rattle.asp_crew_laws.proofs.FuelLaws.{pigeons, agrees-improved, agrees-unimproved}
 
 -- ---- what a search may look for
-pub sought-first : (mode : Mode) (g : Goal) → g ≡ goal_of mode → IsSought mode None g
-sought-first Enum g e = inl e
-sought-first Opt g e = e
-sought-first (Consequences r) g e = e
+pub sought-first : (mode : Mode) (named : Bool) (g : Goal) → g ≡ goal_of mode named → IsSought mode None g
+sought-first Enum named g e = inl e
+sought-first Opt named g e = e
+sought-first (Consequences r) named g e = ap sought e
 
 -- which consequences a search seeks, those the board seeks
 pub sought-is : (mode : Mode) (bound : Option (List ℤ)) (g : Goal) → IsSought mode bound g → sought g ≡ reasoning_of mode
 sought-is Enum bound g (inl e) = ap sought e
 sought-is Enum bound g (inr e) = ap sought e
 sought-is Opt bound g e = ap sought e
-sought-is (Consequences r) bound g e = ap sought e
+sought-is (Consequences r) bound g e = e
 
 -- ---- the board went on, and the number's units are as they were
 pub work-on : (b c : Board) (n : ℕ) (mode : Mode) (known : List Atoms) (bound : Option (List ℤ)) (u : Units) → IsAtWork b n mode known bound u → Grows b c → out_of c.out n ≡ out_of b.out n → IsAtWork c n mode known bound u
@@ -82,10 +82,10 @@ none-apart Enum = tt
 none-apart Opt = tt
 none-apart (Consequences r) = tt
 
-pub work-begins : (b : Board) (n : ℕ) (mode : Mode) (u : Units) → b.task.goal ≡ goal_of mode → ComesBack b (out_of b.out n) u → IsAtWork b n mode [] None u
-work-begins b n mode u e units = record {
-  goal = sought-first mode b.task.goal e;
-  agrees = record { excused = λ S h. absurd (false≢true (sym (ap (λ x. x || false) (used-none (sought b.task.goal) b.task.program S)) ∙ h)); recorded = none-recorded (sought b.task.goal) b.task.program b.answers; bounded = tt };
+pub work-begins : (b : Board) (n : ℕ) (mode : Mode) (named : Bool) (u : Units) → b.task.goal ≡ goal_of mode named → ComesBack b (out_of b.out n) u → IsAtWork b n mode [] None u
+work-begins b n mode named u e units = record {
+  goal = sought-first mode named b.task.goal e;
+  agrees = record { excused = λ S h. absurd (false≢true (sym (ap (λ x. x || false) (used-none (sought b.task.goal) b.task.program S)) ∙ h)); recorded = none-recorded (sought b.task.goal) b.task.program (showing_of b); bounded = tt };
   apart = none-apart mode;
   kept = none-kept mode;
   units = units;
@@ -107,7 +107,7 @@ bound-ties b c e = subst (λ (g : Goal). IfSome c (IsBoundBy g b.task.program b.
 pub ties-begin : (b : Board) (n : ℕ) (c : Option (List ℤ)) (u : Units) → b.task.goal ≡ goal.Ties c → ComesBack b (out_of b.out n) u → IsAtWork b n Enum [] c u
 ties-begin b n c u e units = record {
   goal = inr e;
-  agrees = record { excused = λ S h. too-dear b c S e (sym (ap (λ x. x || costs_bound b.task.program c S) (used-none (sought b.task.goal) b.task.program S)) ∙ h); recorded = none-recorded (sought b.task.goal) b.task.program b.answers; bounded = bound-ties b c e };
+  agrees = record { excused = λ S h. too-dear b c S e (sym (ap (λ x. x || costs_bound b.task.program c S) (used-none (sought b.task.goal) b.task.program S)) ∙ h); recorded = none-recorded (sought b.task.goal) b.task.program (showing_of b); bounded = bound-ties b c e };
   apart = tt;
   kept = tt;
   units = units;
@@ -115,7 +115,7 @@ ties-begin b n c u e units = record {
 
 -- whatever is sought, by the bound that the search has from its beginning
 pub sought-begins : (b : Board) (n : ℕ) (mode : Mode) (c : Option (List ℤ)) (u : Units) → MayBegin mode c b.task.goal → ComesBack b (out_of b.out n) u → IsAtWork b n mode [] c u
-sought-begins b n mode c u (inl may) units = subst (λ (o : Option (List ℤ)). IsAtWork b n mode [] o u) (sym may.1) (work-begins b n mode u may.0 units)
+sought-begins b n mode c u (inl may) units = subst (λ (o : Option (List ℤ)). IsAtWork b n mode [] o u) (sym may.1) (work-begins b n mode may.0.0 u may.0.1 units)
 sought-begins b n mode c u (inr may) units = subst (λ (m : Mode). IsAtWork b n m [] c u) (sym may.0) (ties-begin b n c u may.1 units)
 
 -- ---- a unit is burnt
@@ -137,8 +137,8 @@ counted-by (Consequences r) p known A h apart = h.1
 pub work-counted : (b : Board) (n : ℕ) (mode : Mode) (known : List Atoms) (bound : Option (List ℤ)) (u : Units) → IsAtWork b n mode known bound u → length known ≤ known_count b
 work-counted b n mode known bound u w =
     let is : sought b.task.goal ≡ reasoning_of mode = sought-is mode bound b.task.goal w.goal in
-    subst (λ (k : Option Reasoning). length known ≤ count_by k b.task.program b.answers) (sym is)
-    (counted-by mode b.task.program known b.answers (subst (λ (k : Option Reasoning). AreRecorded k b.task.program known b.answers) is w.agrees.recorded) w.apart)
+    subst (λ (k : Option Reasoning). length known ≤ count_by k b.task.program (showing_of b)) (sym is)
+    (counted-by mode b.task.program known (showing_of b) (subst (λ (k : Option Reasoning). AreRecorded k b.task.program known (showing_of b)) is w.agrees.recorded) w.apart)
 
 least-fits : (b : Board) (l c : Option (List ℤ)) → IfSome l (IsBoundOf b) → IfSome c (IsBoundOf b) → IfSome (least_of l c) (IsBoundOf b)
 least-fits b None c h k = k
@@ -210,7 +210,7 @@ work-told b n S r known bound u w guard = record {
   units = (Fits-grows b (happens b (event.Deliver n S)) u (Grows-happens b (event.Deliver n S) guard) w.units.0, w.units.1);
 }
 
-pub work-adopted : (b : Board) (n : ℕ) (r : Reasoning) (known : List Atoms) (bound : Option (List ℤ)) (u : Units) → IsAtWork b n (Consequences r) known bound u → IsAtWork b n (Consequences r) (common_sets r b.task.program b.answers) bound u
+pub work-adopted : (b : Board) (n : ℕ) (r : Reasoning) (known : List Atoms) (bound : Option (List ℤ)) (u : Units) → IsAtWork b n (Consequences r) known bound u → IsAtWork b n (Consequences r) (common_sets r b.task.program (showing_of b)) bound u
 work-adopted b n r known bound u w = record {
   goal = w.goal;
   agrees = agrees-adopted b r known bound (sought-is (Consequences r) bound b.task.goal w.goal) w.agrees;
@@ -270,9 +270,18 @@ may-list t bound S (inl e) less = ap (λ (g : Goal). lists_by g t.program S) e
 may-list t bound S (inr e) less = ap (λ (g : Goal). lists_by g t.program S) e ∙ ap not less
 
 pub may-tell : (t : Task) (r : Reasoning) (bound : Option (List ℤ)) (S : Atoms) → IsSought (Consequences r) bound t.goal → IsTrue (lists t S)
-may-tell t r bound S e = ap (λ (g : Goal). lists_by g t.program S) e
+may-tell t r bound S e = tells t.goal e
+  where
+    none-some : None ≡ Some r → ⊥
+    none-some e = cc
 
-pub may-optimise : (t : Task) → t.goal ≡ goal_of Opt → IsTrue (optimises t.goal)
+    tells : (g : Goal) → sought g ≡ Some r → lists_by g t.program S ≡ true
+    tells goal.Enum e = refl
+    tells goal.Opt e = absurd (none-some e)
+    tells (goal.Ties c) e = absurd (none-some e)
+    tells (goal.Consequences w n) e = refl
+
+pub may-optimise : (t : Task) → t.goal ≡ goal.Opt → IsTrue (optimises t.goal)
 may-optimise t e = ap optimises e
 
 -- ---- a conflict that is met

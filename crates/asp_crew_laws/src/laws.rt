@@ -24,7 +24,7 @@ ghost use Rattle.asp_core.specs.declared.event.Event.TheVariants as event;
 ghost use Rattle.asp_core.specs.declared.goal.Goal.TheVariants as goal;
 ghost use Rattle.asp_core.specs.declared.task.Task.{Task};
 ghost use Rattle.asp_core.specs.Units.{out_of};
-ghost use Rattle.asp_core.specs.Boards.{Board, common_by, listed_by, sought, start, is_excused, IsBoundOf};
+ghost use Rattle.asp_core.specs.Boards.{Board, common_by, goal_of, listed_by, showing, showing_of, sought, start, is_excused, IsBoundOf};
 ghost use Rattle.asp_core.specs.Events.{Guard, happens, maker, IsLawful, replay};
 ghost use Rattle.asp_core.specs.Growth.{Grows, Spares};
 ghost use Rattle.asp_book.specs.Books.{IsJournalOf};
@@ -40,7 +40,7 @@ ghost use Rattle.asp_crew_laws.specs.Runs.{asks, task_of, ties_of, IsFound, with
 pub fn a_closed_board_is_found()
     ensures { (p : Program) (ask : Ask) (budget : ℕ) (journal : List Event) (sorted once : List Atoms) → IsLawful (start (task_of p ask budget)) journal → all_closed (replay (task_of p ask budget) journal).nodes ≡ true
         → IsPermutation (listed_by (reasoning_of ask.mode) (replay (task_of p ask budget) journal).answers) sorted → IsSorted set_cmp sorted → IsFiltered (DiffersFromLast same_set) [] sorted once
-        → IsFound p ask.mode once (option_map (with_cost p) (replay (task_of p ask budget) journal).best) (common_by (reasoning_of ask.mode) p (replay (task_of p ask budget) journal).answers) }
+        → IsFound ask.by_name p ask.mode once (option_map (with_cost p) (replay (task_of p ask budget) journal).best) (common_by (reasoning_of ask.mode) p (showing (goal_of ask.mode ask.by_name) p (replay (task_of p ask budget) journal).answers)) }
 {}
 
 /// Where each number found no leaf open at its end, all of them found none at one moment; and where no leaf is held, every leaf is closed.
@@ -52,8 +52,8 @@ pub fn quiet_numbers_leave_nothing()
 /// A first search whose journal leads to what its report says: a finished one has found what was asked, and another a part of
 /// it; no conflict that was paid for knew more answers than are reported.
 pub fn a_journal_explains_its_report()
-    ensures found { (p : Program) (ask : Ask) (units : ℕ) (r : Report) → IsPlayed (task_of p ask units) r → r.results.end ≡ Finished → IsFound p ask.mode r.results.answers r.results.best r.results.known }
-    ensures part { (p : Program) (ask : Ask) (units : ℕ) (r : Report) → IsPlayed (task_of p ask units) r → IsPart p ask.mode r.results }
+    ensures found { (p : Program) (ask : Ask) (units : ℕ) (r : Report) → IsPlayed (task_of p ask units) r → r.results.end ≡ Finished → IsFound ask.by_name p ask.mode r.results.answers r.results.best r.results.known }
+    ensures part { (p : Program) (ask : Ask) (units : ℕ) (r : Report) → IsPlayed (task_of p ask units) r → IsPart ask.by_name p ask.mode r.results }
     ensures known { (t : Task) (r : Report) → IsPlayed t r → r.paid.known ≤ length (known_in (sought t.goal) r.results) }
 {}
 
@@ -69,9 +69,9 @@ pub fn a_limit_is_kept()
 /// A report of a finished first search, and one of a search for all answers that cost no more than its best, are together a
 /// report of a run for all optima. A first search alone is such a run where nothing is left to a second one.
 pub fn two_searches_find_all_optima()
-    ensures joined { (p : Program) (models units : ℕ) (first ties : Report) (S : Atoms) (c : List ℤ) → IsReport p (asks Opt models) units first → first.second ≡ None → first.results.end ≡ Finished → first.results.best ≡ Some (S, c)
-        → IsJournalOf (ties_of p (asks Opt models) c first.paid.left) ties.journal → IsToldBy (board_by (ties_of p (asks Opt models) c first.paid.left) ties) ties
-        → IsReport p (record { mode = Opt; models = models; all_optima = true }) units (joined first ties) }
+    ensures joined { (p : Program) (models units : ℕ) (n : Bool) (first ties : Report) (S : Atoms) (c : List ℤ) → IsReport p (asks Opt models n) units first → first.second ≡ None → first.results.end ≡ Finished → first.results.best ≡ Some (S, c)
+        → IsJournalOf (ties_of p (asks Opt models n) c first.paid.left) ties.journal → IsToldBy (board_by (ties_of p (asks Opt models n) c first.paid.left) ties) ties
+        → IsReport p (record { mode = Opt; models = models; all_optima = true; by_name = n }) units (joined first ties) }
     ensures alone { (p : Program) (ask : Ask) (units : ℕ) (r : Report) → IsReport p (asks ask.mode ask.models ask.by_name) units r → r.second ≡ None → IsWhole ask.all_optima r.results.end r.results.best → IsReport p ask units r }
 {}
 
@@ -92,7 +92,7 @@ pub fn a_search_at_work_records()
     ensures told { (b : Board) (n : ℕ) (S : Atoms) (r : Reasoning) (known : List Atoms) (bound : Option (List ℤ)) (u : Units) → IsAtWork b n (Consequences r) known bound u → Guard b (event.Deliver n S)
         → IsAtWork (happens b (event.Deliver n S)) n (Consequences r) (common_sets r b.task.program (known ++ S ∷ [])) bound u }
     ensures adopted { (b : Board) (n : ℕ) (r : Reasoning) (known : List Atoms) (bound : Option (List ℤ)) (u : Units) → IsAtWork b n (Consequences r) known bound u
-        → IsAtWork b n (Consequences r) (common_sets r b.task.program b.answers) bound u }
+        → IsAtWork b n (Consequences r) (common_sets r b.task.program (showing_of b)) bound u }
     ensures improved { (b : Board) (n : ℕ) (S : Atoms) (known : List Atoms) (bound : Option (List ℤ)) (u : Units) → IsAtWork b n Opt known bound u → Guard b (event.Improve n S)
         → IsAtWork (happens b (event.Improve n S)) n Opt known (Some (cost b.task.program S)) u }
     ensures unimproved { (b : Board) (n : ℕ) (S B : Atoms) (known : List Atoms) (bound : Option (List ℤ)) (u : Units) → IsAtWork b n Opt known bound u → b.best ≡ Some B → betters (cost b.task.program S) (cost b.task.program B) ≡ false
@@ -120,7 +120,7 @@ pub fn a_listing_search_agrees()
     ensures others { (b c : Board) (known : List Atoms) (bound : Option (List ℤ)) → Grows b c → Agrees b known bound → Agrees c known bound }
     ensures delivered { (b : Board) (s : ℕ) (S : Atoms) (known : List Atoms) (bound : Option (List ℤ)) → sought b.task.goal ≡ None → Agrees b known bound → Agrees (happens b (event.Deliver s S)) (known ++ S ∷ []) bound }
     ensures told { (b : Board) (s : ℕ) (S : Atoms) (r : Reasoning) (known : List Atoms) (bound : Option (List ℤ)) → sought b.task.goal ≡ Some r → Agrees b known bound → Agrees (happens b (event.Deliver s S)) (common_sets r b.task.program (known ++ S ∷ [])) bound }
-    ensures adopted { (b : Board) (r : Reasoning) (known : List Atoms) (bound : Option (List ℤ)) → sought b.task.goal ≡ Some r → Agrees b known bound → Agrees b (common_sets r b.task.program b.answers) bound }
+    ensures adopted { (b : Board) (r : Reasoning) (known : List Atoms) (bound : Option (List ℤ)) → sought b.task.goal ≡ Some r → Agrees b known bound → Agrees b (common_sets r b.task.program (showing_of b)) bound }
 {}
 
 /// In an optimisation a search agrees with the board by the cost of an answer that is the best, or that a best stands no dearer

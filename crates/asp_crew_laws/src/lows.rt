@@ -1,5 +1,5 @@
 //! Laws of what a search tells of its leaf while it goes on. Each function's contract is a law, and its body is empty.
-ghost use Rattle.std.specs.Prelude.{◌≡◌, ℕ, ℤ, List, Option, true, false, slice_index_or, IsTrue};
+ghost use Rattle.std.specs.Prelude.{◌≡◌, Bool, ℕ, ℤ, List, Option, true, false, slice_index_or, IsTrue};
 ghost use Rattle.asp_model.specs.declared.program.Program.{Program};
 ghost use Rattle.asp_model.specs.declared.results.Mode.TheVariants.{Enum};
 ghost use Rattle.asp_model.specs.Consequences.{used_up};
@@ -24,5 +24,5 @@ pub fn what_is_fixed_is_in_a_low()
 
 /// What an enumeration lists are the program's answers.
 pub fn an_enumeration_lists_the_answers()
-    ensures { (p : Program) (models units : ℕ) → listed (task_of p (asks Enum models) units) ≡ answers p }
+    ensures { (p : Program) (models units : ℕ) (n : Bool) → listed (task_of p (asks Enum models n) units) ≡ answers p }
 {}

@@ -1,3 +1,4 @@
+pub mod PlainLaws
 pub mod ToldLaws
 pub mod RunLaws
 pub mod WholeLaws

@@ -10,7 +10,9 @@ use Rattle.asp_model.specs.declared.results.Ask.{Ask}
 use Rattle.asp_model.specs.declared.results.End.{End}
 use Rattle.asp_model.specs.declared.results.End.TheVariants.{Finished, Limited, Unfinished}
 use Rattle.asp_model.specs.Found.{Found}
+use Rattle.asp_model.specs.Sets.{Atoms}
 use Rattle.asp_model.specs.Sound.{IsSound}
+use Rattle.asp_model.specs.Texts.{shown}
 use Rattle.asp_equal.specs.declared.reduce.Aside.{Aside}
 use Rattle.asp_equal.specs.Reduced.{restored}
 use Rattle.asp_named.specs.Named.{has_numbers}
@@ -126,13 +128,32 @@ report_with A r = record r { results = found_with A r.results }
 abbrev pub told_with : Aside → Report → Report
 told_with A r = record r { results = record r.results { known = option_map (restored A) r.results.known } }
 
+-- what is asked by name without the names: what holds in some answer, or in each, of all atoms
+abbrev pub without_names : Ask → Ask
+without_names ask = record ask { by_name = false }
+
+-- the report with this set of consequences
+abbrev pub with_known : Option Atoms → Report → Report
+with_known known r = record r { results = record r.results { known = known } }
+
+-- The set told shows the same texts as this one where consequences are told by name, and else it is this one.
+abbrev pub ShowsAs : Bool → Program → Option Atoms → Option Atoms → Type 0
+ShowsAs false p known told = told ≡ known
+ShowsAs true p known told = option_map (shown p) told ≡ option_map (shown p) known
+
+-- The report says of the program what was asked. By name its set of consequences isn't the program's, but shows the same texts.
+pub record SaysOf (p : Program) (ask : Ask) (r : Report) (end : End) : Type 0 where
+  pub known : Option Atoms
+  pub says : SaysReport p (without_names ask) (with_known known r) end
+  pub same : ShowsAs ask.by_name p known r.results.known
+
 -- There are numbers where outputs need atoms.
 abbrev pub HasNumbers : Options → Program → Type 0
 HasNumbers given p = is_named given ≡ true → has_numbers p ≡ true
 
 -- No parts are asked for. The report is that of a run on what is left of the program, with what is asked and the units that were given;
 -- with what was set aside it says of the program what was asked, and has a proof if that was asked for. Where consequences are told by name all
--- this is about the program with atoms for its outputs.
+-- this is about the program with atoms for its outputs, and the texts of those are what is said.
 pub record IsSolved (given : Options) (a : Around) (report : Option Report) : Type 0 where
   pub program : Program
   pub source : IsGiven given.format given.make a program
@@ -142,7 +163,7 @@ pub record IsSolved (given : Options) (a : Around) (report : Option Report) : Ty
   pub done : Report
   pub reports : report ≡ Some (told_with (set_aside given program) done)
   pub is : IsReport (searched given program) (ask_of given program) given.budget done
-  pub says : SaysReport (asked given program) (ask_of given program) (report_with (set_aside given program) done) done.results.end
+  pub says : SaysOf (asked given program) (ask_of given program) (report_with (set_aside given program) done) done.results.end
   pub proof : HasProof given.proof done
 
 -- the closing lines alone are written of a ring, and where they were asked for

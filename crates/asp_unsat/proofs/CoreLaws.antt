@@ -24,7 +24,7 @@ use Rattle.asp_core.specs.declared.goal.Goal.{Goal}
 use Rattle.asp_core.specs.declared.goal.Goal.TheVariants as goal
 use Rattle.asp_core.specs.declared.reason.Reason.{Reason}
 use Rattle.asp_core.specs.declared.task.Task.{Task}
-use Rattle.asp_core.specs.Boards.{Board, IsQuery, bound_by, is_excused, sought, start, wanted}
+use Rattle.asp_core.specs.Boards.{Board, IsQuery, bound_by, is_excused, showing, sought, start, wanted}
 use Rattle.asp_core.specs.Events.{IsLawful, replay}
 use Rattle.asp_core.specs.Invariant.{IsBoard, IsReason}
 use Rattle.asp_core.proofs.BoardLaws.{IsBoard-start, wanted-stand}
@@ -121,13 +121,13 @@ from_reason b P leaf (r ∷ part) each any sub go =
 
 -- ---- nothing excuses a set
 abbrev excused_of : Program → Goal → List Atoms → Option Atoms → Atoms → Bool
-excused_of p g A best S = is_done p (used_up (sought g) p A) (bound_by g p best) S
+excused_of p g A best S = is_done p (used_up (sought g) p (showing g p A)) (bound_by g p best) S
 
 nothing-done : (p : Program) (g : Goal) (S : Atoms) → IsPlain g → excused_of p g [] None S ≡ false
 nothing-done p goal.Enum S plain = refl
 nothing-done p goal.Opt S plain = refl
 nothing-done p (goal.Ties c) S plain = absurd plain
-nothing-done p (goal.Consequences r) S plain = absurd plain
+nothing-done p (goal.Consequences r n) S plain = absurd plain
 
 nothing-excused : (b : Board) (S : Atoms) → HasNothing b → is_excused b S ≡ false
 nothing-excused b S h =

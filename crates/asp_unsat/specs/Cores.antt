@@ -39,7 +39,7 @@ abbrev pub IsPlain : Goal → Type 0
 IsPlain goal.Enum = Unit {0}
 IsPlain goal.Opt = Unit {0}
 IsPlain (goal.Ties c) = ⊥
-IsPlain (goal.Consequences r) = ⊥
+IsPlain (goal.Consequences r n) = ⊥
 
 -- Nothing was recorded by which a leaf could be closed.
 pub record HasNothing (b : Board) : Type 0 where

@@ -23,7 +23,7 @@ use Rattle.asp_core.specs.declared.event.Event.TheVariants as event
 use Rattle.asp_core.specs.declared.goal.Goal.{Goal}
 use Rattle.asp_core.specs.declared.goal.Goal.TheVariants as goal
 use Rattle.asp_core.specs.declared.task.Task.{Task}
-use Rattle.asp_core.specs.Boards.{Board, bound_by, is_answer, is_excused, lists, lists_by, sought, wanted}
+use Rattle.asp_core.specs.Boards.{Board, bound_by, is_answer, is_excused, lists, lists_by, showing, sought, wanted}
 use Rattle.asp_core.specs.Events.{Guard, happens, run, IsLawful}
 use Rattle.asp_core.specs.Invariant.{IsBoard, IsSettled}
 use Rattle.asp_core.specs.Sorting.{answers_of, sorted_once}
@@ -56,7 +56,7 @@ below-excused b (Some x) S is low answer below =
     here at stable (inl closed) = (at_each (IsSettled b) b.nodes at.leaf nowhere is.settled at.within closed).excused S stable at.hit
     here at stable (inr open_leaf) = low-excused b x S at.leaf low.0 (low.1 at.leaf open_leaf) answer at.hit below
 
-excused-delivered : (m : Goal) (p : Program) (A : List Atoms) (best : Option Atoms) (S : Atoms) → sought m ≡ None → lists_by m p S ≡ true → is_done p (used_up (sought m) p A) (bound_by m p best) S ≡ true → list_any (same_set S) A ≡ true
+excused-delivered : (m : Goal) (p : Program) (A : List Atoms) (best : Option Atoms) (S : Atoms) → sought m ≡ None → lists_by m p S ≡ true → is_done p (used_up (sought m) p (showing m p A)) (bound_by m p best) S ≡ true → list_any (same_set S) A ≡ true
 excused-delivered goal.Enum p A best S none lists done = here (or_cases (list_any (same_set S) A) false done)
   where
     here : ((list_any (same_set S) A ≡ true) ⊎ (false ≡ true)) → list_any (same_set S) A ≡ true
@@ -68,7 +68,7 @@ excused-delivered (goal.Ties c) p A best S none lists done = here (or_cases (lis
     here : ((list_any (same_set S) A ≡ true) ⊎ (costs_bound p c S ≡ true)) → list_any (same_set S) A ≡ true
     here (inl h) = h
     here (inr h) = absurd (false≢true (sym (not_true (costs_bound p c S) lists) ∙ h))
-excused-delivered (goal.Consequences r) p A best S none lists done = absurd (let f : ⊥ = cc in f)
+excused-delivered (goal.Consequences r n) p A best S none lists done = absurd (let f : ⊥ = cc in f)
 
 pub below-delivered : (b : Board) (floor : Option Atoms) (S : Atoms) → IsBoard b → sought b.task.goal ≡ None → IsFloor b floor → is_answer b.task S ≡ true → lists b.task S ≡ true → is_below floor S ≡ true → list_any (same_set S) b.answers ≡ true
 below-delivered b floor S is none low answer lists below = excused-delivered b.task.goal b.task.program b.answers b.best S none lists (below-excused b floor S is low answer below)

@@ -7,4 +7,4 @@ use Rattle.asp_crew_laws.proofs.FoundLaws.{answers-same}
 use Rattle.asp_crew_laws.proofs.lows.an_enumeration_lists_the_answers.Goals as goal
 
 pub returns : goal.returns
-returns c = λ p models units. all-below (answers_of (task_of p (asks Enum models) units)) ∙ answers-same p (asks Enum models) units
+returns c = λ p models units n. all-below (answers_of (task_of p (asks Enum models n) units)) ∙ answers-same p (asks Enum models n) units

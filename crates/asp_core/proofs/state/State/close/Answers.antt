@@ -31,4 +31,4 @@ invariant_of-self c =
     omega (arith, I.room, c.push_reserved.ensures.capacity, ap length c.push_reserved.ensures.items, length-append i.reasons.items (record { leaf = c.args.leaf; nogood = c.args.nogood } ∷ []), ap held_count c.mark.ensures, held_count-changed i.tree c.args.leaf (status.Held c.args.by) status.Closed guard.0 refl) in
     IsState-happens i (record i { tree = c.mark.new.self; reasons = c.push_reserved.new.self }) c.args.self.now e I c.self.view_is c.requires
     (ap (λ (x : List Node). record (board_of i) { nodes = x; reasons = c.push_reserved.new.self.items }) c.mark.ensures ∙ ap (λ (x : List Reason). record (board_of i) { nodes = with_status i.tree c.args.leaf status.Closed; reasons = x }) c.push_reserved.ensures.items)
-    refl refl refl (I.costed) (I.sorted) I.seen room
+    refl refl refl (I.costed) (I.sorted) I.seen I.seeded room

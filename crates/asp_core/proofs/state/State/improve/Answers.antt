@@ -11,4 +11,4 @@ invariant_of-self c =
     let I = c.self.invariant in
     IsState-happens i (record i { best = Some (c.args.set, c.in_ok-cost.cost) }) c.args.self.now (event.Improve c.args.by c.args.set) I c.self.view_is c.requires
     (refl)
-    refl refl refl (c.in_ok-cost.ensures ∙ cost-priced i.prices i.program.value c.args.set I.priced) (I.sorted) I.seen I.room
+    refl refl refl (c.in_ok-cost.ensures ∙ cost-priced i.prices i.program.value c.args.set I.priced) (I.sorted) I.seen I.seeded I.room

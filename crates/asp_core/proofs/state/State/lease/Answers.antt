@@ -13,7 +13,7 @@ invariant_of-self-2 c =
     let I = c.self.invariant in
     IsState-happens i (record i { pool = i.pool - c.args.n; out = c.lease_out.new.out }) c.args.self.now (event.Lease c.args.by c.args.n) I c.self.view_is c.requires
     (ap (λ (x : List (ℕ × ℕ)). record (board_of i) { pool = i.pool - c.args.n; out = x }) c.in_ok-lease_out.ensures.ok)
-    refl refl refl (I.costed) (I.sorted) I.seen I.room
+    refl refl refl (I.costed) (I.sorted) I.seen I.seeded I.room
 
 pub lease_out-requires : goal.lease_out-requires
 lease_out-requires c =

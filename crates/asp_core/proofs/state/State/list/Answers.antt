@@ -39,7 +39,7 @@ IsState-listed i seen by S A D I view guard listed pushed counts =
     refl refl (ap (λ (l : Listed). l.atoms) pushed) (I.costed)
     (different-delivered i.limit (atoms_of i.program.value) i.different.keys D.keys (answers_in (sought i.goal) i.answers.sets i.told.items) (answers_in (sought i.goal) A.sets i.told.items) S I.sorted
     (λ some. subst (λ (L : Atoms). Counts L i.different.keys D.keys S) I.among (counts some)) more)
-    (seen-list (sought i.goal) i.program.value i.known i.answers.sets A.sets i.told.items i.atoms.items none I.seen) I.room
+    (seen-list i.goal (sought i.goal) i.program.value i.known i.answers.sets A.sets i.told.items i.atoms.items none I.seen) I.seeded I.room
 
 pub push_row-requires : goal.push_row-requires
 push_row-requires c = row-among c.self.inside c.args.self.now c.args.by c.args.set c.args.row c.self.invariant c.self.view_is c.requires.guard c.requires.row.words c.requires.row.set

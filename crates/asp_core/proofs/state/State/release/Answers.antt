@@ -22,4 +22,4 @@ invariant_of-self c =
     omega (arith, I.room, ap held_count c.release.ensures, held_count-changed i.tree c.args.leaf (status.Held c.args.by) status.Open guard refl) in
     IsState-happens i (record i { tree = c.release.new.self }) c.args.self.now e I c.self.view_is c.requires
     (ap (λ (x : List Node). board_of (record i { tree = x })) c.release.ensures)
-    refl refl refl (I.costed) (I.sorted) I.seen room
+    refl refl refl (I.costed) (I.sorted) I.seen I.seeded room

@@ -21,4 +21,4 @@ invariant_of-self-2 c =
     omega (arith, I.room, ap held_count c.in_ok-_leaves.ensures.ok, held_count-split i.tree c.args.leaf c.args.by c.args.lit guard.0) in
     IsState-happens i (record i { tree = c.split.new.self }) c.args.self.now e I c.self.view_is c.requires
     (ap (λ (x : List Node). board_of (record i { tree = x })) c.in_ok-_leaves.ensures.ok)
-    refl refl refl (I.costed) (I.sorted) I.seen room
+    refl refl refl (I.costed) (I.sorted) I.seen I.seeded room

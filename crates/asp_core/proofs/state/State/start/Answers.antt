@@ -12,7 +12,7 @@ use Rattle.asp_core.specs.declared.task.Task.{Task}
 use Rattle.asp_core.specs.Boards.{sought}
 use Rattle.asp_core.specs.Invariant.{IsBoard}
 use Rattle.asp_core.specs.Sorting.{sorted_once}
-use Rattle.asp_core.specs.Stored.{answers_in, IsSeen}
+use Rattle.asp_core.specs.Stored.{answers_in, IsSeen, seed_of}
 use Rattle.asp_core.proofs.BoardLaws.{IsBoard-start}
 use Rattle.asp_core.proofs.SeenLaws.{in-none, seen-start}
 use Rattle.asp_core.proofs.state.State.start.Goals as goal
@@ -43,10 +43,11 @@ invariant_of-result c =
         rows = subst (AreRows (atoms_of c.of.result.value)) (sym c.new-3.ensures.empty) tt;
         sorted = ap (map (λ (x : Row). x.set)) c.new-3.ensures.empty ∙ sym (ap sorted_once told);
       };
-      seen = subst (λ (x : Program). IsSeen r x c.in_ok-known.known c.new.result.sets c.new-2.result.items c.in_ok-atoms.atoms.items) (sym same)
-          (subst (λ (x : List Atoms). IsSeen r p c.in_ok-known.known x c.new-2.result.items c.in_ok-atoms.atoms.items) (sym listed)
-          (subst (λ (x : List Atoms). IsSeen r p c.in_ok-known.known [] x c.in_ok-atoms.atoms.items) (sym c.new-2.ensures.items)
-          (seen-start r p c.in_ok-known.known c.in_ok-atoms.atoms.items c.in_ok-known.ensures c.in_ok-atoms.ensures)));
+      seen = subst (λ (x : Program). IsSeen c.args.goal r x c.in_ok-known.known c.new.result.sets c.new-2.result.items c.in_ok-atoms.atoms.items) (sym same)
+          (subst (λ (x : List Atoms). IsSeen c.args.goal r p c.in_ok-known.known x c.new-2.result.items c.in_ok-atoms.atoms.items) (sym listed)
+          (subst (λ (x : List Atoms). IsSeen c.args.goal r p c.in_ok-known.known [] x c.in_ok-atoms.atoms.items) (sym c.new-2.ensures.items)
+          (seen-start c.args.goal r p c.in_ok-known.known c.in_ok-atoms.atoms.items c.in_ok-known.ensures c.in_ok-atoms.ensures)));
+      seeded = c.in_ok-seed.ensures ∙ ap (seed_of c.args.goal) (sym same);
       among = ap (λ (l : Listed). l.atoms) c.new.ensures ∙ c.in_ok-listed.ensures ∙ c.atoms.ensures ∙ ap atoms_of (sym same);
       room = omega (arith, ap length c.new-5.ensures.items, ap held_count nodes, none);
     }
