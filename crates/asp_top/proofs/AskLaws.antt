@@ -30,10 +30,10 @@ use Rattle.asp_top.specs.declared.cores.Verdict.{Verdict}
 use Rattle.asp_top.specs.Asking.{IsSought, Judges, Meets, Refutes, Tries, one_model, verdict_by}
 use Rattle.asp_top.specs.Meaning.{has_model, has_model_in, is_some_of, mode_by, mode_of}
 use Rattle.asp_top.specs.Naming.{asked, is_json, is_named, is_settled}
-use Rattle.asp_top.specs.Runs.{found_with, report_with, searched, set_aside}
+use Rattle.asp_top.specs.Runs.{found_with, report_with, searched, set_aside, without_names}
 use Rattle.asp_top.specs.Series.{about, is_done, is_refuted}
 use Rattle.asp_top.proofs.CoreLaws.{assuming, bare-with, met, refuted}
-use Rattle.asp_top.proofs.ToldLaws.{listed-text, told-says}
+use Rattle.asp_top.proofs.ToldLaws.{told-plain}
 
 -- ---- where no consequences are sought
 not-last : (a b c : Bool) → b ≡ false → (a && b && c) ≡ false
@@ -46,12 +46,12 @@ pub plain : (given : Options) (p : Program) → seeks_consequences (Some given.m
 plain given p e = ap (λ (b : Bool). cond b (named p) p) (not-last (is_settled given) (seeks_consequences (Some given.mode)) (given.names || is_json given.form) e)
 
 -- what a search says of the program
-pub says-of : (given : Options) (p : Program) (ask : Ask) (r : Report) → seeks_consequences (Some given.mode) ≡ false → IsSound p → SaysReport (searched given p) ask r r.results.end
-    → SaysReport p ask (report_with (set_aside given p) r) r.results.end
+pub says-of : (given : Options) (p : Program) (ask : Ask) (r : Report) → seeks_consequences (Some given.mode) ≡ false → IsSound p → SaysReport (searched given p) (without_names ask) r r.results.end
+    → SaysReport p (without_names ask) (report_with (set_aside given p) r) r.results.end
 says-of given p ask r e sound says =
     let is = plain given p e in
-    subst (λ (q : Program). SaysReport q ask (report_with (set_aside given p) r) r.results.end) is
-    (told-says given p ask r r.results.end (subst IsSound (sym is) sound) says)
+    subst (λ (q : Program). SaysReport q (without_names ask) (report_with (set_aside given p) r) r.results.end) is
+    (told-plain given p ask r r.results.end (subst IsSound (sym is) sound) says)
 
 own-mode : (p : Program) (o : Option Mode) → seeks_consequences (Some o) ≡ false → reasoning_of (mode_of o p) ≡ None
 own-mode p None e = by p.minimize
