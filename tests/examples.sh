@@ -210,7 +210,7 @@ python3 tests/compare.py "$program" 400 --no-clasp || failed=$((failed + 1))
 python3 tests/compare.py "$program --workers 4" 100 --no-clasp || failed=$((failed + 1))
 python3 tests/compare.py "$program" 100 --no-clasp --smodels || failed=$((failed + 1))
 python3 tests/queries.py "$program" 40 || failed=$((failed + 1))
-python3 tests/queries.py "$program --core-min" 20 || failed=$((failed + 1))
+python3 tests/queries.py "$program --core-min --workers 4" 20 || failed=$((failed + 1))
 
 echo "examples: $passed passed, $failed failed"
 [ "$failed" -eq 0 ]

@@ -1,6 +1,6 @@
 -- What a search says of a program with a query's literals assumed.
-use Rattle.std.proofs.Common.{◌≡◌, ◌∙◌, ℕ, ◌<◌, ◌≤◌, ◌+◌, Bool, true, false, not, ◌&&◌, ◌||◌, cond, List, [], ◌∷◌, ◌++◌, length, map, refl, sym, ap, subst, arith}
-use Rattle.std.specs.Prelude.{ℤ, Contains, Option, None, Some, filter, is_some, option_map}
+use Rattle.std.proofs.Common.{◌≡◌, ◌∙◌, ℕ, ◌+◌, Bool, true, false, not, ◌&&◌, ◌||◌, cond, List, [], ◌∷◌, ◌++◌, length, map, refl, sym, ap, subst, arith}
+use Rattle.std.specs.Prelude.{ℤ, Contains, Option, None, Some, filter, option_map}
 use Rattle.std.proofs.lemmas.Bool.{false≢true}
 use Rattle.asp_model.specs.declared.program.Minimize.{Minimize}
 use Rattle.asp_model.specs.declared.program.Program.{Program}
@@ -22,14 +22,14 @@ use Rattle.asp_named.specs.Named.{named}
 use Rattle.asp_cli.specs.declared.Options.{Options}
 use Rattle.asp_cli.specs.Found.{seeks_consequences}
 use Rattle.asp_crew_laws.specs.declared.report.Report.{Report}
-use Rattle.asp_crew_laws.specs.Reports.{IsReport, Says as SaysReport}
+use Rattle.asp_crew_laws.specs.Reports.{Says as SaysReport}
 use Rattle.asp_crew_laws.specs.Runs.{IsBest, IsFound}
 use Rattle.asp_read.specs.Queries.{with_query}
 use Rattle.asp_top.specs.declared.ask.Sought.{Sought}
 use Rattle.asp_top.specs.declared.cores.Verdict.{Verdict}
-use Rattle.asp_top.specs.Asking.{IsSought, Judges, Meets, Refutes, Tries, one_model, verdict_by}
+use Rattle.asp_top.specs.Asking.{IsSought, Judges, Refutes, Tries, one_model, verdict_by}
 use Rattle.asp_top.specs.Meaning.{has_model, has_model_in, is_some_of, mode_by, mode_of}
-use Rattle.asp_top.specs.Naming.{asked, is_json, is_named, is_settled}
+use Rattle.asp_top.specs.Naming.{asked, is_json, is_settled}
 use Rattle.asp_top.specs.Runs.{found_with, report_with, searched, set_aside, without_names}
 use Rattle.asp_top.specs.Series.{about, is_done, is_refuted}
 use Rattle.asp_top.proofs.CoreLaws.{assuming, bare-with, met, refuted}
@@ -120,10 +120,6 @@ one-found p A r Finished some says = a-first r.results.answers (restored A) (ans
 one-found p A r Limited some says = a-first r.results.answers (restored A) (answers p) says.part.0.0 some says.part.0.1
 one-found p A r Unfinished some says = a-first r.results.answers (restored A) (answers p) says.0.0.0 some says.0.0.1
 
-empty-length : {A : Type 0} (xs : List A) → is_some_of xs ≡ false → length xs ≡ 0
-empty-length [] e = refl
-empty-length (x ∷ xs) e = absurd (false≢true (sym e))
-
 -- ---- a verdict on the results
 judges : (p : Program) (others : List ℤ) (A : Aside) (r : Report) (units : ℕ) → IsSound p → IsSound (assuming p others) → r.paid.left + r.spent ≡ units
     → (b : Bool) (end : End) → is_some_of r.results.answers ≡ b → SaysReport (assuming p others) one_model (report_with A r) end → Judges p others units r.spent (verdict_by b end)
@@ -148,3 +144,14 @@ tries-by given p others units s v e itself none sound sought is =
           (judges p others (set_aside given q) r units itself (subst IsSound same sound) sought.report.budget (is_some_of r.results.answers) r.results.end refl says);
       paid = let b = sought.report.budget in omega (arith, b);
     }
+
+-- a query asks what the program asks
+same-mode : (o : Option Mode) (p : Program) (query : List ℤ) → mode_of o p ≡ mode_of o (with_query p query)
+same-mode None p query = refl
+same-mode (Some mode) p query = refl
+
+pub same-about : (given : Options) (p : Program) (query : List ℤ) → about given p ≡ about given (with_query p query)
+same-about given p query = ap (λ (mode : Mode). record { mode = mode; models = 0; all_optima = false; by_name = false }) (same-mode given.mode p query)
+
+pub sought-query : (given : Options) (p : Program) (query : List ℤ) (ask : Ask) (units : ℕ) (s : Sought) → ask ≡ about given p → IsSought given (with_query p query) ask units s → IsSought given (with_query p query) (about given (with_query p query)) units s
+sought-query given p query ask units s is sought = subst (λ (x : Ask). IsSought given (with_query p query) x units s) (is ∙ same-about given p query) sought

@@ -1,24 +1,22 @@
 -- Cores: lists of literals, and what holds in a set that has them.
 use Rattle.std.proofs.Common.{◌≡◌, ◌∙◌, ℕ, ◌+◌, ◌≤◌, Bool, true, false, not, ◌||◌, ◌&&◌, cond, List, [], ◌∷◌, ◌++◌, length, take, drop, take-append-drop, refl, sym, ap, subst, arith}
-use Rattle.std.specs.Prelude.{ℤ, Contains, filter, nat_le}
+use Rattle.std.specs.Prelude.{ℤ, Contains, nat_le}
 use Rattle.std.specs.Ordering.{int_eq}
 use Rattle.std.specs.List.{insert, list_all, list_any}
 use Rattle.std.proofs.lemmas.Bool.{and_parts, and_from, false≢true, le-leb, leb-true, or_left, or_right}
-use Rattle.std.proofs.lemmas.List.{append-nil, length-append}
-use Rattle.std.proofs.lemmas.List.Folds.{list_all-append, list_any-append}
+use Rattle.std.proofs.lemmas.List.Folds.{list_any-append}
 use Rattle.asp_model.specs.declared.program.Program.{Program}
 use Rattle.asp_model.specs.Holding.{all_hold, holds}
 use Rattle.asp_model.specs.Models.{answers, is_stable, is_violated, least_model, rules_in_force}
 use Rattle.asp_model.specs.Sets.{Atoms, has, same_set}
 use Rattle.asp_model.specs.Sound.{IsSound, has_room, is_literal}
-use Rattle.asp_model.proofs.MemberLaws.{list_any-filter}
 use Rattle.asp_model.proofs.ModelLaws.{answers-are, least_model-ascends, least_model-closed, least_model-least, same_bools}
 use Rattle.asp_model.proofs.SetLaws.{same_from_has}
 use Rattle.asp_read.specs.Queries.{with_query}
-use Rattle.asp_unsat.specs.Cores.{IsCore, is_listed}
+use Rattle.asp_unsat.specs.Cores.{is_listed}
 use Rattle.asp_vars.proofs.NumberingLaws.{int_eq_itself, int_eq_same}
 use Rattle.asp_top.specs.Asking.{AreAmong, IsSoundWith, Meets, Refutes}
-use Rattle.asp_top.specs.Series.{IsMinimal, without}
+use Rattle.asp_top.specs.Series.{without}
 
 -- ---- literals of lists
 pub either : (P : Type 0) (a b : Bool) → (a || b) ≡ true → (a ≡ true → P) → (b ≡ true → P) → P
@@ -51,12 +49,6 @@ listed-insert xs i y l =
     listed-append (take i xs) (y ∷ drop i xs) l ∙ or_turned (is_listed (take i xs) l) (is_listed (drop i xs) l) (int_eq y l)
     ∙ ap (λ (b : Bool). b || int_eq y l) (sym (listed-append (take i xs) (drop i xs) l) ∙ ap (λ (ls : List ℤ). is_listed ls l) (take-append-drop i xs))
 
--- a literal that is there already
-pub listed-there : (xs : List ℤ) (y : ℤ) → is_listed xs y ≡ true → (l : ℤ) → is_listed xs l ≡ (is_listed xs l || int_eq y l)
-listed-there xs y there l = same_bools (is_listed xs l) (is_listed xs l || int_eq y l)
-    (λ h. or_left (is_listed xs l) (int_eq y l) h)
-    (λ h. either (is_listed xs l ≡ true) (is_listed xs l) (int_eq y l) h (λ one. one) (λ same. subst (λ (k : ℤ). is_listed xs k ≡ true) (int_eq_same y l same) there))
-
 -- one more of the others was put in
 pub listed-more : (old now new xs : List ℤ) (y : ℤ) → ((l : ℤ) → is_listed now l ≡ (is_listed old l || is_listed xs l)) → ((l : ℤ) → is_listed new l ≡ (is_listed now l || int_eq y l)) → (l : ℤ)
     → is_listed new l ≡ (is_listed old l || is_listed (xs ++ y ∷ []) l)
@@ -70,17 +62,7 @@ pub listed-both : (none one two xs ys : List ℤ) → none ≡ [] → ((l : ℤ)
 listed-both none one two xs ys e first second l =
     second l ∙ ap (λ (b : Bool). b || is_listed ys l) (first l ∙ ap (λ (ls : List ℤ). is_listed ls l || is_listed xs l) e) ∙ sym (listed-append xs ys l)
 
-pub listed-none : (xs : List ℤ) (l : ℤ) → is_listed xs l ≡ (is_listed xs l || is_listed [] l)
-listed-none xs l = sym (or_none (is_listed xs l))
-
 -- ---- a literal is left out
-pub without-push : (l k : ℤ) (xs : List ℤ) → without l (xs ++ k ∷ []) ≡ without l xs ++ without l (k ∷ [])
-without-push l k [] = refl
-without-push l k (x ∷ xs) = by (not (int_eq x l)) (without-push l k xs)
-  where
-    by : (b : Bool) → without l (xs ++ k ∷ []) ≡ without l xs ++ without l (k ∷ []) → cond b (x ∷ without l (xs ++ k ∷ [])) (without l (xs ++ k ∷ [])) ≡ cond b (x ∷ without l xs) (without l xs) ++ without l (k ∷ [])
-    by true h = ap (λ (ls : List ℤ). x ∷ ls) h
-    by false h = h
 
 pub length-without : (l : ℤ) (xs : List ℤ) → length (without l xs) ≤ length xs
 length-without l [] = omega arith
@@ -110,18 +92,18 @@ other-listed l k (x ∷ xs) h = other-by l k x xs (int_eq x l) refl (other-liste
 
 listed-by : (l k x : ℤ) (xs : List ℤ) (b : Bool) → int_eq x l ≡ b → int_eq k l ≡ false → is_listed (x ∷ xs) k ≡ true → (is_listed xs k ≡ true → is_listed (without l xs) k ≡ true)
     → is_listed (cond (not b) (x ∷ without l xs) (without l xs)) k ≡ true
-listed-by l k x xs true e no h rest =
+listed-by l k x xs true e not_it h rest =
     either (is_listed (without l xs) k ≡ true) (int_eq x k) (is_listed xs k) h
-    (λ same. absurd (false≢true (sym no ∙ (ap (λ (y : ℤ). int_eq y l) (sym (int_eq_same x k same)) ∙ e))))
+    (λ same. absurd (false≢true (sym not_it ∙ (ap (λ (y : ℤ). int_eq y l) (sym (int_eq_same x k same)) ∙ e))))
     rest
-listed-by l k x xs false e no h rest =
+listed-by l k x xs false e not_it h rest =
     either (is_listed (x ∷ without l xs) k ≡ true) (int_eq x k) (is_listed xs k) h
     (λ same. or_left (int_eq x k) (is_listed (without l xs) k) same)
     (λ later. or_right (int_eq x k) (is_listed (without l xs) k) (rest later))
 
 listed-other : (l k : ℤ) (xs : List ℤ) → is_listed xs k ≡ true → int_eq k l ≡ false → is_listed (without l xs) k ≡ true
-listed-other l k [] h no = absurd (false≢true h)
-listed-other l k (x ∷ xs) h no = listed-by l k x xs (int_eq x l) refl no h (λ later. listed-other l k xs later no)
+listed-other l k [] h not_it = absurd (false≢true h)
+listed-other l k (x ∷ xs) h not_it = listed-by l k x xs (int_eq x l) refl not_it h (λ later. listed-other l k xs later not_it)
 
 pub among-without : (l : ℤ) (xs : List ℤ) → AreAmong (without l xs) xs
 among-without l xs = λ k h. (other-listed l k xs h).0

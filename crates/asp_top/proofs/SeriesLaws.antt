@@ -1,20 +1,18 @@
 -- Queries that are answered one after another.
-use Rattle.std.proofs.Common.{◌≡◌, ◌∙◌, ◌⊎◌, ℕ, ◌+◌, ◌-◌, ◌≤◌, zero, suc, Bool, true, false, not, ◌&&◌, ◌||◌, List, [], ◌∷◌, ◌++◌, length, drop, refl, sym, ap, subst, inl, inr, arith}
+use Rattle.std.proofs.Common.{◌≡◌, ◌∙◌, ◌⊎◌, ℕ, ◌+◌, ◌-◌, ◌<◌, ◌≤◌, zero, suc, Bool, true, false, not, ◌&&◌, ◌||◌, List, [], ◌∷◌, ◌++◌, length, drop, get_or, refl, sym, ap, subst, inl, inr, arith}
 use Rattle.std.specs.Prelude.{ℤ, Option, None, Some, Result, Ok, Err, IfErr, IfSome, IsErrOf, OnOk}
 use Rattle.std.specs.Io.KnownBytes.{Appends, IsAtEnd, Keeps}
-use Rattle.std.proofs.KnownBytes.{Appends-kept, Appends-nil, Appends-trans, Keeps-refl}
+use Rattle.std.proofs.KnownBytes.{Appends-kept, Appends-trans, Keeps-refl}
 use Rattle.std.proofs.lemmas.Bool.{false≢true}
 use Rattle.std.proofs.lemmas.List.{append-nil, append_assoc, length-append}
-use Rattle.asp_io.specs.Causes.{AppendsFront, HasCause, Rose}
-use Rattle.asp_buffer.proofs.OutLaws.{front-after}
+use Rattle.asp_io.specs.Causes.{AppendsFront, Rose}
+use Rattle.asp_buffer.proofs.OutLaws.{drop_turn, front-after}
+use Rattle.std.specs.List.{AllByRecursion}
+use Rattle.asp_vars.proofs.PlaceLaws.{at_each}
 use Rattle.asp_model.specs.declared.program.Program.{Program}
-use Rattle.asp_model.specs.declared.results.Mode.{Mode}
-use Rattle.asp_model.specs.Asked.{reasoning_of}
-use Rattle.asp_model.specs.Found.{Found}
 use Rattle.asp_model.specs.Sound.{IsSound}
 use Rattle.asp_print.specs.Named.{printed_text}
 use Rattle.asp_print.specs.Queries.{core_line, query_line, query_text}
-use Rattle.asp_read.specs.declared.fault.Fault.{Fault}
 use Rattle.asp_read.specs.declared.fault.ReadError.{ReadError}
 use Rattle.asp_read.specs.declared.fault.ReadError.TheVariants as errors
 use Rattle.asp_read.specs.declared.series.Series.{Series}
@@ -30,12 +28,12 @@ use Rattle.asp_top.specs.declared.series.Course.{Course}
 use Rattle.asp_top.specs.declared.series.Reply.{Reply}
 use Rattle.asp_top.specs.declared.status.Outcome.{Outcome}
 use Rattle.asp_top.specs.declared.status.Status.{Status}
-use Rattle.asp_top.specs.declared.status.Status.TheVariants.{All, NoModel, Partial, Unknown, Enough, Help, Memory, Usage, Refused, ReadFault, TooLong, Unnamed, WriteFault, Parts}
-use Rattle.asp_top.specs.Asking.{Breaks, EndMeans, GoesOn, IsAt, IsReason, IsReply, IsSought, StepMeans, Steps, answered_of, literals_in, minimal_in, spent_in}
-use Rattle.asp_top.specs.Meaning.{has_model, mode_of}
-use Rattle.asp_top.specs.Notes.{Writes, is_answered, is_written}
-use Rattle.asp_top.specs.Runs.{Around, IsSentOn, TellsClosed, TellsFaults, around, found_with, searched, set_aside, status_of}
-use Rattle.asp_top.specs.Series.{Answered, AreAnswered, AreSome, Asks, AsksMeans, IsAnsweredBy, IsAskedTo, IsExactSeries, IsFront, IsReadSeries, IsSaidSeries, RunsSeries, SaysSeries, SeriesMeans, about, all_done, answered_text, any_model, is_done, is_open, is_refuted, series_text, text_of}
+use Rattle.asp_top.specs.declared.status.Status.TheVariants.{All, NoModel, Partial, Unknown, Memory, ReadFault, WriteFault}
+use Rattle.asp_top.specs.Asking.{Breaks, EndMeans, GoesOn, IsAt, IsReason, IsReply, IsSought, StepMeans, answered_of, literals_in, minimal_in, spent_in}
+use Rattle.asp_top.specs.Meaning.{has_model}
+use Rattle.asp_top.specs.Notes.{is_answered, is_written}
+use Rattle.asp_top.specs.Runs.{Around, IsSentOn, TellsClosed, TellsFaults, around, found_with, set_aside, status_of}
+use Rattle.asp_top.specs.Series.{Answered, AreAnswered, Asks, AsksMeans, IsAnsweredBy, IsExactSeries, IsReadSeries, IsSaidSeries, RunsSeries, SaysSeries, SeriesMeans, about, all_done, answered_text, any_model, is_done, is_open, is_refuted, series_text, text_of}
 use Rattle.asp_top.proofs.WriteLaws.{front-all}
 use Rattle.asp_top.proofs.AskLaws.{listed-of, plain, says-of}
 use Rattle.asp_top.proofs.ToldLaws.{listed-text}
@@ -185,17 +183,6 @@ some-more : (given : Options) (s : Series) (count : ℕ) (query : List ℤ) (res
     → drop count s.queries ≡ query ∷ rest → IsAnsweredBy given s.program query c.left x → AreAnswered given s.program s.queries given.budget (at.xs ++ x ∷ []) (c.left - x.spent)
 some-more given s count query rest held held' w w' c x at next is =
     answered-push given s.program s.queries query rest given.budget at.xs x c.left (next-at count s.queries at.xs query rest at.count_is next) at.answered at.done is
-
-pub at-start : (given : Options) (p : Program) (queries : List (List ℤ)) (held : Option (List ℕ)) (w : ℕ) (c : Course) → c ≡ record { left = given.budget; any = false } → IsAt given p queries held held w w 0 c
-at-start given p queries held w c is = record {
-  xs = [];
-  answered = ap (λ (x : Course). x.left) is;
-  count_is = refl;
-  done = refl;
-  any = sym (ap (λ (x : Course). x.any) is);
-  text = Appends-nil held;
-  quiet = refl;
-}
 
 pub at-more : (given : Options) (s : Series) (count : ℕ) (query : List ℤ) (rest : List (List ℤ)) (held held' held'' : Option (List ℕ)) (w w' w'' : ℕ) (c d : Course) → IsAt given s.program s.queries held held' w w' count c
     → drop count s.queries ≡ query ∷ rest → StepMeans given s.program query (count + 1) c held' held'' w' w'' (Ok d) → IsAt given s.program s.queries held held'' w w'' (count + 1) d
@@ -450,3 +437,12 @@ unread-closed e status o is_closed is same = subst (λ (x : Status). TellsClosed
 
 pub ok-no-fault : (s : Series) (e : ReadError) → ¬ IsErrOf {T = Series} (Ok s) e
 ok-no-fault s e is = cc
+
+-- ---- the next of the queries
+pub next-query : (queries read : List (List ℤ)) (i : ℕ) (x y : List ℤ) → read ≡ queries → i < length read → x ≡ get_or read i x → y ≡ x → drop i queries ≡ y ∷ drop (i + 1) queries
+next-query queries read i x y same within at is =
+    subst (λ (qs : List (List ℤ)). drop i qs ≡ y ∷ drop (i + 1) qs) same (subst (λ (q : List ℤ). drop i read ≡ q ∷ drop (i + 1) read) (sym is) (drop_turn read i x within at))
+
+pub sound-query : (p : Program) (queries read : List (List ℤ)) (i : ℕ) (x y : List ℤ) → read ≡ queries → i < length read → x ≡ get_or read i x → y ≡ x → AllByRecursion (λ q. IsSound (with_query p q)) queries → IsSound (with_query p y)
+sound-query p queries read i x y same within at is all =
+    subst (λ (q : List ℤ). IsSound (with_query p q)) (sym (is ∙ at)) (at_each (λ (q : List ℤ). IsSound (with_query p q)) read i x (subst (AllByRecursion (λ (q : List ℤ). IsSound (with_query p q))) (sym same) all) within)

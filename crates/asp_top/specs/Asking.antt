@@ -1,5 +1,5 @@
 -- What the functions say that ask the queries of a series.
-use Rattle.std.specs.Prelude.{◌≡◌, ℕ, ◌+◌, ◌-◌, ◌≤◌, Bool, true, false, ◌||◌, List, [], ◌∷◌, ◌++◌, length, ℤ, Option, None, Some, Result, Ok, Err, IfSome, option_map}
+use Rattle.std.specs.Prelude.{◌≡◌, ℕ, ◌-◌, ◌≤◌, Bool, true, false, ◌||◌, List, [], length, ℤ, Option, None, Some, Result, Ok, Err, IfSome, option_map}
 use Rattle.std.specs.Io.KnownBytes.{Appends, Keeps}
 use Rattle.asp_io.specs.Causes.{AppendsFront, Rose}
 use Rattle.asp_model.specs.declared.program.Program.{Program}
@@ -29,7 +29,7 @@ use Rattle.asp_top.specs.declared.status.Status.{Status}
 use Rattle.asp_top.specs.declared.status.Status.TheVariants.{All, NoModel, Partial, Unknown, Memory, WriteFault}
 use Rattle.asp_top.specs.Meaning.{has_model}
 use Rattle.asp_top.specs.Runs.{prepared_of}
-use Rattle.asp_top.specs.Series.{Answered, AreAnswered, HasCore, IsAnsweredBy, IsMinimal, about, all_done, answered_text, any_model, is_done, is_refuted, series_text, without}
+use Rattle.asp_top.specs.Series.{Answered, AreAnswered, HasCore, IsAnsweredBy, IsMinimal, about, all_done, answered_text, any_model, is_done, series_text, without}
 
 -- ---- a search
 -- what was prepared was searched

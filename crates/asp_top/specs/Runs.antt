@@ -30,7 +30,6 @@ use Rattle.asp_make.specs.Ring.{ring}
 use Rattle.asp_make.specs.Texts.{parts_text}
 use Rattle.asp_cli.specs.Given.{Given, help, misuse, options, version}
 use Rattle.asp_cli.specs.declared.Options.{Options}
-use Rattle.asp_cli.specs.Texts.{help_page, version_line}
 use Rattle.asp_model.specs.Models.{atoms_of}
 use Rattle.asp_vars.specs.Numbering.{bodies_of}
 use Rattle.asp_counts.specs.Telling.{AreNumbered}

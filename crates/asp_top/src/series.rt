@@ -253,7 +253,7 @@ fn ask_each<K: Sink, W: Watch>(
     };
     let queries = series.queries.as_slice();
     for i in 0..queries.len() {
-        course = step(
+        match step(
             alloc,
             options,
             &series.program,
@@ -263,7 +263,10 @@ fn ask_each<K: Sink, W: Watch>(
             sink,
             counts,
             watch,
-        )?;
+        ) {
+            Ok(next) => course = next,
+            Err(status) => return Err(status),
+        }
     }
     Ok(course)
 }

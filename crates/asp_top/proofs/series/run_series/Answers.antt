@@ -10,10 +10,10 @@ returns-in-Ok-clause-runs g c =
 pub returns-in-Err-clause-runs : goal.returns-in-Err-clause-runs
 returns-in-Err-clause-runs g c =
     let read = c.in-Err.ensures in
-    runs-unread c.args.options.now _ _ _ _ _ _ c.in-Err.error c.status_of.result c.failed.result c.failed.ensures c.status_of.ensures read.text read.some_text read.later read.cause read.stops read.quiet
+    runs-unread c.args.options.now _ _ _ _ _ _ c.in-Err.error c.status_of.result c.failed-in-Err.result c.failed-in-Err.ensures c.status_of.ensures read.text read.some_text read.later read.cause read.stops read.quiet
 
 pub returns-in-Err-clause-sent : goal.returns-in-Err-clause-sent
-returns-in-Err-clause-sent g c = unread-sent c.in-Err.error c.status_of.result c.failed.result _ c.failed.ensures c.status_of.ensures
+returns-in-Err-clause-sent g c = unread-sent c.in-Err.error c.status_of.result c.failed-in-Err.result _ c.failed-in-Err.ensures c.status_of.ensures
 
 pub returns-in-Err-clause-closed : goal.returns-in-Err-clause-closed
-returns-in-Err-clause-closed g c = unread-closed c.in-Err.error c.status_of.result c.failed.result _ c.failed.ensures c.status_of.ensures
+returns-in-Err-clause-closed g c = unread-closed c.in-Err.error c.status_of.result c.failed-in-Err.result _ c.failed-in-Err.ensures c.status_of.ensures
