@@ -31,7 +31,7 @@ for text in examples/*.aspif examples/*.smodels; do
     words=$(cat "${text%.*}.words" 2> /dev/null)
     [ "${text##*.}" = aspif ] || words="--format ${text##*.} $words"
     status=30
-    grep -q UNSATISFIABLE "$expected" && status=20
+    grep -q UNSATISFIABLE "$expected" && ! grep -qx SATISFIABLE "$expected" && status=20
     grep -q 'LIMIT REACHED' "$expected" && status=11
     # shellcheck disable=SC2086
     "$program" $words < "$text" > "$given" 2> "$notes"

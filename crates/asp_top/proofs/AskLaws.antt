@@ -138,7 +138,7 @@ tries-by given p others units s v e itself none sound sought is =
     let same = bare-with p others none in
     let r = s.report in
     let says : SaysReport (assuming p others) one_model (report_with (set_aside given q) r) r.results.end =
-        subst (λ (x : Program). SaysReport x one_model (report_with (set_aside given q) r) r.results.end) same (says-of given q one_model r e sound sought.report.says) in
+    subst (λ (x : Program). SaysReport x one_model (report_with (set_aside given q) r) r.results.end) same (says-of given q one_model r e sound sought.report.says) in
     record {
       judges = subst (Judges p others units r.spent) (sym is)
           (judges p others (set_aside given q) r units itself (subst IsSound same sound) sought.report.budget (is_some_of r.results.answers) r.results.end refl says);

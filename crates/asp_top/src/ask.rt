@@ -51,15 +51,7 @@ fn search<W: Watch>(
     ensures searches { IfOk result (Searches prepared ask units) }
     ensures heard { W.IsAfter watch.old watch.new }
 {
-    match solve_alone(
-        alloc,
-        &prepared.compiled,
-        ask,
-        units,
-        false,
-        counts,
-        watch,
-    ) {
+    match solve_alone(alloc, &prepared.compiled, ask, units, false, counts, watch) {
         Ok(report) => Ok(Sought { prepared, report }),
         Err(error) => {
             mem::drop(prepared);

@@ -75,11 +75,7 @@ fn put_all(literals: &mut Vec<i32>, others: &[i32]) -> Result<(), AllocError>
 }
 
 // The literals that a query assumes, in order, each once.
-fn all_assumed(
-    alloc: Global,
-    assumptions: &[i32],
-    query: &[i32],
-) -> Result<Vec<i32>, AllocError>
+fn all_assumed(alloc: Global, assumptions: &[i32], query: &[i32]) -> Result<Vec<i32>, AllocError>
     ensures same { IfOk result (λ v. (l : ℤ) → is_listed v.items l ≡ is_listed (assumptions.now ++ query.now) l) }
     ensures few { IfOk result (λ v. length v.items ≤ length (assumptions.now ++ query.now)) }
 {

@@ -168,7 +168,11 @@ fn go_on(course: Course, reply: &Reply) -> Result<Course, Status>
             left: course.left - reply.spent,
             any,
         }),
-        _ => Err(if any { Status::Partial } else { Status::Unknown }),
+        _ => Err(if any {
+            Status::Partial
+        } else {
+            Status::Unknown
+        }),
     }
 }
 
@@ -219,9 +223,7 @@ fn step<K: Sink, W: Watch>(
 {
     match answer(alloc, options, program, query, course.left, counts, watch) {
         Ok(reply) => {
-            let next = hand_over(
-                alloc, options, program, query, number, course, &reply, sink,
-            );
+            let next = hand_over(alloc, options, program, query, number, course, &reply, sink);
             mem::drop(reply);
             next
         }
