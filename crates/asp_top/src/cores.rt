@@ -20,6 +20,7 @@ use asp_model::seq::Seq;
 use asp_read::asked::with_query;
 use asp_rows::sets::Sets;
 use std::alloc::{AllocError, Global};
+use std::mem;
 
 /// Literals that no stable model has together.
 #[derive(Drop)]
@@ -161,10 +162,12 @@ fn try_others<W: Watch>(
         by_name: false,
     };
     let sought = seek(alloc, options, bare, others, ask, units, counts, watch)?;
-    Ok(Tried {
+    let tried = Tried {
         verdict: verdict_of(&sought.report.results),
         spent: sought.report.spent,
-    })
+    };
+    mem::drop(sought);
+    Ok(tried)
 }
 
 /// A core that is made smaller.
@@ -316,7 +319,9 @@ fn reason<W: Watch>(
     let literals = all_assumed(alloc, program.assumptions.as_slice(), query)?;
     if options.core_min {
         let bare = bare(alloc, program)?;
-        least_core(alloc, options, &bare, literals, units, counts, watch)
+        let core = least_core(alloc, options, &bare, literals, units, counts, watch);
+        mem::drop(bare);
+        core
     } else {
         Ok(Core {
             literals: Seq::from_vec(literals),

@@ -75,7 +75,7 @@ fn answer<W: Watch>(
     let ask = about(options, program);
     let sought = seek(alloc, options, program, query, ask, units, counts, watch)?;
     let left = units - sought.report.spent;
-    let core = core_of(
+    match core_of(
         alloc,
         options,
         program,
@@ -84,13 +84,20 @@ fn answer<W: Watch>(
         left,
         counts,
         watch,
-    )?;
-    let spent = sought.report.spent + spent_in(&core);
-    Ok(Reply {
-        sought,
-        core,
-        spent,
-    })
+    ) {
+        Ok(core) => {
+            let spent = sought.report.spent + spent_in(&core);
+            Ok(Reply {
+                sought,
+                core,
+                spent,
+            })
+        }
+        Err(error) => {
+            mem::drop(sought);
+            Err(error)
+        }
+    }
 }
 
 fn literals_of(core: &Option<Core>) -> Option<&[i32]>
@@ -328,7 +335,11 @@ pub fn run_series<S: Source, K: Sink, W: Watch>(
 {
     let mut counts = Counts::new();
     match read_queries(alloc, source) {
-        Ok(series) => failed(ask_all(alloc, options, &series, sink, &mut counts, watch)),
+        Ok(series) => {
+            let status = ask_all(alloc, options, &series, sink, &mut counts, watch);
+            mem::drop(series);
+            failed(status)
+        }
         Err(error) => failed(status_of(error)),
     }
 }

@@ -7,16 +7,16 @@ use Rattle.asp_top.proofs.CoreLaws.{refutes-bare, refutes-more, sound-with}
 use Rattle.asp_top.proofs.ShrinkLaws.{least-reasons, whole-reason}
 use Rattle.asp_top.proofs.cores.reason.Goals as goal
 
-pub least_core-requires-clause-sound : goal.least_core-requires-clause-sound
-least_core-requires-clause-sound g c =
+pub least_core-core-requires-clause-sound : goal.least_core-core-requires-clause-sound
+least_core-core-requires-clause-sound g c =
     let p = c.args.program.now in
     let ls = c.in_ok-literals.literals.items in
     let same = subst (λ (as_ : List ℤ). (l : ℤ) → is_listed ls l ≡ is_listed (as_ ++ c.args.query.now) l) c.as_slice.ensures.value c.in_ok-literals.ensures.same in
     let few = subst (λ (as_ : List ℤ). length ls ≤ length (as_ ++ c.args.query.now)) c.as_slice.ensures.value c.in_ok-literals.ensures.few in
     subst (λ (x : Program). IsSoundWith x ls) (sym c.in_ok-bare.ensures) (sound-with p (p.assumptions ++ c.args.query.now) ls c.requires.sound (λ l h. sym (same l) ∙ h) few)
 
-pub least_core-requires-clause-none : goal.least_core-requires-clause-none
-least_core-requires-clause-none g c =
+pub least_core-core-requires-clause-none : goal.least_core-core-requires-clause-none
+least_core-core-requires-clause-none g c =
     let p = c.args.program.now in
     let ls = c.in_ok-literals.literals.items in
     let same = subst (λ (as_ : List ℤ). (l : ℤ) → is_listed ls l ≡ is_listed (as_ ++ c.args.query.now) l) c.as_slice.ensures.value c.in_ok-literals.ensures.same in
@@ -31,7 +31,7 @@ returns-in_ok-bare-clause-reason g c =
     let same = subst (λ (as_ : List ℤ). (l : ℤ) → is_listed ls l ≡ is_listed (as_ ++ c.args.query.now) l) c.as_slice.ensures.value c.in_ok-literals.ensures.same in
     let few = subst (λ (as_ : List ℤ). length ls ≤ length (as_ ++ c.args.query.now)) c.as_slice.ensures.value c.in_ok-literals.ensures.few in
     let with = sound-with p (p.assumptions ++ c.args.query.now) ls c.requires.sound (λ l h. sym (same l) ∙ h) few in
-    least-reasons p (p.assumptions ++ c.args.query.now) ls c.args.units c.in_ok-bare.bare c.args.options.now.core_min c.least_core.result c.requires.itself with.itself c.in_ok-bare.ensures c.if-options.true same c.least_core.ensures.least
+    least-reasons p (p.assumptions ++ c.args.query.now) ls c.args.units c.in_ok-bare.bare c.args.options.now.core_min c.least_core-core.result c.requires.itself with.itself c.in_ok-bare.ensures c.if-options.true same c.least_core-core.ensures.least
 
 pub returns-else-options-clause-reason : goal.returns-else-options-clause-reason
 returns-else-options-clause-reason g c =

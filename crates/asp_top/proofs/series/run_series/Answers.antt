@@ -5,7 +5,7 @@ use Rattle.asp_top.proofs.series.run_series.Goals as goal
 pub returns-in-Ok-clause-runs : goal.returns-in-Ok-clause-runs
 returns-in-Ok-clause-runs g c =
     let read = c.in-Ok.ensures in
-    runs-asked c.args.options.now _ _ _ _ _ _ _ _ c.in-Ok.series c.ask_all.result c.failed.result c.failed.ensures read.text read.some_text read.end read.sound read.later (read.quiet (ok-no-fault c.in-Ok.series errors.ReadFault)) c.ask_all.ensures.asks
+    runs-asked c.args.options.now _ _ _ _ _ _ _ _ c.in-Ok.series c.ask_all-status.result c.failed.result c.failed.ensures read.text read.some_text read.end read.sound read.later (read.quiet (ok-no-fault c.in-Ok.series errors.ReadFault)) c.ask_all-status.ensures.asks
 
 pub returns-in-Err-clause-runs : goal.returns-in-Err-clause-runs
 returns-in-Err-clause-runs g c =
