@@ -32,8 +32,8 @@ use Rattle.asp_top.specs.declared.status.Status.TheVariants.{All, NoModel, Parti
 use Rattle.asp_top.specs.Asking.{Breaks, EndMeans, GoesOn, IsAt, IsReason, IsReply, IsSought, StepMeans, answered_of, literals_in, minimal_in, spent_in}
 use Rattle.asp_top.specs.Meaning.{has_model}
 use Rattle.asp_top.specs.Notes.{is_answered, is_written}
-use Rattle.asp_top.specs.Runs.{Around, IsSentOn, TellsClosed, TellsFaults, around, found_with, set_aside, status_of}
-use Rattle.asp_top.specs.Series.{Answered, AreAnswered, Asks, AsksMeans, IsAnsweredBy, IsExactSeries, IsReadSeries, IsSaidSeries, RunsSeries, SaysSeries, SeriesMeans, about, all_done, answered_text, any_model, is_done, is_open, is_refuted, series_text, text_of}
+use Rattle.asp_top.specs.Runs.{Around, IsSentOn, Runs, TellsClosed, TellsFaults, around, found_with, set_aside, status_of}
+use Rattle.asp_top.specs.Series.{Answered, AreAnswered, Asks, AsksMeans, IsAnsweredBy, IsExactSeries, IsReadSeries, IsSaidSeries, RunsBy, RunsSeries, SaysSeries, SeriesMeans, about, all_done, answered_text, any_model, is_done, is_open, is_refuted, series_text, text_of}
 use Rattle.asp_top.proofs.WriteLaws.{front-all}
 use Rattle.asp_top.proofs.AskLaws.{listed-of, plain, says-of}
 use Rattle.asp_top.proofs.ToldLaws.{listed-text}
@@ -446,3 +446,10 @@ next-query queries read i x y same within at is =
 pub sound-query : (p : Program) (queries read : List (List ℤ)) (i : ℕ) (x y : List ℤ) → read ≡ queries → i < length read → x ≡ get_or read i x → y ≡ x → AllByRecursion (λ q. IsSound (with_query p q)) queries → IsSound (with_query p y)
 sound-query p queries read i x y same within at is all =
     subst (λ (q : List ℤ). IsSound (with_query p q)) (sym (is ∙ at)) (at_each (λ (q : List ℤ). IsSound (with_query p q)) read i x (subst (AllByRecursion (λ (q : List ℤ). IsSound (with_query p q))) (sym same) all) within)
+
+-- ---- a run with queries or without
+pub runs-queries : (b : Bool) (given : Options) (a : Around) (o : Outcome) → b ≡ true → RunsSeries given a o → RunsBy b given a o
+runs-queries b given a o is runs = subst (λ (x : Bool). RunsBy x given a o) (sym is) runs
+
+pub runs-program : (b : Bool) (given : Options) (a : Around) (o : Outcome) → b ≡ false → Runs given a o → RunsBy b given a o
+runs-program b given a o is runs = subst (λ (x : Bool). RunsBy x given a o) (sym is) runs
