@@ -4,3 +4,7 @@ pub mod RunLaws
 pub mod WholeLaws
 pub mod WriteLaws
 pub mod TellLaws
+pub mod CoreLaws
+pub mod ShrinkLaws
+pub mod AskLaws
+pub mod SeriesLaws

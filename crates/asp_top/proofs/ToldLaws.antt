@@ -15,6 +15,7 @@ use Rattle.asp_model.specs.Sets.{Atoms}
 use Rattle.asp_model.specs.Models.{answers}
 use Rattle.asp_model.specs.Consequences.{consequences_of}
 use Rattle.asp_model.specs.Found.{Found}
+use Rattle.asp_model.specs.Asked.{reasoning_of}
 use Rattle.asp_model.specs.Sound.{IsSound}
 use Rattle.asp_model.specs.Texts.{answer_lines, answers_from, best_answers, best_cost_line, bests, closing_lines, ended_line, found_count, recorded, shown}
 use Rattle.asp_print.specs.Named.{known_line, named_line, printed_text, sums_line}
@@ -341,6 +342,21 @@ told-text given p r layout proof = by (asked given p) (is_settled given) refl
     by : (q : Program) (b : Bool) → is_settled given ≡ b → report_text (cond b (rest q) q) (told_with (cond b (aside_of q) none_aside) r) layout ≡ report_text q (report_with (cond b (aside_of q) none_aside) r) layout
     by q true e = text_without q r layout (no-proof r.results.end r.results r.proof (subst (λ wanted. HasProof wanted r) (unasked given e) proof))
     by q false e = ap (λ x. report_text q x layout) (same-told r ∙ sym (same-report r))
+
+-- the lines of a list don't tell what is known
+lines-told : (p : Program) (F : Aside) (r : Found) (mode : Mode) (brief names : Bool) → reasoning_of mode ≡ None
+    → cond brief [] (answers_from p 1 (recorded mode r)) ++ sums_line names p mode r ++ closing_lines r (found_count mode r) ≡ cond brief [] (answers_from p 1 (recorded mode (told F r))) ++ sums_line names p mode (told F r) ++ closing_lines r (found_count mode (told F r))
+lines-told p F r Enum brief names listed = refl
+lines-told p F r Opt brief names listed = refl
+lines-told p F r (Consequences w) brief names listed = absurd (let no : Some w ≡ None = listed in let f : ⊥ = cc in f)
+
+-- the lines of a list, as it was found
+pub listed-text : (given : Options) (p : Program) (r : Found) (brief names : Bool) → reasoning_of r.mode ≡ None → printed_text (searched given p) r brief names ≡ printed_text (asked given p) (found_with (set_aside given p) r) brief names
+listed-text given p r brief names listed = by (asked given p) (is_settled given)
+  where
+    by : (q : Program) (b : Bool) → printed_text (cond b (rest q) q) r brief names ≡ printed_text q (found_with (cond b (aside_of q) none_aside) r) brief names
+    by q true = lines-told (rest q) (aside_of q) r r.mode brief names listed ∙ text-left q r brief names
+    by q false = ap (λ (x : Found). printed_text q x brief names) (sym (same-found r))
 
 -- what is said without names
 pub told-plain : (given : Options) (p : Program) (ask : Ask) (r : Report) (end : End) → IsSound (asked given p) → SaysReport (searched given p) (without_names ask) r end

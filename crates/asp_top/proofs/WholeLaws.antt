@@ -41,7 +41,8 @@ use Rattle.asp_model.specs.declared.program.Minimize.{Minimize}
 use Rattle.asp_model.specs.Texts.{shown}
 use Rattle.asp_top.specs.Meaning.{has_model_in, is_some_of, mode_by, mode_of}
 use Rattle.asp_top.specs.Naming.{asked, is_json, is_named, is_settled}
-use Rattle.asp_top.specs.Runs.{Around, HasNumbers, IsGiven, IsSentOn, IsWritten, Means, Runs, RunsOn, ask_of, found_with, is_brief, layout_of, report_text, report_with, set_aside, text_by, text_in, with_known, without_names}
+use Rattle.asp_top.specs.Runs.{Around, HasNumbers, IsGiven, IsSentOn, IsWritten, Means, Runs, ask_of, found_with, is_brief, layout_of, report_text, report_with, set_aside, text_by, text_in, with_known, without_names}
+use Rattle.asp_top.specs.Series.{RunsBy, RunsOn}
 use Rattle.asp_json.specs.Json.{json_text, json_with}
 use Rattle.asp_cli.specs.declared.Form.{Form}
 use Rattle.asp_cli.specs.declared.Form.TheVariants.{Text, Json}
@@ -552,6 +553,7 @@ whole given a o is_sent plain runs sent = by o.status runs.means sent
     by status m sent = tt
 
 -- the same where the words of a run give these options
-pub whole-on : (own given : Options) (g : Given) (a : Around) (o : Outcome) (is_sent : Bool) → options own ≡ g → Runs own a o → IsSentOn o.status is_sent → g ≡ options given → given.proof ≡ false
+pub whole-on : (own given : Options) (g : Given) (a : Around) (o : Outcome) (is_sent : Bool) → options own ≡ g → RunsBy own.queries own a o → IsSentOn o.status is_sent → g ≡ options given → given.proof ≡ false → given.queries ≡ false
     → IsWhole given a.left a.held a.held' is_sent o.status
-whole-on own given g a o is_sent first runs sent second plain = whole given a o is_sent plain (subst (λ x. RunsOn x a o) (first ∙ second) runs) sent
+whole-on own given g a o is_sent first runs sent second plain one =
+    whole given a o is_sent plain (subst (λ (b : Bool). RunsBy b given a o) one (subst (λ (x : Given). RunsOn x a o) (first ∙ second) runs)) sent

@@ -30,7 +30,6 @@ use Rattle.asp_make.specs.Ring.{ring}
 use Rattle.asp_make.specs.Texts.{parts_text}
 use Rattle.asp_cli.specs.Given.{Given, help, misuse, options, version}
 use Rattle.asp_cli.specs.declared.Options.{Options}
-use Rattle.asp_cli.specs.Texts.{help_page, version_line}
 use Rattle.asp_model.specs.Models.{atoms_of}
 use Rattle.asp_vars.specs.Numbering.{bodies_of}
 use Rattle.asp_counts.specs.Telling.{AreNumbered}
@@ -378,16 +377,9 @@ pub record Misuses (a : Around) (o : Outcome) : Type 0 where
   pub untouched : IsUntouched a o.report
   pub unasked : IsUnasked a
 
--- a run whose words give this
-abbrev pub RunsOn : Given → Around → Outcome → Type 0
-RunsOn help a o = Helps help_page a o
-RunsOn version a o = Helps version_line a o
-RunsOn (misuse m) a o = Misuses a o
-RunsOn (options given) a o = Runs given a o
-
--- No workers are started: one search does it all with one worker, and none where parts are asked for.
+-- No workers are started: one search does it all with one worker and of queries, and none where parts are asked for.
 abbrev pub is_alone : Options → Bool
-is_alone given = (given.workers == 1) || is_some given.split
+is_alone given = (given.workers == 1) || is_some given.split || given.queries
 
 -- how many workers are started
 abbrev pub crew_of : Options → ℕ
