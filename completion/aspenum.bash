@@ -43,18 +43,21 @@ _aspenum() {
         esac
         given+=("${option%%=*}")
     done
-    # a proof excludes some options, and each of them a proof; the parts exclude all but the ring; JSON excludes the ring, too
+    # a proof and queries exclude some options, and each of them these; the parts exclude all but the ring; JSON excludes the ring, too
     for option in "${given[@]}"; do
         case $option in
-            --proof) given+=(--split --opt-all --output --quiet) ;;
-            --split) given+=(--mode --models --opt-all --workers --log --budget --output --quiet --names --proof --stats --progress) ;;
-            --opt-all | --quiet) given+=(--split --proof) ;;
-            --output) given+=(--split --proof --make) ;;
-            --make) given+=(--output) ;;
-            --mode | --models | --workers | --log | --budget | --names | --stats | --progress) given+=(--split) ;;
+            --proof) given+=(--split --opt-all --output --quiet --queries) ;;
+            --split) given+=(--mode --models --opt-all --workers --log --budget --output --quiet --names --proof --queries --core-min --stats --progress) ;;
+            --opt-all) given+=(--split --proof --queries) ;;
+            --quiet) given+=(--split --proof) ;;
+            --output) given+=(--split --proof --make --queries) ;;
+            --make) given+=(--output --queries) ;;
+            --queries) given+=(--split --proof --opt-all --output --make --models --stats) ;;
+            --models | --stats) given+=(--split --queries) ;;
+            --mode | --workers | --log | --budget | --names | --core-min | --progress) given+=(--split) ;;
         esac
     done
-    for option in --mode --format --models --opt-all --workers --log --budget --output --quiet --names --proof --split --make --stats --progress; do
+    for option in --mode --format --models --opt-all --workers --log --budget --output --quiet --names --proof --split --make --queries --core-min --stats --progress; do
         [[ " ${given[*]} " == *" $option "* ]] || left+=("$option")
     done
     [[ $last -ne 1 ]] || left+=(--help --version)

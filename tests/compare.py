@@ -4,12 +4,13 @@
     compare.py PROGRAM [COUNT [SEED]] [--no-clasp] [--smodels]     (PROGRAM may have words behind it: "build/aspenum --workers 4")
 
 With --smodels the programs are smodels texts, and the reference solves what tests/smodels.py makes of them. Each program has up to seven atoms and every kind of statement. In an enumeration, and where all optima are listed, the bytes
-must be the reference's, and where consequences are asked for, by numbers and by name, also of outputs of several literals; in an optimisation the closing lines, cost and count, must be. With a limit the number of answers must be
+must be the reference's, and where consequences are asked for, by numbers and by name, also of outputs of several literals and of some atoms alone, in lines and as JSON; in an optimisation the closing lines, cost and count, must be. With a limit the number of answers must be
 the reference's, and they must be some of its answers in its order. Every fourth program is solved in parts too. Where clasp lists other answers than the
 reference, or with a limit another number of them, that is told and counted, and is no failure: clasp 3.3.5 is known to lose
 answers of choices over weight bodies.
 """
 import collections
+import json
 import random
 import shutil
 import subprocess
@@ -109,14 +110,16 @@ MODES = {
 
 
 def with_outputs(text):
-    """The program with outputs of no, one or several literals, two of them with one text."""
+    """The program with outputs of no, one or several literals, two of them with one text, beside half of its own or none."""
     random_ = random.Random(text)
     atoms = [int(line.split()[-1]) for line in text.split("\n") if line.startswith("4 ")]
     lines = []
     for name in ("x", "y", "y", "z"):
         condition = literals(random_, atoms, 3)
         lines.append(" ".join(map(str, [4, 1, name, len(condition), *condition])))
-    return text.removesuffix("0\n") + "\n".join(lines) + "\n0\n"
+    share = random_.choice([0, 0.5])
+    kept = [line for line in text.removesuffix("0\n").splitlines() if not line.startswith("4 ") or random_.random() < share]
+    return "\n".join([*kept, *lines[random_.randint(0, 4) :]]) + "\n0\n"
 
 
 def names_differ(aspenum, case):
@@ -126,7 +129,10 @@ def names_differ(aspenum, case):
         wanted = wanted_of(text, f"{mode} names")
         given = run([*aspenum, "--mode", mode, "--names"], text)
         if given.stdout.decode() != wanted:
-            return f"--mode {mode} --names differs from the reference"
+            return f"--mode {mode} --names differs from the reference:\n{text}"
+        told = json.loads(run([*aspenum, "--mode", mode, "--output", "json"], text).stdout)
+        if told.get("Consequences") != (wanted.split("\n")[0].split()[1:] if "FOUND" in wanted else None):
+            return f"--mode {mode} --output json differs from the reference:\n{text}"
     return None
 
 
@@ -215,6 +221,11 @@ def my_consequences(text, mode):
     return None if first == "UNSATISFIABLE" else sorted(f"p({atom})" for atom in first.split()[1:])
 
 
+def my_names(text, mode):
+    first, *rest = wanted_of(text, f"{mode} names").split("\n")
+    return None if first == "UNSATISFIABLE" else sorted(first.split()[1:])
+
+
 def clasp_differs(case):
     """Whether clasp lists other answers than the reference: its own affair, and worth knowing."""
     text, source, _ = case
@@ -237,6 +248,9 @@ def clasp_differs(case):
     for mode in ("brave", "cautious"):
         if clasp_consequences(source, mode) != my_consequences(text, mode):
             return f"clasp finds other {mode} consequences than the reference"
+        named = with_outputs(text)
+        if not case.words and clasp_consequences(named, mode) != my_names(named, mode):
+            return f"clasp finds other {mode} consequences by name than the reference:\n{named}"
     return None
 
 

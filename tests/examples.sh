@@ -31,7 +31,7 @@ for text in examples/*.aspif examples/*.smodels; do
     words=$(cat "${text%.*}.words" 2> /dev/null)
     [ "${text##*.}" = aspif ] || words="--format ${text##*.} $words"
     status=30
-    grep -q UNSATISFIABLE "$expected" && status=20
+    grep -q UNSATISFIABLE "$expected" && ! grep -qx SATISFIABLE "$expected" && status=20
     grep -q 'LIMIT REACHED' "$expected" && status=11
     # shellcheck disable=SC2086
     "$program" $words < "$text" > "$given" 2> "$notes"
@@ -209,6 +209,8 @@ python3 tests/progress.py "$program" || failed=$((failed + 1))
 python3 tests/compare.py "$program" 400 --no-clasp || failed=$((failed + 1))
 python3 tests/compare.py "$program --workers 4" 100 --no-clasp || failed=$((failed + 1))
 python3 tests/compare.py "$program" 100 --no-clasp --smodels || failed=$((failed + 1))
+python3 tests/queries.py "$program" 40 || failed=$((failed + 1))
+python3 tests/queries.py "$program --core-min --workers 4" 20 || failed=$((failed + 1))
 
 echo "examples: $passed passed, $failed failed"
 [ "$failed" -eq 0 ]

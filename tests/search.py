@@ -4,11 +4,11 @@ for, and drops nogoods.
 
     search.py PROGRAM [--measure]
 
-Each program is made here: a cheapest choice with recursion through counts, random 3-SAT without an answer, and pigeons. Within
+Each program is made here: a cheapest choice with recursion through counts, random 3-SAT, and pigeons. Within
 the units of its row the built program must come to its end. The first two take more without activities or minimising, the third
 where a variable is always decided as it was last: each row says what each took when it was written, beside what the whole search
 took. Programs as small as these take no more without restarts, so all counts of --stats are compared too: with one worker they are
-the same in each run. The first answer of the row of free costs is an optimum where each atom is first decided to cost less. --measure prints what
+the same in each run. The first answer of the row of free costs is an optimum where each atom is first decided to cost less. Two rows ask by name, and take more where atoms are sought that no output needs. --measure prints what
 PROGRAM counts: after a change of the search the rows are to be written anew.
 
 With two and four workers the counts differ from run to run, but where no worker was stopped the main thread does nothing, so the
@@ -95,8 +95,15 @@ def pairs(count):
     return ("\n".join([*lines, "0"]) + "\n").encode()
 
 
+def with_outputs(text, atoms):
+    """The program with an output for each of these atoms."""
+    lines = "".join(f"4 {len(f'x{atom}')} x{atom} 1 {atom}\n" for atom in atoms)
+    return text.removesuffix(b"0\n") + lines.encode() + b"0\n"
+
+
 # the options of a row, where it has any
-WORDS = {"a way through a grid": ["--models", "1"], "200 pairs": ["--mode", "cautious"]}
+WORDS = {"a way through a grid": ["--models", "1"], "200 pairs": ["--mode", "cautious"], "200 pairs, two by name": ["--mode", "cautious", "--names"],
+         "3-SAT of 150, five by name": ["--mode", "brave", "--names"]}
 
 # a program, what its last lines must be, units, and what is counted; conflicts when it was written: the whole search, without
 # restarts, without activities, without minimising
@@ -119,6 +126,12 @@ ROWS = [
     # 199 and 599 decisions; without the way down from an answer 40,202 decisions
     ("200 pairs", pairs(200), 30, b"CONSEQUENCES FOUND\n", 250,
      "Conflicts 199, Leaves 1, Log 0, Decisions 599, Propagated 1201, Restarts 0, Kept 199, Dropped 0, Atoms 600, Bodies 800, Loops 0"),
+    # no conflicts and 200 decisions; where all atoms are sought 199 and 599
+    ("200 pairs, two by name", with_outputs(pairs(200), (1, 3)), 30, b"Consequences: x3\nCONSEQUENCES FOUND\n", 10,
+     "Conflicts 0, Leaves 1, Log 0, Decisions 200, Propagated 403, Restarts 0, Kept 0, Dropped 0, Atoms 600, Bodies 800, Loops 0"),
+    # 171; where all atoms are sought 1,683
+    ("3-SAT of 150, five by name", with_outputs(random_sat(150, 3.8, 3), range(1, 6)), 30, b"Consequences: x1 x2 x3 x4 x5\nCONSEQUENCES FOUND\n", 300,
+     "Conflicts 171, Leaves 1, Log 0, Decisions 306, Propagated 7765, Restarts 1, Kept 171, Dropped 0, Atoms 150, Bodies 571, Loops 0"),
 ]
 
 # a program, what its status and last lines must be

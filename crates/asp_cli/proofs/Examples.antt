@@ -8,7 +8,7 @@ use Rattle.asp_cli.specs.declared.Format.TheVariants.{Aspif, Smodels}
 use Rattle.asp_cli.specs.declared.LogKind.TheVariants.{Blocks, Row}
 use Rattle.asp_cli.specs.declared.Options.{Options}
 use Rattle.asp_cli.specs.declared.names.Name.TheVariants.{Workers, Log, Mode, Format, Budget, Models, OptAll, Output, Quiet, Names, Proof, Make, Queries, Stats, Progress, Split}
-use Rattle.asp_cli.specs.Given.{bad_value, help, misuse, missing, no_words, options, rivals, twice, unbuilt, unexpected, unknown, version, words_give}
+use Rattle.asp_cli.specs.Given.{bad_value, help, misuse, missing, no_words, options, rivals, twice, unexpected, unknown, version, words_give}
 use Rattle.asp_cli.specs.Hints.{counterpart, nearest}
 
 -- what is asked for where no option is given
@@ -363,7 +363,7 @@ of_clasp = refl
 
 -- ---- queries
 
-queries : words_give (codes "aspenum" ∷ codes "--queries" ∷ []) ≡ misuse (unbuilt Queries)
+queries : words_give (codes "aspenum" ∷ codes "--queries" ∷ []) ≡ options (record standard { queries = true })
 queries = refl
 
 queries_twice : words_give (codes "aspenum" ∷ codes "--queries" ∷ codes "--queries" ∷ []) ≡ misuse (twice Queries)
@@ -387,7 +387,7 @@ queries_with_a_limit = refl
 a_limit_of_queries : words_give (codes "aspenum" ∷ codes "-n" ∷ codes "3" ∷ codes "--queries" ∷ []) ≡ misuse (rivals Models Queries)
 a_limit_of_queries = refl
 
-queries_without_a_limit : words_give (codes "aspenum" ∷ codes "--models=0" ∷ codes "--queries" ∷ []) ≡ misuse (unbuilt Queries)
+queries_without_a_limit : words_give (codes "aspenum" ∷ codes "--models=0" ∷ codes "--queries" ∷ []) ≡ options (record standard { queries = true })
 queries_without_a_limit = refl
 
 queries_of_consequences : words_give (codes "aspenum" ∷ codes "--queries" ∷ codes "-e" ∷ codes "brave" ∷ []) ≡ misuse (rivals Queries Mode)
@@ -396,7 +396,7 @@ queries_of_consequences = refl
 queries_of_smodels : words_give (codes "aspenum" ∷ codes "--format=smodels" ∷ codes "--queries" ∷ []) ≡ misuse (rivals Format Queries)
 queries_of_smodels = refl
 
-queries_of_aspif : words_give (codes "aspenum" ∷ codes "--queries" ∷ codes "--format=aspif" ∷ []) ≡ misuse (unbuilt Queries)
+queries_of_aspif : words_give (codes "aspenum" ∷ codes "--queries" ∷ codes "--format=aspif" ∷ []) ≡ options (record standard { queries = true })
 queries_of_aspif = refl
 
 queries_of_a_ring : words_give (codes "aspenum" ∷ codes "--queries" ∷ codes "--make=5" ∷ []) ≡ misuse (rivals Queries Make)
@@ -404,6 +404,18 @@ queries_of_a_ring = refl
 
 queries_of_parts : words_give (codes "aspenum" ∷ codes "--queries" ∷ codes "--split=2" ∷ []) ≡ misuse (rivals Queries Split)
 queries_of_parts = refl
+
+queries_as_json : words_give (codes "aspenum" ∷ codes "--queries" ∷ codes "--output=json" ∷ []) ≡ misuse (rivals Queries Output)
+queries_as_json = refl
+
+json_of_queries : words_give (codes "aspenum" ∷ codes "--output=json" ∷ codes "--queries" ∷ []) ≡ misuse (rivals Output Queries)
+json_of_queries = refl
+
+counts_of_queries : words_give (codes "aspenum" ∷ codes "--queries" ∷ codes "--stats" ∷ []) ≡ misuse (rivals Queries Stats)
+counts_of_queries = refl
+
+queries_with_counts : words_give (codes "aspenum" ∷ codes "--stats" ∷ codes "--queries" ∷ []) ≡ misuse (rivals Stats Queries)
+queries_with_counts = refl
 
 minimal_cores : words_give (codes "aspenum" ∷ codes "--core-min" ∷ []) ≡ options (record standard { core_min = true })
 minimal_cores = refl

@@ -12,7 +12,7 @@ use Rattle.asp_cli.specs.declared.Options.{Options}
 use Rattle.asp_cli.specs.declared.CliError.{CliError}
 use Rattle.asp_cli.specs.declared.CliError.TheVariants.{Usage, Help, Version}
 use Rattle.asp_cli.specs.declared.WordFault.{WordFault}
-use Rattle.asp_cli.specs.declared.WordFault.TheVariants.{NoWords, Unknown, Unexpected, Twice, Missing, Value, Rivals, Unbuilt}
+use Rattle.asp_cli.specs.declared.WordFault.TheVariants.{NoWords, Unknown, Unexpected, Twice, Missing, Value, Rivals}
 use Rattle.asp_cli.specs.Found.{clash_of, found_with, has, options_of, rival_of, start}
 use Rattle.asp_cli.specs.Names.{meant, named}
 
@@ -29,8 +29,6 @@ pub data Misuse : Type 0 where
   bad_value : Name → Text → Misuse
   -- the first is there, and the second can't stand beside it
   rivals : Name → Name → Misuse
-  -- it isn't built yet
-  unbuilt : Name → Misuse
 
 -- what a fault says, by the words themselves
 abbrev pub fault_seen : WordFault → Misuse
@@ -41,7 +39,6 @@ fault_seen (Twice n) = twice n
 fault_seen (Missing n) = missing n
 fault_seen (Value n v) = bad_value n v.now
 fault_seen (Rivals m n) = rivals m n
-fault_seen (Unbuilt n) = unbuilt n
 
 pub data Given : Type 0 where
   help : Given
@@ -161,10 +158,6 @@ abbrev pub walked : State → List Text → Result Options Given
 walked s [] = ended s
 walked s (w ∷ ws) = if_ok (after s w) (λ t. walked t ws)
 
--- the options, if all of them are built
-abbrev pub built : Options → Result Options Given
-built o = if o.queries then Err (misuse (unbuilt Queries)) else Ok o
-
 abbrev pub given_by : Result Options Given → Given
 given_by (Ok o) = options o
 given_by (Err g) = g
@@ -172,7 +165,7 @@ given_by (Err g) = g
 -- what the words give, the program's name first
 abbrev pub words_give : List Text → Given
 words_give [] = misuse no_words
-words_give (name ∷ rest) = given_by (if_ok (walked start rest) built)
+words_give (name ∷ rest) = given_by (walked start rest)
 
 -- the same of an answer
 abbrev pub given_of : Result Options CliError → Given

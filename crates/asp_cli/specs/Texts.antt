@@ -5,7 +5,8 @@ unfoldable pub usage_lines : List ℕ
 usage_lines = codes "usage: aspenum [--mode auto|enum|opt|brave|cautious] [--format aspif|smodels]\n"
     ++ codes "               [--models N] [--opt-all] [--workers 1..64] [--log blocks|row]\n"
     ++ codes "               [--budget N] [--output text|json] [--quiet] [--names] [--proof]\n"
-    ++ codes "               [--split 1..100000] [--make 3..2000] [--stats] [--progress]"
+    ++ codes "               [--split 1..100000] [--make 3..2000] [--queries] [--core-min]\n"
+    ++ codes "               [--stats] [--progress]"
 
 -- the program's name and version
 abbrev pub version_line : List ℕ
@@ -52,6 +53,12 @@ page_back = codes "\n"
     ++ codes "                    lines, 1 to 100000, each the assumptions of one part; of\n"
     ++ codes "                    the other options only --format and --make can be beside it\n"
     ++ codes "  --make N          solve a ring of N nodes, 3 to 2000, and read no program\n"
+    ++ codes "  --queries         answer the queries after the program's end, one by one: lines\n"
+    ++ codes "                    '6 n l1 .. ln', up to a second line '0'; not beside --proof,\n"
+    ++ codes "                    --opt-all, --models, --output, --stats, --make, --split,\n"
+    ++ codes "                    smodels texts, brave or cautious\n"
+    ++ codes "  --core-min        leave out literals of a query's core as long as the others\n"
+    ++ codes "                    suffice\n"
     ++ codes "  --stats           write counts of the run to standard error\n"
     ++ codes "  --progress        write a line to standard error when the conflicts or the\n"
     ++ codes "                    answers have doubled, and for each cheaper answer\n"

@@ -8,8 +8,8 @@ mod texts;
 mod values;
 mod walk;
 
-ghost use Rattle.std.specs.Prelude.{◌≡◌, false, IfOk, map, string_bytes};
-ghost use Rattle.asp_cli.specs.Given.{asks_help, asks_version, built, given_of, seen, words_give};
+ghost use Rattle.std.specs.Prelude.{◌≡◌, IfOk, map, string_bytes};
+ghost use Rattle.asp_cli.specs.Given.{asks_help, asks_version, given_of, words_give};
 ghost use Rattle.asp_cli.specs.Found.{IsApart, IsAsking};
 ghost use Rattle.asp_cli.specs.Values.{IsCrew, IsPartCount, IsRing, is_row};
 
@@ -116,8 +116,6 @@ pub enum WordFault<'a> {
     Value(Name, &'a str),
     /// The first was given, and the second can't stand beside it.
     Rivals(Name, Name),
-    /// The option isn't built yet.
-    Unbuilt(Name),
 }
 
 /// Why the words of a command line give no options.
@@ -145,19 +143,6 @@ pub(crate) fn asks_for_version(word: &str) -> bool
     word == "--version"
 }
 
-// The options, if all of them are built.
-fn built<'a>(options: Options) -> Result<Options, CliError<'a>>
-    ensures value { seen result ≡ built options }
-    ensures same { IfOk result (λ o. o ≡ options) }
-    ensures unasked { IfOk result (λ o. o.queries ≡ false) }
-{
-    if options.queries {
-        Err(CliError::Usage(WordFault::Unbuilt(Name::Queries)))
-    } else {
-        Ok(options)
-    }
-}
-
 /// What the words of a command line give, the program's name first. From the left the first word decides that asks for help
 /// or the version, or is faulty; where none does, they give options.
 pub fn words<'a>(words: &'a [String]) -> Result<Options, CliError<'a>>
@@ -167,13 +152,9 @@ pub fn words<'a>(words: &'a [String]) -> Result<Options, CliError<'a>>
     ensures parts { IfOk result (λ o. IsPartCount o.split) }
     ensures apart { IfOk result IsApart }
     ensures asking { IfOk result IsAsking }
-    ensures unasked { IfOk result (λ o. o.queries ≡ false) }
 {
     match words {
         [] => Err(CliError::Usage(WordFault::NoWords)),
-        [_, rest @ ..] => match walk::walk(rest) {
-            Ok(options) => built(options),
-            Err(error) => Err(error),
-        },
+        [_, rest @ ..] => walk::walk(rest),
     }
 }

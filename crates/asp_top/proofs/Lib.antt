@@ -1,5 +1,10 @@
+pub mod PlainLaws
 pub mod ToldLaws
 pub mod RunLaws
 pub mod WholeLaws
 pub mod WriteLaws
 pub mod TellLaws
+pub mod CoreLaws
+pub mod ShrinkLaws
+pub mod AskLaws
+pub mod SeriesLaws

@@ -318,6 +318,10 @@ pub second-false : (a b : Bool) → (a || b) ≡ false → b ≡ false
 second-false true b e = absurd cc
 second-false false b e = e
 
+pub first-false : (a b : Bool) → (a || b) ≡ false → a ≡ false
+first-false true b e = absurd cc
+first-false false b e = refl
+
 pub unsplit : (o : Option ℕ) → is_some o ≡ false → o ≡ None
 unsplit None e = refl
 unsplit (Some n) e = absurd cc

@@ -15,8 +15,9 @@ use Rattle.asp_model.specs.Sets.{Atoms}
 use Rattle.asp_model.specs.Models.{answers}
 use Rattle.asp_model.specs.Consequences.{consequences_of}
 use Rattle.asp_model.specs.Found.{Found}
+use Rattle.asp_model.specs.Asked.{reasoning_of}
 use Rattle.asp_model.specs.Sound.{IsSound}
-use Rattle.asp_model.specs.Texts.{answer_lines, answers_from, best_answers, best_cost_line, bests, closing_lines, ended_line, found_count, recorded}
+use Rattle.asp_model.specs.Texts.{answer_lines, answers_from, best_answers, best_cost_line, bests, closing_lines, ended_line, found_count, recorded, shown}
 use Rattle.asp_print.specs.Named.{known_line, named_line, printed_text, sums_line}
 use Rattle.asp_named.specs.Named.{named}
 use Rattle.asp_top.specs.Naming.{asked, is_json, is_named, is_settled}
@@ -40,7 +41,7 @@ use Rattle.asp_crew_laws.specs.Proofs.{HasProof, HasProofAt}
 use Rattle.asp_cli.specs.declared.Options.{Options}
 use Rattle.asp_top.specs.Parting.{Divides}
 use Rattle.asp_top.specs.Meaning.{has_model, has_model_in, mode_by, mode_of}
-use Rattle.asp_top.specs.Runs.{Concludes, Delivers, Does, DoesBy, IsCounted, Solves, ask_of, found_with, layout_of, prepared_of, report_text, text_in, report_with, searched, set_aside, text_by, told_with}
+use Rattle.asp_top.specs.Runs.{Concludes, Delivers, Does, DoesBy, IsCounted, SaysOf, ShowsAs, Solves, ask_of, found_with, layout_of, prepared_of, report_text, text_in, report_with, searched, set_aside, text_by, told_with, with_known, without_names}
 use Rattle.asp_top.specs.declared.counts.Tally.{Tally}
 use Rattle.asp_json.specs.Json.{array, best_costs, best_text, call_text, closing_text, json_text, known_text, known_texts, models_text, more, optimum_text, recorded_text, result_text, witness, witnesses}
 use Rattle.asp_json.specs.Quoting.{quoted}
@@ -49,6 +50,7 @@ use Rattle.asp_cli.specs.declared.Form.TheVariants.{Text, Json}
 use Rattle.asp_top.specs.declared.deliver.Layout.{Layout}
 use Rattle.asp_top.specs.declared.prepare.Prepared.{Prepared}
 use Rattle.asp_top.specs.declared.status.Outcome.{Outcome}
+use Rattle.asp_top.proofs.PlainLaws.{plain-says}
 
 -- ---- what a report says of a program whose minimise statements were unfolded
 priced-unfolded : (p : Program) (best : Option (Atoms × List ℤ)) → IsSound p → IfSome best (IsPriced (unfolded p)) → IfSome best (IsPriced p)
@@ -57,13 +59,13 @@ priced-unfolded p (Some b) sound h =
     let answer : Contains (answers p) b.0 = subst (λ Ss. Contains Ss b.0) (same-unfolded p) h.0 in
     (answer, h.1 ∙ same-cost p b.0 sound ((answers-are p b.0).0 answer).0)
 
-part-unfolded : (p : Program) (mode : Mode) (r : Found) → IsSound p → IsPart (unfolded p) mode r → IsPart p mode r
+part-unfolded : (p : Program) (mode : Mode) (r : Found) → IsSound p → IsPart false (unfolded p) mode r → IsPart false p mode r
 part-unfolded p Enum r sound h = ((h.0.0, h.0.1 ∙ ap (filter h.0.0) (same-unfolded p)), h.1)
 part-unfolded p Opt r sound h = (h.0, priced-unfolded p r.best sound h.1)
 part-unfolded p (Consequences w) r sound h =
     (h.0, h.1, (h.2.0, h.2.1 ∙ (same-consequences w p (filter h.2.0 (answers (unfolded p))) ∙ ap (λ Ss. consequences_of w p (filter h.2.0 Ss)) (same-unfolded p))))
 
-part_of-unfolded : (p : Program) (all : Bool) (mode : Mode) (r : Found) → IsSound p → IsPartOf all (unfolded p) mode r → IsPartOf all p mode r
+part_of-unfolded : (p : Program) (all : Bool) (mode : Mode) (r : Found) → IsSound p → IsPartOf all false (unfolded p) mode r → IsPartOf all false p mode r
 part_of-unfolded p false mode r sound h = part-unfolded p mode r sound h
 part_of-unfolded p true Enum r sound h = part-unfolded p Enum r sound h
 part_of-unfolded p true (Consequences w) r sound h = part-unfolded p (Consequences w) r sound h
@@ -73,12 +75,12 @@ best-unfolded : (p : Program) (best : Option (Atoms × List ℤ)) → IsSound p 
 best-unfolded p None sound h = sym (same-unfolded p) ∙ h
 best-unfolded p (Some b) sound h = same-optimum p b.0 b.1 sound h
 
-found-unfolded : (p : Program) (mode : Mode) (L : List Atoms) (best : Option (Atoms × List ℤ)) (known : Option Atoms) → IsSound p → IsFound (unfolded p) mode L best known → IsFound p mode L best known
+found-unfolded : (p : Program) (mode : Mode) (L : List Atoms) (best : Option (Atoms × List ℤ)) (known : Option Atoms) → IsSound p → IsFound false (unfolded p) mode L best known → IsFound false p mode L best known
 found-unfolded p Enum L best known sound h = (h.0 ∙ same-unfolded p, h.1)
 found-unfolded p Opt L best known sound h = (h.0, best-unfolded p best sound h.1)
 found-unfolded p (Consequences w) L best known sound h = (h.0, h.1, h.2 ∙ (same-consequences w p (answers (unfolded p)) ∙ ap (consequences_of w p) (same-unfolded p)))
 
-all_found-unfolded : (p : Program) (all : Bool) (mode : Mode) (L : List Atoms) (best : Option (Atoms × List ℤ)) (known : Option Atoms) → IsSound p → IsAllFound all (unfolded p) mode L best known → IsAllFound all p mode L best known
+all_found-unfolded : (p : Program) (all : Bool) (mode : Mode) (L : List Atoms) (best : Option (Atoms × List ℤ)) (known : Option Atoms) → IsSound p → IsAllFound all false (unfolded p) mode L best known → IsAllFound all false p mode L best known
 all_found-unfolded p false mode L best known sound h = found-unfolded p mode L best known sound h
 all_found-unfolded p true Enum L best known sound h = found-unfolded p Enum L best known sound h
 all_found-unfolded p true (Consequences w) L best known sound h = found-unfolded p (Consequences w) L best known sound h
@@ -89,7 +91,7 @@ has_best-unfolded p Enum best sound h = tt
 has_best-unfolded p Opt best sound h = best-unfolded p best sound h
 has_best-unfolded p (Consequences w) best sound h = tt
 
-says-unfolded : (p : Program) (ask : Ask) (r : Report) (end : End) → IsSound p → SaysReport (unfolded p) ask r end → SaysReport p ask r end
+says-unfolded : (p : Program) (ask : Ask) (r : Report) (end : End) → IsSound p → SaysReport (unfolded p) (without_names ask) r end → SaysReport p (without_names ask) r end
 says-unfolded p ask r Finished sound h = all_found-unfolded p ask.all_optima ask.mode r.results.answers r.results.best r.results.known sound h
 says-unfolded p ask r Limited sound h = record {
   listing = h.listing;
@@ -106,7 +108,7 @@ priced-left p None sound h = h
 priced-left p (Some b) sound h =
     (subst (λ Ss. Contains Ss (restored (aside_of p) b.0)) (sym (same-answers p sound)) (contains-map (restored (aside_of p)) (answers (reduced p)) b.0 h.0), h.1 ∙ sym (cost-reduced p b.0))
 
-part-left : (p : Program) (mode : Mode) (r : Found) → IsSound p → IsPart (reduced p) mode r → IsPart p mode (found_with (aside_of p) r)
+part-left : (p : Program) (mode : Mode) (r : Found) → IsSound p → IsPart false (reduced p) mode r → IsPart false p mode (found_with (aside_of p) r)
 part-left p Enum r sound h =
     ((λ S. h.0.0 (reduced_set p S), ap (map (restored (aside_of p))) h.0.1 ∙ chosen-reduced p h.0.0 sound), ap (option_map (λ (b : Atoms × List ℤ). (restored (aside_of p) b.0, b.1))) h.1)
 part-left p Opt r sound h = (ap (map (restored (aside_of p))) h.0, priced-left p r.best sound h.1)
@@ -116,7 +118,7 @@ part-left p (Consequences w) r sound h = (
   (λ S. h.2.0 (reduced_set p S), ap (option_map (restored (aside_of p))) h.2.1 ∙ sym (some-consequences p w h.2.0 sound) ∙ ap (consequences_of w p) (chosen-reduced p h.2.0 sound)),
 )
 
-part_of-left : (p : Program) (all : Bool) (mode : Mode) (r : Found) → IsSound p → IsPartOf all (reduced p) mode r → IsPartOf all p mode (found_with (aside_of p) r)
+part_of-left : (p : Program) (all : Bool) (mode : Mode) (r : Found) → IsSound p → IsPartOf all false (reduced p) mode r → IsPartOf all false p mode (found_with (aside_of p) r)
 part_of-left p false mode r sound h = part-left p mode r sound h
 part_of-left p true Enum r sound h = part-left p Enum r sound h
 part_of-left p true (Consequences w) r sound h = part-left p (Consequences w) r sound h
@@ -127,15 +129,15 @@ best-left : (p : Program) (best : Option (Atoms × List ℤ)) → IsSound p → 
 best-left p None sound h = same-answers p sound ∙ ap (map (restored (aside_of p))) h
 best-left p (Some b) sound h = optimum-reduced p b.0 b.1 sound h
 
-found-left : (p : Program) (mode : Mode) (r : Found) → IsSound p → IsFound (reduced p) mode r.answers r.best r.known →
-    IsFound p mode (found_with (aside_of p) r).answers (found_with (aside_of p) r).best (found_with (aside_of p) r).known
+found-left : (p : Program) (mode : Mode) (r : Found) → IsSound p → IsFound false (reduced p) mode r.answers r.best r.known →
+    IsFound false p mode (found_with (aside_of p) r).answers (found_with (aside_of p) r).best (found_with (aside_of p) r).known
 found-left p Enum r sound h = (ap (map (restored (aside_of p))) h.0 ∙ sym (same-answers p sound), ap (option_map (λ (b : Atoms × List ℤ). (restored (aside_of p) b.0, b.1))) h.1)
 found-left p Opt r sound h = (ap (map (restored (aside_of p))) h.0, best-left p r.best sound h.1)
 found-left p (Consequences w) r sound h =
     (ap (map (restored (aside_of p))) h.0, ap (option_map (λ (b : Atoms × List ℤ). (restored (aside_of p) b.0, b.1))) h.1, ap (option_map (restored (aside_of p))) h.2 ∙ sym (all-consequences p w sound))
 
-all_found-left : (p : Program) (all : Bool) (mode : Mode) (r : Found) → IsSound p → IsAllFound all (reduced p) mode r.answers r.best r.known →
-    IsAllFound all p mode (found_with (aside_of p) r).answers (found_with (aside_of p) r).best (found_with (aside_of p) r).known
+all_found-left : (p : Program) (all : Bool) (mode : Mode) (r : Found) → IsSound p → IsAllFound all false (reduced p) mode r.answers r.best r.known →
+    IsAllFound all false p mode (found_with (aside_of p) r).answers (found_with (aside_of p) r).best (found_with (aside_of p) r).known
 all_found-left p false mode r sound h = found-left p mode r sound h
 all_found-left p true Enum r sound h = found-left p Enum r sound h
 all_found-left p true (Consequences w) r sound h = found-left p (Consequences w) r sound h
@@ -146,7 +148,7 @@ has_best-left p Enum best sound h = tt
 has_best-left p Opt best sound h = best-left p best sound h
 has_best-left p (Consequences w) best sound h = tt
 
-pub says-left : (p : Program) (ask : Ask) (r : Report) (end : End) → IsSound p → SaysReport (reduced p) ask r end → SaysReport p ask (report_with (aside_of p) r) end
+says-left : (p : Program) (ask : Ask) (r : Report) (end : End) → IsSound p → SaysReport (reduced p) (without_names ask) r end → SaysReport p (without_names ask) (report_with (aside_of p) r) end
 says-left p ask r Finished sound h = all_found-left p ask.all_optima ask.mode r.results sound h
 says-left p ask r Limited sound h = record {
   listing = h.listing;
@@ -341,12 +343,54 @@ told-text given p r layout proof = by (asked given p) (is_settled given) refl
     by q true e = text_without q r layout (no-proof r.results.end r.results r.proof (subst (λ wanted. HasProof wanted r) (unasked given e) proof))
     by q false e = ap (λ x. report_text q x layout) (same-told r ∙ sym (same-report r))
 
-pub told-says : (given : Options) (p : Program) (ask : Ask) (r : Report) (end : End) → IsSound (asked given p) → SaysReport (searched given p) ask r end → SaysReport (asked given p) ask (report_with (set_aside given p) r) end
-told-says given p ask r end sound h = by (asked given p) (is_settled given) sound h
+-- the lines of a list don't tell what is known
+lines-told : (p : Program) (F : Aside) (r : Found) (mode : Mode) (brief names : Bool) → reasoning_of mode ≡ None
+    → cond brief [] (answers_from p 1 (recorded mode r)) ++ sums_line names p mode r ++ closing_lines r (found_count mode r) ≡ cond brief [] (answers_from p 1 (recorded mode (told F r))) ++ sums_line names p mode (told F r) ++ closing_lines r (found_count mode (told F r))
+lines-told p F r Enum brief names listed = refl
+lines-told p F r Opt brief names listed = refl
+lines-told p F r (Consequences w) brief names listed = absurd (let no : Some w ≡ None = listed in let f : ⊥ = cc in f)
+
+-- the lines of a list, as it was found
+pub listed-text : (given : Options) (p : Program) (r : Found) (brief names : Bool) → reasoning_of r.mode ≡ None → printed_text (searched given p) r brief names ≡ printed_text (asked given p) (found_with (set_aside given p) r) brief names
+listed-text given p r brief names listed = by (asked given p) (is_settled given)
   where
-    by : (q : Program) (b : Bool) → IsSound q → SaysReport (cond b (rest q) q) ask r end → SaysReport q ask (report_with (cond b (aside_of q) none_aside) r) end
+    by : (q : Program) (b : Bool) → printed_text (cond b (rest q) q) r brief names ≡ printed_text q (found_with (cond b (aside_of q) none_aside) r) brief names
+    by q true = lines-told (rest q) (aside_of q) r r.mode brief names listed ∙ text-left q r brief names
+    by q false = ap (λ (x : Found). printed_text q x brief names) (sym (same-found r))
+
+-- what is said without names
+pub told-plain : (given : Options) (p : Program) (ask : Ask) (r : Report) (end : End) → IsSound (asked given p) → SaysReport (searched given p) (without_names ask) r end
+    → SaysReport (asked given p) (without_names ask) (report_with (set_aside given p) r) end
+told-plain given p ask r end sound h = by (asked given p) (is_settled given) sound h
+  where
+    by : (q : Program) (b : Bool) → IsSound q → SaysReport (cond b (rest q) q) (without_names ask) r end → SaysReport q (without_names ask) (report_with (cond b (aside_of q) none_aside) r) end
     by q true sound s = says-left q ask r end sound (says-unfolded (reduced q) ask r end (sound-reduced q sound) s)
-    by q false sound s = subst (λ x. SaysReport q ask x end) (sym (same-report r)) s
+    by q false sound s = subst (λ x. SaysReport q (without_names ask) x end) (sym (same-report r)) s
+
+shows-left : (p : Program) (known : Option Atoms) → option_map (shown p) (option_map (restored (aside_of p)) known) ≡ option_map (shown (rest p)) known
+shows-left p None = refl
+shows-left p (Some B) = ap (λ (texts : List (List ℕ)). Some texts) (shown-reduced p B)
+
+as-left : (n : Bool) (p : Program) (known told : Option Atoms) → ShowsAs n (rest p) known told → ShowsAs n p (option_map (restored (aside_of p)) known) (option_map (restored (aside_of p)) told)
+as-left false p known told same = ap (option_map (restored (aside_of p))) same
+as-left true p known told same = shows-left p told ∙ same ∙ sym (shows-left p known)
+
+as-told : (given : Options) (p : Program) (n : Bool) (known told : Option Atoms) → ShowsAs n (searched given p) known told
+    → ShowsAs n (asked given p) (option_map (restored (set_aside given p)) known) (option_map (restored (set_aside given p)) told)
+as-told given p n known told same = by (asked given p) (is_settled given) same
+  where
+    by : (q : Program) (b : Bool) → ShowsAs n (cond b (rest q) q) known told → ShowsAs n q (option_map (restored (cond b (aside_of q) none_aside)) known) (option_map (restored (cond b (aside_of q) none_aside)) told)
+    by q true s = as-left n q known told s
+    by q false s = subst (λ (k : Option Atoms). ShowsAs n q k (option_map (restored none_aside) told)) (sym (same-known known)) (subst (ShowsAs n q known) (sym (same-known told)) s)
+
+pub told-says : (given : Options) (p : Program) (ask : Ask) (r : Report) (end : End) → IsSound (asked given p) → SaysReport (searched given p) ask r end → SaysOf (asked given p) ask (report_with (set_aside given p) r) end
+told-says given p ask r end sound h =
+    let s = plain-says (searched given p) ask r end h in
+    record {
+      known = option_map (restored (set_aside given p)) s.known;
+      says = told-plain given p ask (with_known s.known r) end sound s.says;
+      same = as-told given p ask.by_name s.known r.results.known s.same;
+    }
 
 some-known : (F : Aside) (known : Option Atoms) → is_some (option_map (restored F) known) ≡ is_some known
 some-known F None = refl
@@ -381,11 +425,11 @@ same-ask : (given : Options) (p : Program) → ask_of given (searched given p) �
 same-ask given p = by (asked given p) (is_settled given) ∙ named-ask (is_named given)
   where
     by : (q : Program) (b : Bool) → ask_of given (cond b (rest q) q) ≡ ask_of given q
-    by q true = ap (λ mode. record { mode = mode; models = given.models; all_optima = given.all_optima }) (same-mode given.mode q)
+    by q true = ap (λ mode. record { mode = mode; models = given.models; all_optima = given.all_optima; by_name = is_named given }) (same-mode given.mode q)
     by q false = refl
 
     named-ask : (b : Bool) → ask_of given (cond b (named p) p) ≡ ask_of given p
-    named-ask true = ap (λ mode. record { mode = mode; models = given.models; all_optima = given.all_optima }) (named-mode given.mode p)
+    named-ask true = ap (λ mode. record { mode = mode; models = given.models; all_optima = given.all_optima; by_name = is_named given }) (named-mode given.mode p)
     named-ask false = refl
 
 -- what was searched, and with what it is told

@@ -41,13 +41,15 @@ use Rattle.asp_model.specs.declared.program.Minimize.{Minimize}
 use Rattle.asp_model.specs.Texts.{shown}
 use Rattle.asp_top.specs.Meaning.{has_model_in, is_some_of, mode_by, mode_of}
 use Rattle.asp_top.specs.Naming.{asked, is_json, is_named, is_settled}
-use Rattle.asp_top.specs.Runs.{Around, HasNumbers, IsGiven, IsSentOn, IsWritten, Means, Runs, RunsOn, ask_of, found_with, is_brief, layout_of, report_text, report_with, set_aside, text_by, text_in}
+use Rattle.asp_top.specs.Runs.{Around, HasNumbers, IsGiven, IsSentOn, IsWritten, Means, Runs, ask_of, found_with, is_brief, layout_of, report_text, report_with, set_aside, text_by, text_in, with_known, without_names}
+use Rattle.asp_top.specs.Series.{RunsBy, RunsOn}
 use Rattle.asp_json.specs.Json.{json_text, json_with}
 use Rattle.asp_cli.specs.declared.Form.{Form}
 use Rattle.asp_cli.specs.declared.Form.TheVariants.{Text, Json}
 use Rattle.asp_cli.specs.declared.Format.{Format}
 use Rattle.asp_top.specs.Formats.{outcome_for}
 use Rattle.asp_top.specs.Whole.{ArePicked, InForm, IsInput, IsWhole, TellsAll, TellsEnough, TellsNone, Wrote, closing, none_text, told_line}
+use Rattle.asp_top.proofs.PlainLaws.{model-same, text-same}
 use Rattle.asp_top.proofs.ToldLaws.{no-proof}
 
 -- ---- what is read
@@ -154,20 +156,20 @@ consequences-all names brief p w (S ∷ K) best known are some = (
       ∙ ap (λ (x : List ℕ). known_line names p (Some (consequences w p (S ∷ K))) ++ x) (append-nil (ended_line (codes "CONSEQUENCES FOUND"))),
 )
 
-found-enum : (all : Bool) (p : Program) (L : List Atoms) (best : Option (Atoms × List ℤ)) (known : Option Atoms) → IsAllFound all p Enum L best known → IsFound p Enum L best known
+found-enum : (all : Bool) (p : Program) (L : List Atoms) (best : Option (Atoms × List ℤ)) (known : Option Atoms) → IsAllFound all false p Enum L best known → IsFound false p Enum L best known
 found-enum true p L best known is = is
 found-enum false p L best known is = is
 
 found-consequences : (all : Bool) (p : Program) (w : Reasoning) (L : List Atoms) (best : Option (Atoms × List ℤ)) (known : Option Atoms)
-    → IsAllFound all p (Consequences w) L best known → IsFound p (Consequences w) L best known
+    → IsAllFound all false p (Consequences w) L best known → IsFound false p (Consequences w) L best known
 found-consequences true p w L best known is = is
 found-consequences false p w L best known is = is
 
-found-best : (all : Bool) (p : Program) (L : List Atoms) (best : Option (Atoms × List ℤ)) (known : Option Atoms) → IsAllFound all p Opt L best known → IsBest p best
+found-best : (all : Bool) (p : Program) (L : List Atoms) (best : Option (Atoms × List ℤ)) (known : Option Atoms) → IsAllFound all false p Opt L best known → IsBest p best
 found-best true p L best known is = is.1
 found-best false p L best known is = is.1
 
-found-opt : (all brief : Bool) (p : Program) (L : List Atoms) (best : Option (Atoms × List ℤ)) (known : Option Atoms) → IsAllFound all p Opt L best known → is_some_of (bests best L) ≡ true
+found-opt : (all brief : Bool) (p : Program) (L : List Atoms) (best : Option (Atoms × List ℤ)) (known : Option Atoms) → IsAllFound all false p Opt L best known → is_some_of (bests best L) ≡ true
     → AllTold all brief p (plain_text p (found Opt Finished L best known) brief)
 found-opt true brief p L best known is some = opt-all brief p L best known is.0 is.1 some
 found-opt false brief p L best known is some = opt-one brief p L best known is.0 is.1 some
@@ -178,7 +180,7 @@ enum-told : (form : Form) (given : Options) (p : Program) (L : List Atoms) (best
 enum-told Text given p L best known all some = enum-all (is_brief given) p L best known some ∙ ap (λ (Ss : List Atoms). lines (is_brief given) p Ss ++ closing (codes "SATISFIABLE") (decimal (length Ss))) all
 enum-told Json given p L best known all some = ap (λ (Ss : List Atoms). json_found given p (found Enum Finished Ss None None)) all
 
-json-opt : (all : Bool) (given : Options) (p : Program) (L : List Atoms) (best : Option (Atoms × List ℤ)) (known : Option Atoms) → IsAllFound all p Opt L best known → is_some_of (bests best L) ≡ true
+json-opt : (all : Bool) (given : Options) (p : Program) (L : List Atoms) (best : Option (Atoms × List ℤ)) (known : Option Atoms) → IsAllFound all false p Opt L best known → is_some_of (bests best L) ≡ true
     → (S : Atoms) × Contains (optima p) S × (json_found given p (found Opt Finished L best known) ≡ json_found given p (found Opt Finished (cond all (optima p) []) (Some (S, cost p S)) None))
 json-opt true given p L (Some b) known is some = (
   b.0,
@@ -195,7 +197,7 @@ json-opt false given p L (Some b) known is some = (
 json-opt false given p [] None known is some = absurd (false≢true some)
 json-opt false given p (S ∷ L) None known is some = absurd (let none : S ∷ L ≡ [] = is.0 in let f : ⊥ = cc in f)
 
-opt-told : (form : Form) (given : Options) (p : Program) (L : List Atoms) (best : Option (Atoms × List ℤ)) (known : Option Atoms) → IsAllFound given.all_optima p Opt L best known → is_some_of (bests best L) ≡ true
+opt-told : (form : Form) (given : Options) (p : Program) (L : List Atoms) (best : Option (Atoms × List ℤ)) (known : Option Atoms) → IsAllFound given.all_optima false p Opt L best known → is_some_of (bests best L) ≡ true
     → (S : Atoms) × Contains (optima p) S
     × InForm form (text_for form given p (found Opt Finished L best known) ≡ lines (is_brief given) p (cond given.all_optima (optima p) (S ∷ [])) ++ cost_line (cost p S) ++ closing (codes "OPTIMUM FOUND") (decimal (length (cond given.all_optima (optima p) (S ∷ [])))))
     (text_for form given p (found Opt Finished L best known) ≡ json_found given p (found Opt Finished (cond given.all_optima (optima p) []) (Some (S, cost p S)) None))
@@ -212,14 +214,14 @@ abbrev ToldOf : Form → Bool → Bool → Program → Reasoning → List ℕ �
 ToldOf form names brief p w text = InForm form (text ≡ known_line names p (Some (consequences w p (answers p))) ++ ended_line (codes "CONSEQUENCES FOUND"))
     (text ≡ json_text p (found (Consequences w) Finished [] None (Some (consequences w p (answers p)))) brief)
 
-consequences-told : (form : Form) (given : Options) (p : Program) (w : Reasoning) (L : List Atoms) (best : Option (Atoms × List ℤ)) (known : Option Atoms) → IsFound p (Consequences w) L best known → is_some known ≡ true
+consequences-told : (form : Form) (given : Options) (p : Program) (w : Reasoning) (L : List Atoms) (best : Option (Atoms × List ℤ)) (known : Option Atoms) → IsFound false p (Consequences w) L best known → is_some known ≡ true
     → ¬ (answers p ≡ []) × ToldOf form given.names (is_brief given) p w (text_for form given p (found (Consequences w) Finished L best known))
 consequences-told Text given p w L best known all some =
     let told = consequences-all given.names (is_brief given) p w (answers p) best known all.2 some in
     (told.0, ap (λ (Ss : List Atoms). printed_text p (found (Consequences w) Finished Ss best known) (is_brief given) given.names) all.0 ∙ told.1)
 consequences-told Json given p w L best known all some = json-known (is_brief given) p w (answers p) L best known all.2 some
 
-tells-listed : (given : Options) (p : Program) (mode : Mode) (L : List Atoms) (best : Option (Atoms × List ℤ)) (known : Option Atoms) → reasoning_of mode ≡ None → IsAllFound given.all_optima p mode L best known
+tells-listed : (given : Options) (p : Program) (mode : Mode) (L : List Atoms) (best : Option (Atoms × List ℤ)) (known : Option Atoms) → reasoning_of mode ≡ None → IsAllFound given.all_optima false p mode L best known
     → has_model_in mode (found mode Finished L best known) ≡ true → TellsAll given p mode (text_for given.form given p (found mode Finished L best known))
 tells-listed given p Enum L best known listed is some =
     let all = (found-enum given.all_optima p L best known is).0 in
@@ -245,7 +247,7 @@ no-line : (names : Bool) (p : Program) → known_line names p None ≡ []
 no-line true p = refl
 no-line false p = refl
 
-lines-none : (all brief names : Bool) (p : Program) (mode : Mode) (L : List Atoms) (best : Option (Atoms × List ℤ)) (known : Option Atoms) → IsAllFound all p mode L best known
+lines-none : (all brief names : Bool) (p : Program) (mode : Mode) (L : List Atoms) (best : Option (Atoms × List ℤ)) (known : Option Atoms) → IsAllFound all false p mode L best known
     → has_model_in mode (found mode Finished L best known) ≡ false → (answers p ≡ []) × (printed_text p (found mode Finished L best known) brief names ≡ none_text mode)
 lines-none all brief names p Enum L best known is none =
     let empty = none-of L none in
@@ -266,7 +268,7 @@ lines-none all brief names p (Consequences w) L best known is none =
           ∙ ap (λ (x : List ℕ). x ++ ended_line (codes "UNSATISFIABLE")) (no-lines brief p),
     )
 
-json-none : (given : Options) (p : Program) (mode : Mode) (L : List Atoms) (best : Option (Atoms × List ℤ)) (known : Option Atoms) → IsAllFound given.all_optima p mode L best known
+json-none : (given : Options) (p : Program) (mode : Mode) (L : List Atoms) (best : Option (Atoms × List ℤ)) (known : Option Atoms) → IsAllFound given.all_optima false p mode L best known
     → has_model_in mode (found mode Finished L best known) ≡ false → json_text p (found mode Finished L best known) (is_brief given) ≡ json_found given p (found mode Finished [] None None)
 json-none given p Enum L best known is none = ap (λ (Ss : List Atoms). json_found given p (found Enum Finished Ss None None)) (none-of L none)
 json-none given p Opt L best known is none =
@@ -275,13 +277,13 @@ json-none given p Opt L best known is none =
 json-none given p (Consequences w) L best known is none =
     ap (λ (x : Option Atoms). json_text p (found (Consequences w) Finished L best x) (is_brief given)) (no-consequences p w (answers p) known (found-consequences given.all_optima p w L best known is).2 none).1
 
-none-told : (form : Form) (given : Options) (p : Program) (mode : Mode) (L : List Atoms) (best : Option (Atoms × List ℤ)) (known : Option Atoms) → IsAllFound given.all_optima p mode L best known
+none-told : (form : Form) (given : Options) (p : Program) (mode : Mode) (L : List Atoms) (best : Option (Atoms × List ℤ)) (known : Option Atoms) → IsAllFound given.all_optima false p mode L best known
     → has_model_in mode (found mode Finished L best known) ≡ false
     → InForm form (text_for form given p (found mode Finished L best known) ≡ none_text mode) (text_for form given p (found mode Finished L best known) ≡ json_found given p (found mode Finished [] None None))
 none-told Text given p mode L best known is none = (lines-none given.all_optima (is_brief given) given.names p mode L best known is none).1
 none-told Json given p mode L best known is none = json-none given p mode L best known is none
 
-tells-none : (given : Options) (p : Program) (mode : Mode) (L : List Atoms) (best : Option (Atoms × List ℤ)) (known : Option Atoms) → IsAllFound given.all_optima p mode L best known
+tells-none : (given : Options) (p : Program) (mode : Mode) (L : List Atoms) (best : Option (Atoms × List ℤ)) (known : Option Atoms) → IsAllFound given.all_optima false p mode L best known
     → has_model_in mode (found mode Finished L best known) ≡ false → TellsNone given p mode (text_for given.form given p (found mode Finished L best known))
 tells-none given p mode L best known is none = ((lines-none given.all_optima (is_brief given) given.names p mode L best known is none).0, none-told given.form given p mode L best known is none)
 
@@ -289,7 +291,7 @@ tells-none given p mode L best known is none = ((lines-none given.all_optima (is
 abbrev last_lines : ℕ → List ℕ
 last_lines n = closing (codes "LIMIT REACHED") (decimal n ++ codes "+")
 
-part-enum : (all : Bool) (p : Program) (r : Found) → IsPartOf all p Enum r → (chosen : Atoms → Bool) × (r.answers ≡ filter chosen (answers p))
+part-enum : (all : Bool) (p : Program) (r : Found) → IsPartOf all false p Enum r → (chosen : Atoms → Bool) × (r.answers ≡ filter chosen (answers p))
 part-enum true p r is = is.0
 part-enum false p r is = is.0
 
@@ -306,7 +308,7 @@ limited-opt brief p n (T ∷ L) (Some b) known some count part is = (
       ∙ ap (λ (k : ℕ). lines brief p (T ∷ L) ++ cost_line (cost p b.0) ++ last_lines k) count,
 )
 
-opt-limited : (all brief : Bool) (p : Program) (n : ℕ) (L : List Atoms) (best : Option (Atoms × List ℤ)) (known : Option Atoms) → asks_list all Opt ≡ true → 0 < n → length L ≡ n → IsPartOf all p Opt (found Opt Limited L best known) → IsBest p best
+opt-limited : (all brief : Bool) (p : Program) (n : ℕ) (L : List Atoms) (best : Option (Atoms × List ℤ)) (known : Option Atoms) → asks_list all Opt ≡ true → 0 < n → length L ≡ n → IsPartOf all false p Opt (found Opt Limited L best known) → IsBest p best
     → (S : Atoms) × (Ss : List Atoms) × Contains (optima p) S × ArePicked n (optima p) Ss × (plain_text p (found Opt Limited L best known) brief ≡ lines brief p Ss ++ cost_line (cost p S) ++ last_lines n)
 opt-limited true brief p n L best known listing some count part is = limited-opt brief p n L best known some count part.0 is
 opt-limited false brief p n L best known listing some count part is = absurd (false≢true listing)
@@ -316,7 +318,7 @@ enough-enum : (form : Form) (given : Options) (p : Program) (n : ℕ) (L : List 
 enough-enum Text given p n L best known count = joined (lines (is_brief given) p L) _ _ (ap last_lines count)
 enough-enum Json given p n L best known count = refl
 
-enough-json : (all : Bool) (given : Options) (p : Program) (n : ℕ) (L : List Atoms) (best : Option (Atoms × List ℤ)) (known : Option Atoms) → asks_list all Opt ≡ true → 0 < n → length L ≡ n → IsPartOf all p Opt (found Opt Limited L best known) → IsBest p best
+enough-json : (all : Bool) (given : Options) (p : Program) (n : ℕ) (L : List Atoms) (best : Option (Atoms × List ℤ)) (known : Option Atoms) → asks_list all Opt ≡ true → 0 < n → length L ≡ n → IsPartOf all false p Opt (found Opt Limited L best known) → IsBest p best
     → (S : Atoms) × (Ss : List Atoms) × Contains (optima p) S × ArePicked n (optima p) Ss × (json_found given p (found Opt Limited L best known) ≡ json_found given p (found Opt Limited Ss (Some (S, cost p S)) None))
 enough-json false given p n L best known listing some count part is = absurd (false≢true listing)
 enough-json true given p n [] best known listing some count part is = absurd (let f : ⊥ = omega (arith, some, count) in f)
@@ -325,7 +327,7 @@ enough-json true given p n (T ∷ L) (Some b) known listing some count part is =
     (b.0, T ∷ L, an-optimum p b.0 b.1 is, (part.0, count), ap (λ (c : List ℤ). json_found given p (found Opt Limited (T ∷ L) (Some (b.0, c)) None)) is.sums)
 
 enough-opt : (form : Form) (given : Options) (p : Program) (n : ℕ) (L : List Atoms) (best : Option (Atoms × List ℤ)) (known : Option Atoms) → asks_list given.all_optima Opt ≡ true → 0 < n → length L ≡ n
-    → IsPartOf given.all_optima p Opt (found Opt Limited L best known) → IsBest p best
+    → IsPartOf given.all_optima false p Opt (found Opt Limited L best known) → IsBest p best
     → (S : Atoms) × (Ss : List Atoms) × Contains (optima p) S × ArePicked n (optima p) Ss
     × InForm form (text_for form given p (found Opt Limited L best known) ≡ lines (is_brief given) p Ss ++ cost_line (cost p S) ++ last_lines n)
     (text_for form given p (found Opt Limited L best known) ≡ json_found given p (found Opt Limited Ss (Some (S, cost p S)) None))
@@ -333,7 +335,7 @@ enough-opt Text given p n L best known listing some count part is = opt-limited 
 enough-opt Json given p n L best known listing some count part is = enough-json given.all_optima given p n L best known listing some count part is
 
 tells-enough : (given : Options) (p : Program) (mode : Mode) (L : List Atoms) (best : Option (Atoms × List ℤ)) (known : Option Atoms) → asks_list given.all_optima mode ≡ true → 0 < given.models
-    → length L ≡ given.models → IsPartOf given.all_optima p mode (found mode Limited L best known) → HasBest p mode best → TellsEnough given p mode (text_for given.form given p (found mode Limited L best known))
+    → length L ≡ given.models → IsPartOf given.all_optima false p mode (found mode Limited L best known) → HasBest p mode best → TellsEnough given p mode (text_for given.form given p (found mode Limited L best known))
 tells-enough given p Enum L best known listing some count part is = (L, (part-enum given.all_optima p (found Enum Limited L best known) part, count), enough-enum given.form given p given.models L best known count)
 tells-enough given p Opt L best known listing some count part is = enough-opt given.form given p given.models L best known listing some count part is
 tells-enough given p (Consequences w) L best known listing some count part is = absurd (false≢true listing)
@@ -363,7 +365,7 @@ model-of Enum m end r = refl
 model-of Opt m end r = refl
 model-of (Consequences w) m end r = refl
 
-part-of : (all : Bool) (p : Program) (mode m : Mode) (end : End) (r : Found) → IsPartOf all p mode r → IsPartOf all p mode (found m end r.answers r.best r.known)
+part-of : (all : Bool) (p : Program) (mode m : Mode) (end : End) (r : Found) → IsPartOf all false p mode r → IsPartOf all false p mode (found m end r.answers r.best r.known)
 part-of false p Enum m end r is = is
 part-of false p Opt m end r is = is
 part-of false p (Consequences w) m end r is = is
@@ -376,6 +378,11 @@ named-last : (a b c : Bool) → b ≡ false → (a && b && c) ≡ false
 named-last true false c e = refl
 named-last false false c e = refl
 named-last a true c e = absurd (false≢true (sym e))
+
+last-of : (a b c : Bool) → (a && b && c) ≡ true → c ≡ true
+last-of true true c e = e
+last-of true false c e = absurd (false≢true e)
+last-of false b c e = absurd (false≢true e)
 
 last-named : (a b c d : Bool) → a ≡ true → b ≡ true → (a && b && c) ≡ d → c ≡ d
 last-named true true c d x y e = e
@@ -458,12 +465,12 @@ settled-from : (given : Options) → given.proof ≡ false → given.split ≡ N
 settled-from given plain whole = ap (λ (b : Bool). not (b || is_some given.split)) plain ∙ ap (λ (o : Option ℕ). not (is_some o)) whole
 
 all-asked : (given : Options) (p : Program) (mode : Mode) (L : List Atoms) (best : Option (Atoms × List ℤ)) (known : Option Atoms) → is_settled given ≡ true → IsSound p → HasNumbers given p → mode_of given.mode p ≡ mode
-    → IsAllFound given.all_optima (asked given p) mode L best known → has_model_in mode (found mode Finished L best known) ≡ true
+    → IsAllFound given.all_optima false (asked given p) mode L best known → has_model_in mode (found mode Finished L best known) ≡ true
     → TellsAll given p mode (text_for given.form given (asked given p) (found mode Finished L best known))
 all-asked given p Enum L best known settled sound numbers mode is some =
-    subst (λ (q : Program). IsAllFound given.all_optima q Enum L best known → TellsAll given p Enum (text_for given.form given q (found Enum Finished L best known))) (sym (asked-listed given p Enum mode refl)) (λ own. tells-listed given p Enum L best known refl own some) is
+    subst (λ (q : Program). IsAllFound given.all_optima false q Enum L best known → TellsAll given p Enum (text_for given.form given q (found Enum Finished L best known))) (sym (asked-listed given p Enum mode refl)) (λ own. tells-listed given p Enum L best known refl own some) is
 all-asked given p Opt L best known settled sound numbers mode is some =
-    subst (λ (q : Program). IsAllFound given.all_optima q Opt L best known → TellsAll given p Opt (text_for given.form given q (found Opt Finished L best known))) (sym (asked-listed given p Opt mode refl)) (λ own. tells-listed given p Opt L best known refl own some) is
+    subst (λ (q : Program). IsAllFound given.all_optima false q Opt L best known → TellsAll given p Opt (text_for given.form given q (found Opt Finished L best known))) (sym (asked-listed given p Opt mode refl)) (λ own. tells-listed given p Opt L best known refl own some) is
 all-asked given p (Consequences w) L best known settled sound numbers mode is some =
     consequences-asked given p w (text_for given.form given (asked given p) (found (Consequences w) Finished L best known)) (is_named given) settled sound numbers mode refl
     (consequences-told given.form given (asked given p) w L best known (found-consequences given.all_optima (asked given p) w L best known is) some)
@@ -473,24 +480,24 @@ none-in Text given p q w text told = told
 none-in Json given p q w text told = told
 
 nothing-asked : (given : Options) (p : Program) (mode : Mode) (L : List Atoms) (best : Option (Atoms × List ℤ)) (known : Option Atoms) → IsSound p → HasNumbers given p → mode_of given.mode p ≡ mode
-    → IsAllFound given.all_optima (asked given p) mode L best known → has_model_in mode (found mode Finished L best known) ≡ false
+    → IsAllFound given.all_optima false (asked given p) mode L best known → has_model_in mode (found mode Finished L best known) ≡ false
     → TellsNone given p mode (text_for given.form given (asked given p) (found mode Finished L best known))
 nothing-asked given p Enum L best known sound numbers mode is none =
-    subst (λ (q : Program). IsAllFound given.all_optima q Enum L best known → TellsNone given p Enum (text_for given.form given q (found Enum Finished L best known))) (sym (asked-listed given p Enum mode refl)) (λ own. tells-none given p Enum L best known own none) is
+    subst (λ (q : Program). IsAllFound given.all_optima false q Enum L best known → TellsNone given p Enum (text_for given.form given q (found Enum Finished L best known))) (sym (asked-listed given p Enum mode refl)) (λ own. tells-none given p Enum L best known own none) is
 nothing-asked given p Opt L best known sound numbers mode is none =
-    subst (λ (q : Program). IsAllFound given.all_optima q Opt L best known → TellsNone given p Opt (text_for given.form given q (found Opt Finished L best known))) (sym (asked-listed given p Opt mode refl)) (λ own. tells-none given p Opt L best known own none) is
+    subst (λ (q : Program). IsAllFound given.all_optima false q Opt L best known → TellsNone given p Opt (text_for given.form given q (found Opt Finished L best known))) (sym (asked-listed given p Opt mode refl)) (λ own. tells-none given p Opt L best known own none) is
 nothing-asked given p (Consequences w) L best known sound numbers mode is none =
     let told = tells-none given (asked given p) (Consequences w) L best known is none in
     (none-asked given p (is_named given) sound numbers refl told.0, none-in given.form given p (asked given p) w (text_for given.form given (asked given p) (found (Consequences w) Finished L best known)) told.1)
 
 enough-asked : (given : Options) (p : Program) (mode : Mode) (L : List Atoms) (best : Option (Atoms × List ℤ)) (known : Option Atoms) → mode_of given.mode p ≡ mode → asks_list given.all_optima mode ≡ true → 0 < given.models
-    → length L ≡ given.models → IsPartOf given.all_optima (asked given p) mode (found mode Limited L best known) → HasBest (asked given p) mode best
+    → length L ≡ given.models → IsPartOf given.all_optima false (asked given p) mode (found mode Limited L best known) → HasBest (asked given p) mode best
     → TellsEnough given p mode (text_for given.form given (asked given p) (found mode Limited L best known))
 enough-asked given p Enum L best known mode listing some count part is =
-    subst (λ (q : Program). IsPartOf given.all_optima q Enum (found Enum Limited L best known) → HasBest q Enum best → TellsEnough given p Enum (text_for given.form given q (found Enum Limited L best known))) (sym (asked-listed given p Enum mode refl))
+    subst (λ (q : Program). IsPartOf given.all_optima false q Enum (found Enum Limited L best known) → HasBest q Enum best → TellsEnough given p Enum (text_for given.form given q (found Enum Limited L best known))) (sym (asked-listed given p Enum mode refl))
     (λ own best-own. tells-enough given p Enum L best known listing some count own best-own) part is
 enough-asked given p Opt L best known mode listing some count part is =
-    subst (λ (q : Program). IsPartOf given.all_optima q Opt (found Opt Limited L best known) → HasBest q Opt best → TellsEnough given p Opt (text_for given.form given q (found Opt Limited L best known))) (sym (asked-listed given p Opt mode refl))
+    subst (λ (q : Program). IsPartOf given.all_optima false q Opt (found Opt Limited L best known) → HasBest q Opt best → TellsEnough given p Opt (text_for given.form given q (found Opt Limited L best known))) (sym (asked-listed given p Opt mode refl))
     (λ own best-own. tells-enough given p Opt L best known listing some count own best-own) part is
 enough-asked given p (Consequences w) L best known mode listing some count part is = absurd (false≢true listing)
 
@@ -502,7 +509,7 @@ text-of form p r brief names mode end m e =
 
 -- A report of such a run tells this.
 abbrev Telling : Options → End → Bool → (Program → Mode → List ℕ → Type 0) → Type 0
-Telling given end model Tells = (p : Program) (R : Report) → is_settled given ≡ true → IsSound p → HasNumbers given p → SaysReport (asked given p) (ask_of given p) R end
+Telling given end model Tells = (p : Program) (R : Report) → is_settled given ≡ true → IsSound p → HasNumbers given p → SaysReport (asked given p) (without_names (ask_of given p)) R end
     → has_model_in (mode_of given.mode p) (found (mode_of given.mode p) end R.results.answers R.results.best R.results.known) ≡ model
     → Tells p (mode_of given.mode p) (text_for given.form given (asked given p) (found (mode_of given.mode p) end R.results.answers R.results.best R.results.known))
 
@@ -513,17 +520,21 @@ wrote given a report end model Tells is_sent plain telling w sent =
     let q = asked given p in
     let done = w.solved.done in
     let F = set_aside given p in
-    let R = report_with F done in
+    let told = report_with F done in
+    let s = w.solved.says in
+    let R = with_known s.known told in
     let mode = mode_of given.mode p in
     let none : done.proof ≡ None = no-proof done.results.end done.results done.proof (subst (λ wanted. HasProof wanted done) plain w.solved.proof) in
-    let same : report_text q R (layout_of given) ≡ text_for given.form given q (found mode end R.results.answers R.results.best R.results.known) =
-    ap (λ proof. text_by proof q R.results (layout_of given)) none ∙ text-of given.form q R.results (is_brief given) given.names mode end w.solved.is.mode_is w.end_is in
+    let same : report_text q told (layout_of given) ≡ text_for given.form given q (found mode end R.results.answers R.results.best R.results.known) =
+    ap (λ proof. text_by proof q told.results (layout_of given)) none ∙ text-of given.form q told.results (is_brief given) given.names mode end w.solved.is.mode_is w.end_is
+    ∙ text-same given.form given.names (is_brief given) q mode end told.results.answers told.results.best told.results.known s.known (is_named given)
+    (last-of (is_settled given) (seeks_consequences (Some given.mode)) (given.names || is_json given.form)) s.same in
     record {
       program = p;
       input = input-of given.format given.make a p w.solved.source;
       text = text_for given.form given q (found mode end R.results.answers R.results.best R.results.known);
-      tells = telling p R (settled-from given plain w.solved.whole) w.solved.sound w.solved.numbers (subst (SaysReport q (ask_of given p) R) w.end_is w.solved.says)
-          (model-of mode mode end R.results ∙ ap (λ m. has_model_in m R.results) (sym w.solved.is.mode_is) ∙ model-with F done.results.mode done.results ∙ w.model_is);
+      tells = telling p R (settled-from given plain w.solved.whole) w.solved.sound w.solved.numbers (subst (SaysReport q (without_names (ask_of given p)) R) w.end_is s.says)
+          (model-same (is_named given) q mode end told.results.answers told.results.best s.known told.results.known s.same ∙ model-of mode mode end told.results ∙ ap (λ m. has_model_in m told.results) (sym w.solved.is.mode_is) ∙ model-with F done.results.mode done.results ∙ w.model_is);
       written = subst (Appends a.held a.held') same w.text;
       sent = sent;
     }
@@ -542,6 +553,7 @@ whole given a o is_sent plain runs sent = by o.status runs.means sent
     by status m sent = tt
 
 -- the same where the words of a run give these options
-pub whole-on : (own given : Options) (g : Given) (a : Around) (o : Outcome) (is_sent : Bool) → options own ≡ g → Runs own a o → IsSentOn o.status is_sent → g ≡ options given → given.proof ≡ false
+pub whole-on : (own given : Options) (g : Given) (a : Around) (o : Outcome) (is_sent : Bool) → options own ≡ g → RunsBy own.queries own a o → IsSentOn o.status is_sent → g ≡ options given → given.proof ≡ false → given.queries ≡ false
     → IsWhole given a.left a.held a.held' is_sent o.status
-whole-on own given g a o is_sent first runs sent second plain = whole given a o is_sent plain (subst (λ x. RunsOn x a o) (first ∙ second) runs) sent
+whole-on own given g a o is_sent first runs sent second plain one =
+    whole given a o is_sent plain (subst (λ (b : Bool). RunsBy b given a o) one (subst (λ (x : Given). RunsOn x a o) (first ∙ second) runs)) sent

@@ -12,3 +12,5 @@ pub mod Whole
 pub mod Words
 pub mod Formats
 pub mod Loops
+pub mod Series
+pub mod Asking

@@ -10,7 +10,9 @@ use Rattle.asp_model.specs.declared.results.Ask.{Ask}
 use Rattle.asp_model.specs.declared.results.End.{End}
 use Rattle.asp_model.specs.declared.results.End.TheVariants.{Finished, Limited, Unfinished}
 use Rattle.asp_model.specs.Found.{Found}
+use Rattle.asp_model.specs.Sets.{Atoms}
 use Rattle.asp_model.specs.Sound.{IsSound}
+use Rattle.asp_model.specs.Texts.{shown}
 use Rattle.asp_equal.specs.declared.reduce.Aside.{Aside}
 use Rattle.asp_equal.specs.Reduced.{restored}
 use Rattle.asp_named.specs.Named.{has_numbers}
@@ -28,7 +30,6 @@ use Rattle.asp_make.specs.Ring.{ring}
 use Rattle.asp_make.specs.Texts.{parts_text}
 use Rattle.asp_cli.specs.Given.{Given, help, misuse, options, version}
 use Rattle.asp_cli.specs.declared.Options.{Options}
-use Rattle.asp_cli.specs.Texts.{help_page, version_line}
 use Rattle.asp_model.specs.Models.{atoms_of}
 use Rattle.asp_vars.specs.Numbering.{bodies_of}
 use Rattle.asp_counts.specs.Telling.{AreNumbered}
@@ -103,7 +104,7 @@ report_text p r layout = text_by r.proof p r.results layout
 
 -- what is asked of the program by the options
 abbrev pub ask_of : Options → Program → Ask
-ask_of given p = record { mode = mode_of given.mode p; models = given.models; all_optima = given.all_optima }
+ask_of given p = record { mode = mode_of given.mode p; models = given.models; all_optima = given.all_optima; by_name = is_named given }
 
 -- ---- outputs get atoms, and facts and copies are set aside, before the search
 -- the program that is searched
@@ -126,13 +127,32 @@ report_with A r = record r { results = found_with A r.results }
 abbrev pub told_with : Aside → Report → Report
 told_with A r = record r { results = record r.results { known = option_map (restored A) r.results.known } }
 
+-- what is asked by name without the names: what holds in some answer, or in each, of all atoms
+abbrev pub without_names : Ask → Ask
+without_names ask = record ask { by_name = false }
+
+-- the report with this set of consequences
+abbrev pub with_known : Option Atoms → Report → Report
+with_known known r = record r { results = record r.results { known = known } }
+
+-- The set told shows the same texts as this one where consequences are told by name, and else it is this one.
+abbrev pub ShowsAs : Bool → Program → Option Atoms → Option Atoms → Type 0
+ShowsAs false p known told = told ≡ known
+ShowsAs true p known told = option_map (shown p) told ≡ option_map (shown p) known
+
+-- The report says of the program what was asked. By name its set of consequences isn't the program's, but shows the same texts.
+pub record SaysOf (p : Program) (ask : Ask) (r : Report) (end : End) : Type 0 where
+  pub known : Option Atoms
+  pub says : SaysReport p (without_names ask) (with_known known r) end
+  pub same : ShowsAs ask.by_name p known r.results.known
+
 -- There are numbers where outputs need atoms.
 abbrev pub HasNumbers : Options → Program → Type 0
 HasNumbers given p = is_named given ≡ true → has_numbers p ≡ true
 
 -- No parts are asked for. The report is that of a run on what is left of the program, with what is asked and the units that were given;
 -- with what was set aside it says of the program what was asked, and has a proof if that was asked for. Where consequences are told by name all
--- this is about the program with atoms for its outputs.
+-- this is about the program with atoms for its outputs, and the texts of those are what is said.
 pub record IsSolved (given : Options) (a : Around) (report : Option Report) : Type 0 where
   pub program : Program
   pub source : IsGiven given.format given.make a program
@@ -142,7 +162,7 @@ pub record IsSolved (given : Options) (a : Around) (report : Option Report) : Ty
   pub done : Report
   pub reports : report ≡ Some (told_with (set_aside given program) done)
   pub is : IsReport (searched given program) (ask_of given program) given.budget done
-  pub says : SaysReport (asked given program) (ask_of given program) (report_with (set_aside given program) done) done.results.end
+  pub says : SaysOf (asked given program) (ask_of given program) (report_with (set_aside given program) done) done.results.end
   pub proof : HasProof given.proof done
 
 -- the closing lines alone are written of a ring, and where they were asked for
@@ -357,16 +377,9 @@ pub record Misuses (a : Around) (o : Outcome) : Type 0 where
   pub untouched : IsUntouched a o.report
   pub unasked : IsUnasked a
 
--- a run whose words give this
-abbrev pub RunsOn : Given → Around → Outcome → Type 0
-RunsOn help a o = Helps help_page a o
-RunsOn version a o = Helps version_line a o
-RunsOn (misuse m) a o = Misuses a o
-RunsOn (options given) a o = Runs given a o
-
--- No workers are started: one search does it all with one worker, and none where parts are asked for.
+-- No workers are started: one search does it all with one worker and of queries, and none where parts are asked for.
 abbrev pub is_alone : Options → Bool
-is_alone given = (given.workers == 1) || is_some given.split
+is_alone given = (given.workers == 1) || is_some given.split || given.queries
 
 -- how many workers are started
 abbrev pub crew_of : Options → ℕ

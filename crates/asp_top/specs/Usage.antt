@@ -1,6 +1,6 @@
 -- What the notes say of a faulty command line.
 use Rattle.std.specs.Prelude.{ℕ, List, [], ◌++◌, codes, Option, Some, None}
-use Rattle.asp_cli.specs.Given.{Misuse, bad_value, missing, no_words, rivals, twice, unbuilt, unexpected, unknown}
+use Rattle.asp_cli.specs.Given.{Misuse, bad_value, missing, no_words, rivals, twice, unexpected, unknown}
 use Rattle.asp_cli.specs.Hints.{counterpart, nearest}
 use Rattle.asp_cli.specs.Names.{takes_of, text_of}
 use Rattle.asp_cli.specs.Texts.{usage_lines}
@@ -27,7 +27,6 @@ misuse_text (unexpected w) = codes "unexpected argument " ++ w ++ codes " (the p
 misuse_text (twice n) = text_of n ++ codes " is given twice"
 misuse_text (missing n) = codes "a value is missing after " ++ text_of n
 misuse_text (rivals m n) = text_of m ++ codes " and " ++ text_of n ++ codes " exclude each other"
-misuse_text (unbuilt n) = text_of n ++ codes " is not built yet"
 misuse_text (bad_value n v) = text_of n ++ codes " takes " ++ takes_of n ++ (codes ", not " ++ v)
 
 -- the end of a fault's line, and the usage lines

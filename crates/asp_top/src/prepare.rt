@@ -40,7 +40,8 @@ pub struct Prepared {
     pub aside: Aside,
 }
 
-fn status_of(error: ReadError) -> Status
+/// How a run ends that read no program.
+pub fn status_of(error: ReadError) -> Status
     ensures { result ≡ status_of error }
 {
     match error {
@@ -76,8 +77,8 @@ fn seeks_consequences(mode: Option<Mode>) -> bool
     }
 }
 
-// Whether consequences are told by name.
-fn is_named(options: &Options) -> bool
+/// Whether consequences are told by name.
+pub fn is_named(options: &Options) -> bool
     ensures { result ≡ is_named options.now }
 {
     is_settled(options)
@@ -134,8 +135,8 @@ fn divided(alloc: Global, options: &Options, program: Program) -> Result<Prepare
     }
 }
 
-// What is searched of the program, compiled.
-fn ready(alloc: Global, options: &Options, program: Program) -> Result<Prepared, Status>
+/// What is searched of the program, compiled.
+pub fn ready(alloc: Global, options: &Options, program: Program) -> Result<Prepared, Status>
     requires { IsSound program }
     ensures same { IfOk result (λ prepared. prepared ≡ prepared_of options.now program) }
     ensures numbers { OnOk result (HasNumbers options.now program) }

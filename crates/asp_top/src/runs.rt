@@ -2,12 +2,13 @@
 ghost use Rattle.std.specs.Prelude.{◌≡◌, None, IfSome, OnOk, false, true, map, string_bytes};
 ghost use Rattle.asp_cli.specs.Given.{fault_seen, options, words_give};
 ghost use Rattle.asp_cli.specs.declared.Options.{Options};
-ghost use Rattle.asp_cli.specs.Found.{IsApart};
+ghost use Rattle.asp_cli.specs.Found.{IsApart, IsAsking};
 ghost use Rattle.asp_cli.specs.Texts.{help_page, version_line};
 ghost use Rattle.asp_cli.specs.Values.{IsCrew, IsPartCount, IsRing};
 ghost use Rattle.asp_top.specs.Notes.{IsNoted, Writes, note_of};
 ghost use Rattle.asp_top.specs.Usage.{misuse_note};
-ghost use Rattle.asp_top.specs.Runs.{Does, IsCounted, IsSentOn, NotesOn, NotesRun, Runs, RunsOn, TellsClosed, TellsFaults, TextMeans, around, crew_of, is_alone, prepared_of};
+ghost use Rattle.asp_top.specs.Runs.{Does, IsCounted, IsSentOn, NotesOn, NotesRun, Runs, TellsClosed, TellsFaults, TextMeans, around, crew_of, is_alone, prepared_of};
+ghost use Rattle.asp_top.specs.Series.{RunsBy, RunsOn};
 ghost use Rattle.asp_top.specs.Whole.{IsWhole};
 ghost use Rattle.asp_model.specs.declared.program.Program.{Program};
 
@@ -18,6 +19,7 @@ use crate::parts::divide;
 use crate::prepare::{Prepared, prepare};
 use crate::progress::{Progress, end};
 use crate::search::{solve, solve_by_crew};
+use crate::series::run_series;
 use crate::status::{Outcome, Status};
 use crate::usage::{note_misuse, write_three};
 use asp_cli::{CliError, Options, WordFault, page_back, page_front, usage, version};
@@ -117,6 +119,34 @@ fn outcome_alone<S: Source, K: Sink, W: Watch>(
     }
 }
 
+// The outcome of a run after the words that starts no workers, with queries or without.
+fn outcome<S: Source, K: Sink, W: Watch>(
+    alloc: Global,
+    options: &Options,
+    source: &mut S,
+    sink: &mut K,
+    tally: &mut Tally,
+    watch: &mut W,
+) -> Outcome
+    requires ring { IsRing options.now.make }
+    requires parts { IsPartCount options.now.split }
+    requires apart { IsApart options.now }
+    requires asking { IsAsking options.now }
+    ensures runs { RunsBy options.now.queries options.now (around (S.left source.old) (S.left source.new) (S.faults source.old) (S.faults source.new)
+        (K.held sink.old) (K.held sink.new) (K.faults sink.old) (K.faults sink.new)) result }
+    ensures flushed { TellsFaults (K.faults sink.old) (K.faults sink.new) result.status }
+    ensures sent { IsSentOn result.status (K.is_sent sink.new) }
+    ensures closed { TellsClosed result.status (K.is_closed sink.new) }
+    ensures counted { IfSome result.report (IsCounted 0 tally.new) }
+    ensures heard { W.IsAfter watch.old watch.new }
+{
+    if options.queries {
+        run_series(alloc, options, source, sink, watch)
+    } else {
+        outcome_alone(alloc, options, source, sink, tally, watch)
+    }
+}
+
 // The same where workers side by side solve it. The watch comes back.
 fn outcome_by_crew<R: Threads + Wait + Sync, S: Source, K: Sink, G: Gate + Sync, W: Watch + Drop>(
     rt: &R,
@@ -165,9 +195,10 @@ pub fn run_alone<S: Source, K: Sink, N: Sink>(
     requires ring { IsRing options.now.make }
     requires parts { IsPartCount options.now.split }
     requires apart { IsApart options.now }
-    ensures runs { Runs options.now (around (S.left source.old) (S.left source.new) (S.faults source.old) (S.faults source.new)
+    requires asking { IsAsking options.now }
+    ensures runs { RunsBy options.now.queries options.now (around (S.left source.old) (S.left source.new) (S.faults source.old) (S.faults source.new)
         (K.held sink.old) (K.held sink.new) (K.faults sink.old) (K.faults sink.new)) result }
-    ensures whole { options.now.proof ≡ false → IsWhole options.now (S.left source.old) (K.held sink.old) (K.held sink.new) (K.is_sent sink.new) result.status }
+    ensures whole { options.now.proof ≡ false → options.now.queries ≡ false → IsWhole options.now (S.left source.old) (K.held sink.old) (K.held sink.new) (K.is_sent sink.new) result.status }
     ensures flushed { TellsFaults (K.faults sink.old) (K.faults sink.new) result.status }
     ensures sent { IsSentOn result.status (K.is_sent sink.new) }
     ensures closed { TellsClosed result.status (K.is_closed sink.new) }
@@ -175,7 +206,7 @@ pub fn run_alone<S: Source, K: Sink, N: Sink>(
 {
     let mut tally = Tally::new(alloc);
     let mut progress = Progress::new(notes, options.progress);
-    let outcome = outcome_alone(alloc, options, source, sink, &mut tally, &mut progress);
+    let outcome = outcome(alloc, options, source, sink, &mut tally, &mut progress);
     let Progress {
         notes,
         on: _,
@@ -222,11 +253,11 @@ fn run_by_crew<R: Threads + Wait + Sync, S: Source, K: Sink, N: Sink, G: Gate + 
     outcome
 }
 
-// Whether no workers are started: with one worker, and where nothing is solved.
+// Whether no workers are started: with one worker, of queries, and where nothing is solved.
 fn is_alone(options: &Options) -> bool
     ensures { result ≡ is_alone options.now }
 {
-    options.workers == 1 || options.split.is_some()
+    options.workers == 1 || options.split.is_some() || options.queries
 }
 
 // A run after the words, with as many workers as are asked for. One search starts no thread.
@@ -243,7 +274,8 @@ fn run_given<R: Threads + Wait + Sync, S: Source, K: Sink, N: Sink, G: Gate + Sy
     requires crew { IsCrew options.now.workers }
     requires parts { IsPartCount options.now.split }
     requires apart { IsApart options.now }
-    ensures runs { Runs options.now (around (S.left source.old) (S.left source.new) (S.faults source.old) (S.faults source.new)
+    requires asking { IsAsking options.now }
+    ensures runs { RunsBy options.now.queries options.now (around (S.left source.old) (S.left source.new) (S.faults source.old) (S.faults source.new)
         (K.held sink.old) (K.held sink.new) (K.faults sink.old) (K.faults sink.new)) result }
     ensures flushed { TellsFaults (K.faults sink.old) (K.faults sink.new) result.status }
     ensures sent { IsSentOn result.status (K.is_sent sink.new) }
@@ -320,7 +352,7 @@ pub fn run<R: Threads + Wait + Sync, S: Source, K: Sink, N: Sink, G: Gate + Sync
 ) -> Outcome
     ensures runs { RunsOn (words_give (map string_bytes words.now)) (around (S.left source.old) (S.left source.new) (S.faults source.old) (S.faults source.new)
         (K.held sink.old) (K.held sink.new) (K.faults sink.old) (K.faults sink.new)) result }
-    ensures whole { (given : Options) → words_give (map string_bytes words.now) ≡ options given → given.proof ≡ false
+    ensures whole { (given : Options) → words_give (map string_bytes words.now) ≡ options given → given.proof ≡ false → given.queries ≡ false
         → IsWhole given (S.left source.old) (K.held sink.old) (K.held sink.new) (K.is_sent sink.new) result.status }
     ensures flushed { TellsFaults (K.faults sink.old) (K.faults sink.new) result.status }
     ensures sent { IsSentOn result.status (K.is_sent sink.new) }

@@ -11,7 +11,7 @@ ghost use Rattle.asp_top.specs.Runs.{Concludes, IsCounted, IsSentOn, Solves, Tel
 use crate::counts::Tally;
 use crate::deliver::{Layout, deliver, failed};
 use crate::loops::loops;
-use crate::prepare::Prepared;
+use crate::prepare::{Prepared, is_named};
 use crate::solve::mode_of;
 use crate::status::{Outcome, Status};
 use asp_cli::Options;
@@ -40,6 +40,7 @@ fn ask_of(options: &Options, program: &Program) -> Ask
         mode: mode_of(options.mode, program),
         models: options.models,
         all_optima: options.all_optima,
+        by_name: is_named(options),
     }
 }
 

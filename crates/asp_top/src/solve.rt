@@ -20,8 +20,8 @@ pub fn mode_of(asked: Option<Mode>, program: &Program) -> Mode
     }
 }
 
-// Whether a model was recorded.
-fn has_model(results: &Results<Sets>) -> bool
+/// Whether a model was recorded.
+pub fn has_model(results: &Results<Sets>) -> bool
     ensures { result ≡ has_model results.now }
 {
     match results.mode {

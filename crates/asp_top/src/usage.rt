@@ -122,7 +122,6 @@ fn write_fault<N: Sink>(notes: &mut N, fault: &WordFault<'_>) -> Result<(), Fail
         ),
         WordFault::Value(name, value) => write_value(notes, *name, value),
         WordFault::Rivals(first, second) => write_rivals(notes, *first, *second),
-        WordFault::Unbuilt(name) => write_both(notes, name.text().as_bytes(), b" is not built yet"),
     }
 }
 

@@ -1,20 +1,25 @@
-use Rattle.std.proofs.Common.{refl, rules}
+use Rattle.std.proofs.Common.{Bool, refl, rules, subst}
+use Rattle.asp_top.specs.Runs.{around}
+use Rattle.asp_top.specs.Series.{RunsBy}
 use Rattle.asp_top.specs.Telling.{point}
 use Rattle.asp_top.proofs.WholeLaws.{whole}
 use Rattle.asp_top.proofs.TellLaws.{moved, told_in_all}
 use Rattle.asp_top.proofs.runs.run_alone.Goals as goal
 
 pub returns-clause-whole : goal.returns-clause-whole
-returns-clause-whole g c = λ plain. whole c.args.options.now _ _ _ plain c.outcome_alone-outcome.ensures.runs c.outcome_alone-outcome.ensures.sent
+returns-clause-whole g c = λ plain one.
+    let a = around (g.S.Source.left c.args.source.now) (g.S.Source.left c.outcome-outcome.new.source) (g.S.Source.faults c.args.source.now) (g.S.Source.faults c.outcome-outcome.new.source)
+    (g.K.Sink.held c.args.sink.now) (g.K.Sink.held c.outcome-outcome.new.sink) (g.K.Sink.faults c.args.sink.now) (g.K.Sink.faults c.outcome-outcome.new.sink) in
+    whole c.args.options.now a c.outcome-outcome.result _ plain (subst (λ (b : Bool). RunsBy b c.args.options.now a c.outcome-outcome.result) one c.outcome-outcome.ensures.runs) c.outcome-outcome.ensures.sent
 
 pub returns-clause-notes : goal.returns-clause-notes
 returns-clause-notes g c = record {
-  tally = c.outcome_alone-outcome.new.tally;
-  counted = c.outcome_alone-outcome.ensures.counted;
+  tally = c.outcome-outcome.new.tally;
+  counted = c.outcome-outcome.ensures.counted;
   told = moved g.N.Sink.held g.N.Sink.faults _ _ _ _ c.end.new.notes _
-      (search (rules, c.outcome_alone-outcome.ensures.heard.0, c.new-progress.ensures.same))
+      (search (rules, c.outcome-outcome.ensures.heard.0, c.new-progress.ensures.same))
       (told_in_all c.args.options.now.progress c.new-progress.result.on (g.N.Sink.held c.args.notes.now) (g.N.Sink.faults c.args.notes.now)
       (point (g.N.Sink.held c.new-progress.result.notes.now) (g.N.Sink.faults c.new-progress.result.notes.now) c.new-progress.result.state c.new-progress.result.last)
-      (point (g.N.Sink.held c.outcome_alone-outcome.new.watch.notes.now) (g.N.Sink.faults c.outcome_alone-outcome.new.watch.notes.now) c.outcome_alone-outcome.new.watch.state c.outcome_alone-outcome.new.watch.last)
-      _ _ _ c.new-progress.ensures.on (rw (c.new-progress.ensures.now, c.new-progress.ensures.state, c.new-progress.ensures.last) refl) c.outcome_alone-outcome.ensures.heard.2 c.end.ensures);
+      (point (g.N.Sink.held c.outcome-outcome.new.watch.notes.now) (g.N.Sink.faults c.outcome-outcome.new.watch.notes.now) c.outcome-outcome.new.watch.state c.outcome-outcome.new.watch.last)
+      _ _ _ c.new-progress.ensures.on (rw (c.new-progress.ensures.now, c.new-progress.ensures.state, c.new-progress.ensures.last) refl) c.outcome-outcome.ensures.heard.2 c.end.ensures);
 }

@@ -11,6 +11,3 @@ returns-in-Twice g c = rw c.in-Twice.is (rw (c.as_bytes-in-Twice.ensures.value, 
 
 pub returns-in-Missing : goal.returns-in-Missing
 returns-in-Missing g c = rw c.in-Missing.is (rw (c.as_bytes-in-Missing.ensures.value, c.text-in-Missing.ensures) at c.write_both-in-Missing.ensures)
-
-pub returns-in-Unbuilt : goal.returns-in-Unbuilt
-returns-in-Unbuilt g c = rw c.in-Unbuilt.is (rw (c.as_bytes-in-Unbuilt.ensures.value, c.text-in-Unbuilt.ensures) at c.write_both-in-Unbuilt.ensures)

@@ -1,0 +1,19 @@
+use Rattle.asp_read.specs.declared.fault.ReadError.TheVariants as errors
+use Rattle.asp_top.proofs.SeriesLaws.{ok-no-fault, runs-asked, runs-unread, unread-closed, unread-sent}
+use Rattle.asp_top.proofs.series.run_series.Goals as goal
+
+pub returns-in-Ok-clause-runs : goal.returns-in-Ok-clause-runs
+returns-in-Ok-clause-runs g c =
+    let read = c.in-Ok.ensures in
+    runs-asked c.args.options.now _ _ _ _ _ _ _ _ c.in-Ok.series c.ask_all-status.result c.failed.result c.failed.ensures read.text read.some_text read.end read.sound read.later (read.quiet (ok-no-fault c.in-Ok.series errors.ReadFault)) c.ask_all-status.ensures.asks
+
+pub returns-in-Err-clause-runs : goal.returns-in-Err-clause-runs
+returns-in-Err-clause-runs g c =
+    let read = c.in-Err.ensures in
+    runs-unread c.args.options.now _ _ _ _ _ _ c.in-Err.error c.status_of.result c.failed-in-Err.result c.failed-in-Err.ensures c.status_of.ensures read.text read.some_text read.later read.cause read.stops read.quiet
+
+pub returns-in-Err-clause-sent : goal.returns-in-Err-clause-sent
+returns-in-Err-clause-sent g c = unread-sent c.in-Err.error c.status_of.result c.failed-in-Err.result _ c.failed-in-Err.ensures c.status_of.ensures
+
+pub returns-in-Err-clause-closed : goal.returns-in-Err-clause-closed
+returns-in-Err-clause-closed g c = unread-closed c.in-Err.error c.status_of.result c.failed-in-Err.result _ c.failed-in-Err.ensures c.status_of.ensures
