@@ -3,7 +3,7 @@
 :- #sum { 20 : disk; 150 : card; 10 : fan; 100 : board } > 260.
 cooled :- fan.
 :- card, not cooled.
-% Two fans' noise is heard in a quiet case, and so is a card's.
+% A card is heard in a quiet case, and so are a fan and a disk together.
 :- quiet_case, card.
 :- quiet_case, fan, disk.
 #show disk/0. #show card/0. #show fan/0. #show board/0. #show quiet_case/0.

@@ -25,11 +25,11 @@ notes=$(mktemp)
 wanted=$(mktemp)
 trap 'rm -f "$given" "$notes" "$wanted"' EXIT
 
-# An example's words, if it has any, stand in its file .words. The ending says the format.
-for text in examples/*.aspif examples/*.smodels; do
+# An example's words, if it has any, stand in its file .words. The ending says the format; a series is aspif with queries.
+for text in examples/*.aspif examples/*.smodels examples/*.series; do
     expected=${text%.*}.out
     words=$(cat "${text%.*}.words" 2> /dev/null)
-    [ "${text##*.}" = aspif ] || words="--format ${text##*.} $words"
+    [ "${text##*.}" != smodels ] || words="--format smodels $words"
     status=30
     grep -q UNSATISFIABLE "$expected" && ! grep -qx SATISFIABLE "$expected" && status=20
     grep -q 'LIMIT REACHED' "$expected" && status=11
@@ -187,7 +187,7 @@ sed -nE 's/^Decisions: ([0-9]+)$/\1/p; s/^Worker .* decisions ([0-9]+),.*/-\1/p'
 check "the second search is counted" 30 "$wanted" "$status" "$given"
 
 # Each example stands in the list of examples.
-for text in examples/*.aspif examples/*.smodels; do
+for text in examples/*.aspif examples/*.smodels examples/*.series; do
     name=$(basename "${text%.*}")
     grep -qF "\`$name\`" examples/README.md || { echo "failed: examples/README.md doesn't list $name"; failed=$((failed + 1)); }
 done

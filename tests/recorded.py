@@ -24,7 +24,7 @@ def rows():
     """The texts of rows.txt that are solved, each with its format."""
     for line in open(join(HERE, "rows.txt")):
         status, words, text, _ = line.rstrip("\n").split("~")
-        if int(status) in SOLVED and not any(it in words for it in ("--make", "--budget")):
+        if int(status) in SOLVED and not any(it in words for it in ("--make", "--budget", "--queries")):
             yield "smodels" if "smodels" in words else "aspif", text.encode().decode("unicode_escape").encode("latin-1").rstrip(b"\n") + b"\n"
 
 
