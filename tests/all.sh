@@ -18,7 +18,6 @@ step tests/memory.sh "$1" 128
 step python3 tests/recorded.py "$1" "$2"
 step python3 tests/second.py "$1" "$2"
 step python3 tests/json_output.py "$1"
-step python3 tests/queries.py "$1 --core-min" 60
 step python3 tests/python.py "$1"
 [ ${#failed[@]} -eq 0 ] || { echo "all: failed: ${failed[*]}"; exit 1; }
 echo "all: passed"
