@@ -7,10 +7,13 @@ Each program has five queries. What is written for a query has to be what the re
 query's literals assumed; in an optimisation the closing lines, cost and count. There has to be a core exactly where there is
 no answer: some of the program's assumptions and the query's literals, by ascending atoms and each once, such that the program
 without its own assumptions and with these has no answer. A core that is called minimal must have answers without each of its
-literals, and with --core-min each has to be.
+literals, and with --core-min each has to be. Before that one series is asked whose second query has no end for a test: the first
+one's results have to be there.
 """
 import random
+import subprocess
 import sys
+import threading
 
 import compare
 import reference
@@ -94,8 +97,41 @@ def differs(program, text, asked, mode):
     return None
 
 
+def pigeons(count):
+    """As many pigeons in one hole fewer, each in one at least: the query that asks for it has no answer, found by no short search."""
+    atom = {(i, j): 2 + i * count + j for i in range(count) for j in range(count - 1)}
+    lines = [f"1 1 {len(atom)} {' '.join(map(str, atom.values()))} 0 0", "1 1 1 1 0 0"]
+    for i in range(count):
+        absent = [-atom[i, j] for j in range(count - 1)]
+        lines.append(" ".join(map(str, [1, 0, 0, 0, len(absent) + 1, 1, *absent])))
+    lines += [f"1 0 0 0 2 {atom[i, j]} {atom[k, j]}" for j in range(count - 1) for i in range(count) for k in range(i)]
+    return "asp 1 0 0\n" + "\n".join(lines) + "\n4 4 calm 1 -1\n0\n"
+
+
+def sends_on(program):
+    """Whether a query's results are there while the next one is searched."""
+    asked = pigeons(13) + statement([-1]) + statement([1]) + "0\n"
+    with subprocess.Popen([*program, "--queries", "--mode", "opt", "--quiet"], stdin=subprocess.PIPE, stdout=subprocess.PIPE, text=True) as running:
+        late = threading.Timer(60, running.kill)
+        late.start()
+        running.stdin.write(asked)
+        running.stdin.close()
+        told = [running.stdout.readline() for _ in range(4)]
+        late.cancel()
+        try:
+            running.wait(0.5)
+            goes_on = False
+        except subprocess.TimeoutExpired:
+            goes_on = True
+        running.kill()
+    return told == ["Query: 1\n", "Optimization:\n", "OPTIMUM FOUND\n", "Models: 1\n"] and goes_on
+
+
 def main():
     program = sys.argv[1].split()
+    if not sends_on(program):
+        print("a query's results aren't sent on before the next begins")
+        return True
     count = int(sys.argv[2]) if len(sys.argv) > 2 else 100
     random_ = random.Random(int(sys.argv[3]) if len(sys.argv) > 3 else 1)
     different = 0
