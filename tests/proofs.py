@@ -184,8 +184,14 @@ def listed(numbered, mode):
     return [min(found, key=lambda s: reference.cost(numbered.program, s))]
 
 
+def placed(line):
+    """The line as a proof has it: known for good, and without names."""
+    kind, rest = line[:1], line[1:]
+    return f"o 0{rest}" if kind == "o" else f"l 0{rest} 0" if kind == "l" else line
+
+
 def proof_of(numbered, mode, answers, lines):
-    return "\n".join(["proof 1", mode] + [f"a {counted(sorted(s))}" for s in answers] + lines + ["0", ""])
+    return "\n".join(["proof 2", mode] + [f"a {counted(sorted(s))}" for s in answers] + [placed(it) for it in lines] + ["0", ""])
 
 
 def needed(numbered, mode, answers, lines, is_a_yes):
@@ -240,14 +246,14 @@ def hostile(text, r):
     lines = text.split("\n")
     yield text[: r.randrange(len(text) - 1)]
     yield text + "0\n"
-    yield text.replace("proof 1\n", "proof 2\n")
+    yield text.replace("proof 2\n", "proof 1\n")
     yield "\n".join([lines[1], lines[0]] + lines[2:])
     at = r.randrange(2, len(lines) - 2)
-    for word in ("18446744073709551616", "9" * 100, "2147483648", "-0", "+1", "01", "x", "", "1  1"):
+    for word in ("18446744073709551616", "9" * 100, "4294967296", "-0", "+1", "01", "x", "", "1  1"):
         words = lines[at].split()
         words[r.randrange(1, len(words))] = word
         yield "\n".join(lines[:at] + [" ".join(words)] + lines[at + 1 :])
-    yield "\n".join(lines[:at] + ["l 1 " + "1" * 100000] + lines[at:])
+    yield "\n".join(lines[:at] + ["l 0 1 " + "1" * 100000 + " 0"] + lines[at:])
     yield "\n".join(lines[:at] + ["c 4294967295 1"] + lines[at:])
     yield text.replace("\n", "\r\n")
 

@@ -8,7 +8,7 @@ It writes what aspcheck writes on standard output, and ends with the same status
 import re
 import sys
 
-MOST_BYTES, MOST, LEAST = 268435456, 2147483647, -2147483648
+MOST_BYTES, MOST, LEAST, MOST_NATURAL = 268435456, 2147483647, -2147483648, 4294967295
 NO, USAGE, PROGRAM, TOO_LONG, PROOF = 1, 64, 65, 67, 68
 
 
@@ -149,7 +149,7 @@ def read_smodels(text):
     return program.finish()
 
 
-# ---- proofs: the lines after the first two, as they come, each with its set and its nogood
+# ---- proofs: the lines after the first two, as they come, each with its place, its set and its nogood. Names aren't looked at.
 def counted(numbers):
     need(numbers and 0 <= numbers[0] < len(numbers), PROOF)
     return numbers[1:numbers[0] + 1], numbers[numbers[0] + 1:]
@@ -161,20 +161,26 @@ def lines_of_proof(text):
     for number, line in enumerate(lines, 1):
         need(len(line) <= MOST_BYTES, TOO_LONG)
         if line == b"0":
-            yield line, [], []
+            yield line, 0, [], []
             need(number == len(lines) and not rest, PROOF)
             return
         need(re.fullmatch(rb"[aolc]( (0|-?[1-9][0-9]*))+", line), PROOF)
-        kind, numbers, atoms, nogood = line[:1], [int(word) for word in line.split()[1:]], [], []
-        need(max(map(abs, numbers)) <= MOST and (kind != b"a" or are_sets), PROOF)
+        kind, numbers, place, atoms, nogood = line[:1], [int(word) for word in line.split()[1:]], 0, [], []
+        need(kind != b"a" or are_sets, PROOF)
+        if kind in b"ol":
+            place, numbers = numbers[0], numbers[1:]
+            need(0 <= place <= MOST_NATURAL, PROOF)
         if kind in b"ao":
             atoms, numbers = counted(numbers)
             need(atoms == sorted(set(atoms)) and all(atom > 0 for atom in atoms) and (atoms or kind == b"a"), PROOF)
         if kind != b"a":
             nogood, numbers = counted(numbers)
-        need(not numbers and 0 not in nogood, PROOF)
+        if kind == b"l":
+            names, numbers = counted(numbers)
+            need(all(0 <= name <= MOST_NATURAL for name in names), PROOF)
+        need(not numbers and 0 not in nogood and max(map(abs, atoms + nogood), default=0) <= MOST, PROOF)
         are_sets = kind == b"a"
-        yield kind, atoms, nogood
+        yield kind, place, atoms, nogood
     need(len(rest) <= MOST_BYTES, TOO_LONG)
     sys.exit(PROOF)
 
@@ -203,10 +209,12 @@ def is_stable(program, model):
 
 # ---- variables and unit propagation. A literal is a variable's number, negative where it is false.
 class Known:
-    """What is known: sums and perhaps a cost; and the values that follow from it alone. A sum has a literal that is true where
-    the weights of true literals reach a bound, and only there. A nogood is one that is never reached, with weights of 1."""
+    """What is known: sums and perhaps a cost; and the values that follow from what is known for good. A sum has a literal that is
+    true where the weights of true literals reach a bound, and only there. A nogood is one that is never reached, with weights of
+    1. Those in places go when another one takes the place."""
     def __init__(self, program):
         self.rules, self.of_literal, self.values, self.bound, self.fails = program.rules, {}, {}, None, False
+        self.places = []
         self.atom = {atom: number for number, atom in enumerate(sorted(program.atoms), 1)}
         supports, self.body, self.count, self.sums = {atom: {} for atom in self.atom}, {}, len(self.atom), []
         for heads, _, body in self.rules:
@@ -249,6 +257,26 @@ class Known:
 
     def add_nogood(self, nogood):
         self.add(0, len(set(nogood)), [(literal, 1) for literal in set(nogood)])
+
+    def take_place(self, place, nogood):
+        """A place beyond the last one is the next one."""
+        self.places[place - 1:place] = [(0, len(set(nogood)), [(literal, 1) for literal in set(nogood)])]
+
+    def learn(self, place, nogood):
+        if place:
+            self.take_place(place, nogood)
+        else:
+            self.add_nogood(nogood)
+            self.fails = self.fails or self.propagate(self.values, [self.forced(self.values, self.sums[-1])])
+
+    def refutes(self, nogood):
+        """Whether unit propagation leads from the literals to a conflict. Nogoods in places are gone through until none says more."""
+        values, waiting = dict(self.values), [nogood]
+        while waiting:
+            if self.propagate(values, waiting):
+                return True
+            waiting = [it for it in (self.forced(values, it) for it in self.places) if it != []]
+        return self.fails
 
     def propagate(self, values, waiting):
         """Adds to the values the literals that wait, in lists, and what follows. Whether that leads to a conflict, a None."""
@@ -316,7 +344,7 @@ def judge(program, text):
     need(mode in (b"enum", b"opt") and rest, PROOF)
     is_opt, sets, known, is_whole = mode == b"opt", [], None, False
     assumed = set()
-    for number, (kind, atoms, nogood) in enumerate(lines_of_proof(rest[0]), 3):
+    for number, (kind, place, atoms, nogood) in enumerate(lines_of_proof(rest[0]), 3):
         if kind == b"a":
             if sets and (is_opt or min(set(atoms) ^ set(sets[-1]), default=0) not in atoms):
                 return 2, number
@@ -337,11 +365,10 @@ def judge(program, text):
             return 3, number
         if kind == b"o" and not is_loop(known, set(atoms), set(nogood)):
             return 4, number
-        if kind != b"o" and not known.fails and not known.propagate(dict(known.values), [nogood]):
+        if kind != b"o" and not known.refutes(nogood):
             return 5, number
         is_whole = is_whole or kind != b"o" and assumed >= set(nogood)
-        known.add_nogood(nogood)
-        known.fails = known.fails or known.propagate(known.values, [known.forced(known.values, known.sums[-1])])
+        known.learn(place, nogood)
     return None
 
 
@@ -349,7 +376,7 @@ def main():
     words = [part for word in sys.argv[1:] for part in word.split("=", 1)]
     need(words in ([], ["--format", "aspif"], ["--format", "smodels"]), USAGE)
     text = sys.stdin.buffer.read()
-    start = re.search(rb"^proof 1\n", text, re.M)
+    start = re.search(rb"^proof 2\n", text, re.M)
     need((start.start() if start else len(text)) <= MOST_BYTES, TOO_LONG)
     need(start, PROOF)
     program = (read_smodels if words[1:] == ["smodels"] else read_aspif)(text[:start.start()])

@@ -83,7 +83,7 @@ pub struct Learner {
     /// Trails are over the variables up to this one.
     vars: u32,
     /// The marks of the last conflict.
-    marks: Marks,
+    pub(crate) marks: Marks,
     /// So many of the marks' literals were met on the way to the last point; the others were marked to minimise.
     met: usize,
     /// Literals that are looked at to minimise, each of the reason of the one before. A look at one begins with none.

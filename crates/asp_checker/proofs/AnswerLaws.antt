@@ -15,7 +15,7 @@ use Rattle.asp_checker.specs.declared.nogoods.Look.{Look}
 use Rattle.asp_checker.specs.declared.nogoods.Look.TheVariants as look
 use Rattle.asp_checker.specs.declared.nogoods.Visit.{Visit}
 use Rattle.asp_checker.specs.declared.nogoods.Visit.TheVariants as visit
-use Rattle.asp_checker.specs.Lines.{IsOf, AreOf, nogood_of_answer}
+use Rattle.asp_checker.specs.Lines.{IsOf, AreOf, nogood_of_answer, stock, all_of}
 use Rattle.asp_checker.specs.Looks.{IsAtFixpoint, IsSeen}
 use Rattle.asp_checker.specs.Sweeps.{AreInRange, AreNogoodsOf, Grows, Implies, IsSwept}
 use Rattle.asp_checker.specs.Blocks.{known_with}
@@ -70,17 +70,24 @@ pub answer_count : (p : Program) (Ss : List Atoms) → length (map (nogood_of_an
 answer_count p Ss = length-map Ss (nogood_of_answer p)
 
 -- ---- beside other nogoods
-pub both_known : (p : Program) (Ss : List Atoms) (rows : List (List Literal)) (bound : Option Bound) → AllByRecursion (AreOf p) rows → AreNogoodsOf p (known_with p Ss rows bound) (map (nogood_of_answer p) Ss ++ rows)
-both_known p Ss rows bound of = nogoods_known p (map (nogood_of_answer p) Ss ++ rows) bound (each-append (AreOf p) (map (nogood_of_answer p) Ss) rows (answers_of p Ss) of)
-
-pub answers_known : (p : Program) (Ss : List Atoms) (rows : List (List Literal)) (bound : Option Bound) → AllByRecursion (AreOf p) rows → AreNogoodsOf p (known_with p Ss rows bound) (map (nogood_of_answer p) Ss)
-answers_known p Ss rows bound of = each-front _ (map (nogood_of_answer p) Ss) rows (both_known p Ss rows bound of)
-
-pub others_known : (p : Program) (Ss : List Atoms) (rows : List (List Literal)) (bound : Option Bound) → AllByRecursion (AreOf p) rows → AreNogoodsOf p (known_with p Ss rows bound) rows
-others_known p Ss rows bound of = back-append _ (map (nogood_of_answer p) Ss) rows (both_known p Ss rows bound of)
-
 pub with_answers : (p : Program) (Ss : List Atoms) (rows : List (List Literal)) → AllByRecursion (AreOf p) rows → AllByRecursion (AreOf p) (map (nogood_of_answer p) Ss ++ rows)
 with_answers p Ss rows of = each-append (AreOf p) (map (nogood_of_answer p) Ss) rows (answers_of p Ss) of
+
+pub all_of_program : (p : Program) (Ss : List Atoms) (rows placed : List (List Literal)) → AllByRecursion (AreOf p) rows → AllByRecursion (AreOf p) placed → AllByRecursion (AreOf p) (placed ++ (map (nogood_of_answer p) Ss ++ rows))
+all_of_program p Ss rows placed of also = each-append (AreOf p) placed (map (nogood_of_answer p) Ss ++ rows) also (with_answers p Ss rows of)
+
+-- ---- the same with nogoods in places
+stocked : (p : Program) (Ss : List Atoms) (rows placed : List (List Literal)) (bound : Option Bound) → AllByRecursion (AreOf p) rows → AllByRecursion (AreOf p) placed → AreNogoodsOf p (all_of (stock (known_with p Ss rows bound) placed)) (placed ++ (map (nogood_of_answer p) Ss ++ rows))
+stocked p Ss rows placed bound of also = nogoods_known p (placed ++ (map (nogood_of_answer p) Ss ++ rows)) bound (all_of_program p Ss rows placed of also)
+
+pub placed_stocked : (p : Program) (Ss : List Atoms) (rows placed : List (List Literal)) (bound : Option Bound) → AllByRecursion (AreOf p) rows → AllByRecursion (AreOf p) placed → AreNogoodsOf p (all_of (stock (known_with p Ss rows bound) placed)) placed
+placed_stocked p Ss rows placed bound of also = each-front _ placed (map (nogood_of_answer p) Ss ++ rows) (stocked p Ss rows placed bound of also)
+
+pub answers_stocked : (p : Program) (Ss : List Atoms) (rows placed : List (List Literal)) (bound : Option Bound) → AllByRecursion (AreOf p) rows → AllByRecursion (AreOf p) placed → AreNogoodsOf p (all_of (stock (known_with p Ss rows bound) placed)) (map (nogood_of_answer p) Ss)
+answers_stocked p Ss rows placed bound of also = each-front _ (map (nogood_of_answer p) Ss) rows (back-append _ placed (map (nogood_of_answer p) Ss ++ rows) (stocked p Ss rows placed bound of also))
+
+pub rows_stocked : (p : Program) (Ss : List Atoms) (rows placed : List (List Literal)) (bound : Option Bound) → AllByRecursion (AreOf p) rows → AllByRecursion (AreOf p) placed → AreNogoodsOf p (all_of (stock (known_with p Ss rows bound) placed)) rows
+rows_stocked p Ss rows placed bound of also = back-append _ (map (nogood_of_answer p) Ss) rows (back-append _ placed (map (nogood_of_answer p) Ss ++ rows) (stocked p Ss rows placed bound of also))
 
 pub one_behind : (first rows new : List (List Literal)) (n : List Literal) → new ≡ rows ++ n ∷ [] → first ++ new ≡ (first ++ rows) ++ n ∷ []
 one_behind first rows new n e = ap (λ ns. first ++ ns) e ∙ sym (append_assoc first rows (n ∷ []))

@@ -70,13 +70,18 @@ any_fewer q (x ∷ xs) ys e =
     let parts = or_parts (q x) (list_any q (xs ++ ys)) e in
     ap (λ b. b || list_any q xs) parts.0 ∙ any_fewer q xs ys parts.1
 
-fewer_conflict : (p : Program) (rows more : List (List Literal)) (bound : Option Bound) (y : List (Option Bool)) → has_conflict p (known_by (rows ++ more) bound) y ≡ false → has_conflict p (known_by rows bound) y ≡ false
-fewer_conflict p rows more bound y e =
+any_behind : {X : Type 0} (q : X → Bool) (xs ys : List X) → list_any q (xs ++ ys) ≡ false → list_any q ys ≡ false
+any_behind q [] ys e = e
+any_behind q (x ∷ xs) ys e = any_behind q xs ys (or_parts (q x) (list_any q (xs ++ ys)) e).1
+
+-- fewer nogoods are hit where more aren't
+fewer_conflict : (p : Program) (rows all : List (List Literal)) (bound : Option Bound) (y : List (Option Bool)) → ((q : List Literal → Bool) → list_any q all ≡ false → list_any q rows ≡ false) → has_conflict p (known_by all bound) y ≡ false → has_conflict p (known_by rows bound) y ≡ false
+fewer_conflict p rows all bound y fewer e =
     let k = known_by rows bound in
     let hit : List Literal → Bool = λ n. list_all (holds_in y) n in
-    let first = or_parts (list_any hit (rows ++ more) || list_any (is_broken p y) (bodies_of p)) (reaches_bound p k.bound y) e in
-    let second = or_parts (list_any hit (rows ++ more)) (list_any (is_broken p y) (bodies_of p)) first.0 in
-    three (list_any hit rows) (list_any (is_broken p y) (bodies_of p)) (reaches_bound p k.bound y) (any_fewer hit rows more second.0) second.1 first.1
+    let first = or_parts (list_any hit all || list_any (is_broken p y) (bodies_of p)) (reaches_bound p k.bound y) e in
+    let second = or_parts (list_any hit all) (list_any (is_broken p y) (bodies_of p)) first.0 in
+    three (list_any hit rows) (list_any (is_broken p y) (bodies_of p)) (reaches_bound p k.bound y) (fewer hit second.0) second.1 first.1
   where
     three : (a b c : Bool) → a ≡ false → b ≡ false → c ≡ false → (a || b || c) ≡ false
     three false false c e f g = g
@@ -84,15 +89,21 @@ fewer_conflict p rows more bound y e =
     three false true c e f g = absurd (false≢true (sym f))
 
 -- it still does where more is known
-pub root_more : (p : Program) (rows more : List (List Literal)) (bound : Option Bound) (x : List (Option Bool)) → IsRoot p (known_by rows bound) x → IsRoot p (known_by (rows ++ more) bound) x
-root_more p rows more bound x h = record {
+root_grows : (p : Program) (rows all : List (List Literal)) (bound : Option Bound) (x : List (Option Bool)) → ((q : List Literal → Bool) → list_any q all ≡ false → list_any q rows ≡ false) → IsRoot p (known_by rows bound) x → IsRoot p (known_by all bound) x
+root_grows p rows all bound x fewer h = record {
   size = h.size;
   follow = λ y propagated e. h.follow y (record {
     size = propagated.size;
-    now = fewer_conflict p rows more bound y propagated.now;
-    one_more = λ v b i le none. fewer_conflict p rows more bound (set y v (Some b)) (propagated.one_more v b i le none);
+    now = fewer_conflict p rows all bound y fewer propagated.now;
+    one_more = λ v b i le none. fewer_conflict p rows all bound (set y v (Some b)) fewer (propagated.one_more v b i le none);
   }) e;
 }
+
+pub root_more : (p : Program) (rows more : List (List Literal)) (bound : Option Bound) (x : List (Option Bool)) → IsRoot p (known_by rows bound) x → IsRoot p (known_by (rows ++ more) bound) x
+root_more p rows more bound x h = root_grows p rows (rows ++ more) bound x (λ q e. any_fewer q rows more e) h
+
+pub root_stocked : (p : Program) (rows placed : List (List Literal)) (bound : Option Bound) (x : List (Option Bool)) → IsRoot p (known_by rows bound) x → IsRoot p (known_by (placed ++ rows) bound) x
+root_stocked p rows placed bound x h = root_grows p rows (placed ++ rows) bound x (λ q e. any_behind q placed rows e) h
 
 -- ---- the trail
 no_some : (b : Bool) → None ≡ Some b → ⊥

@@ -30,7 +30,7 @@ use Rattle.asp_checker.specs.declared.bounds.Bound.{Bound}
 use Rattle.asp_checker.specs.declared.judge.Why.{Why}
 use Rattle.asp_checker.specs.declared.judge.Why.TheVariants as why
 use Rattle.asp_checker.specs.Propagation.{Known, LeadsToConflict}
-use Rattle.asp_checker.specs.Lines.{AreOf, IsLoop, AreConfirmed, IsConfirmed, literals_of, nogood_of, nogood_of_answer, with_nogood, bound_of, known_at_first}
+use Rattle.asp_checker.specs.Lines.{AreOf, IsLoop, AreConfirmed, IsConfirmed, literals_of, nogood_of, nogood_of_answer, with_nogood, Stock, all_of, with_line, bound_of, known_at_first}
 use Rattle.asp_checker.specs.Right.{closes}
 use Rattle.asp_checker.specs.Blocks.{known_by, known_with, cost_of_bound}
 use Rattle.asp_checker.specs.Judging.{IsWrongAnswer, HasAnswerFault, IsWrongLine, HasLineFault, IsInOrder, AreRightAnswers, IsRightAnswer, HasLiterals, HasLoopLiterals, known_after, no_line}
@@ -119,17 +119,17 @@ known_from p proof L avoided rows b same avoids is cost = cases proof.opt (subst
 
 -- ---- lines
 pub has_of : (p : Program) (l : Line) → HasLiterals p l → AreOf p (nogood_of l)
-has_of p (line.Loop set nogood) h = h.1
-has_of p (line.Learned nogood) h = h
+has_of p (line.Loop place set nogood) h = h.1
+has_of p (line.Learned place nogood names) h = h
 has_of p (line.Cube nogood) h = h
 
-pub known_push : (k : Known) (lines : List Line) (l : Line) → known_after k (lines ++ l ∷ []) ≡ with_nogood (known_after k lines) (nogood_of l)
-known_push k [] l = refl
-known_push k (m ∷ lines) l = known_push (with_nogood k (nogood_of m)) lines l
+pub known_push : (s : Stock) (lines : List Line) (l : Line) → known_after s (lines ++ l ∷ []) ≡ with_line (known_after s lines) l
+known_push s [] l = refl
+known_push s (m ∷ lines) l = known_push (with_line s m) lines l
 
-pub confirmed_push : (p : Program) (k : Known) (lines : List Line) (l : Line) → AreConfirmed p k lines → AreOf p (nogood_of l) → IsConfirmed p (known_after k lines) l → AreConfirmed p k (lines ++ l ∷ [])
-confirmed_push p k [] l h of now = (of, now, tt)
-confirmed_push p k (m ∷ lines) l h of now = (h.0, h.1, confirmed_push p (with_nogood k (nogood_of m)) lines l h.2 of now)
+pub confirmed_push : (p : Program) (s : Stock) (lines : List Line) (l : Line) → AreConfirmed p s lines → AreOf p (nogood_of l) → IsConfirmed p (all_of (known_after s lines)) l → AreConfirmed p s (lines ++ l ∷ [])
+confirmed_push p s [] l h of now = (of, now, tt)
+confirmed_push p s (m ∷ lines) l h of now = (h.0, h.1, confirmed_push p (with_line s m) lines l h.2 of now)
 
 or_no : (b : Bool) → (b || false) ≡ b
 or_no true = refl
@@ -139,14 +139,14 @@ pub closes_push : (p : Program) (lines : List Line) (l : Line) (whole closing bo
 closes_push p lines l whole closing both e f g =
     g ∙ ap (λ b. b || closing) e ∙ ap (λ b. list_any (closes p) lines || b) (f ∙ sym (or_no (closes p l))) ∙ sym (list_any-append (closes p) lines (l ∷ []))
 
-pub pushed_line_wrong : (p : Program) (k now : Known) (lines : List Line) (l : Line) (w : Why) → now ≡ known_after k lines → AreConfirmed p k lines → HasLineFault p now l w → IsWrongLine p k (lines ++ l ∷ []) w (length lines)
-pushed_line_wrong p k now lines l w e h fault =
+pub pushed_line_wrong : (p : Program) (s now : Stock) (lines : List Line) (l : Line) (w : Why) → now ≡ known_after s lines → AreConfirmed p s lines → HasLineFault p (all_of now) l w → IsWrongLine p s (lines ++ l ∷ []) w (length lines)
+pushed_line_wrong p s now lines l w e h fault =
     let front : take (length lines) (lines ++ l ∷ []) ≡ lines = take-append_seam lines (l ∷ []) in
     record {
       within = omega (arith, length_push lines l);
-      before = subst (AreConfirmed p k) (sym front) h;
-      fault = subst (λ ms. HasLineFault p (known_after k ms) (get_or (lines ++ l ∷ []) (length lines) no_line) w) (sym front)
-          (subst (λ m. HasLineFault p (known_after k lines) m w) (sym (get_or_push lines l no_line (length lines) refl)) (subst (λ (m : Known). HasLineFault p m l w) e fault));
+      before = subst (AreConfirmed p s) (sym front) h;
+      fault = subst (λ ms. HasLineFault p (all_of (known_after s ms)) (get_or (lines ++ l ∷ []) (length lines) no_line) w) (sym front)
+          (subst (λ m. HasLineFault p (all_of (known_after s lines)) m w) (sym (get_or_push lines l no_line (length lines) refl)) (subst (λ (m : Stock). HasLineFault p (all_of m) l w) e fault));
     }
 
 pub empty_in_order : (opt : Bool) (before : List Atoms) (S : Atoms) → length before ≡ 0 → IsInOrder opt before S
@@ -170,8 +170,8 @@ pub loop_found : {V : Type 0} (p : Program) (set : Atoms) (n : List ℤ) (o : Op
 loop_found p set n None items stand m = λ h. m h.1
 loop_found p set n (Some v) items stand m = (m.0, (stand, m.1))
 
-pub closes_learned : (p : Program) (l : Line) {n : List ℤ} (given lits : List Literal) (r : Bool) → l ≡ line.Learned n → lits ≡ nogood_of l → given ≡ map (literal_of p) p.assumptions → r ≡ list_all (has_literal given) lits → r ≡ closes p l
-closes_learned p l {n} given lits r e f g is =
+pub closes_learned : (p : Program) (l : Line) {at : ℕ} {n : List ℤ} {names : List ℕ} (given lits : List Literal) (r : Bool) → l ≡ line.Learned at n names → lits ≡ nogood_of l → given ≡ map (literal_of p) p.assumptions → r ≡ list_all (has_literal given) lits → r ≡ closes p l
+closes_learned p l {at} {n} {names} given lits r e f g is =
     is ∙ ap (λ xs. list_all (has_literal xs) lits) g ∙ ap (list_all (has_literal (map (literal_of p) p.assumptions))) (f ∙ ap nogood_of e) ∙ sym (ap (closes p) e)
 
 pub closes_cube : (p : Program) (l : Line) {n : List ℤ} (given lits : List Literal) (r : Bool) → l ≡ line.Cube n → lits ≡ nogood_of l → given ≡ map (literal_of p) p.assumptions → r ≡ list_all (has_literal given) lits → r ≡ closes p l
@@ -188,27 +188,27 @@ NogoodSays p k lits o = MatchOption o (LeadsToConflict p k lits) (λ w. (w ≡ w
 abbrev LineSays : Program → Known → Line → Option Why → Type 0
 LineSays p k l o = MatchOption o (IsConfirmed p k l) (HasLineFault p k l)
 
-loop_says : (p : Program) (k : Known) (set : Atoms) (n : List ℤ) (o : Option Why) → HasLiterals p (line.Loop set n) → LoopSays p set (literals_of n) o → LineSays p k (line.Loop set n) o
-loop_says p k set n None of h = h
-loop_says p k set n (Some w) of h = subst (HasLineFault p k (line.Loop set n)) (sym h.0) (of, h.1)
+loop_says : (p : Program) (k : Known) (at : ℕ) (set : Atoms) (n : List ℤ) (o : Option Why) → HasLiterals p (line.Loop at set n) → LoopSays p set (literals_of n) o → LineSays p k (line.Loop at set n) o
+loop_says p k at set n None of h = h
+loop_says p k at set n (Some w) of h = subst (HasLineFault p k (line.Loop at set n)) (sym h.0) (of, h.1)
 
-learned_says : (p : Program) (k : Known) (n : List ℤ) (o : Option Why) → HasLiterals p (line.Learned n) → NogoodSays p k (literals_of n) o → LineSays p k (line.Learned n) o
-learned_says p k n None of h = h
-learned_says p k n (Some w) of h = subst (HasLineFault p k (line.Learned n)) (sym h.0) (of, h.1)
+learned_says : (p : Program) (k : Known) (at : ℕ) (n : List ℤ) (names : List ℕ) (o : Option Why) → HasLiterals p (line.Learned at n names) → NogoodSays p k (literals_of n) o → LineSays p k (line.Learned at n names) o
+learned_says p k at n names None of h = h
+learned_says p k at n names (Some w) of h = subst (HasLineFault p k (line.Learned at n names)) (sym h.0) (of, h.1)
 
 cube_says : (p : Program) (k : Known) (n : List ℤ) (o : Option Why) → HasLiterals p (line.Cube n) → NogoodSays p k (literals_of n) o → LineSays p k (line.Cube n) o
 cube_says p k n None of h = h
 cube_says p k n (Some w) of h = subst (HasLineFault p k (line.Cube n)) (sym h.0) (of, h.1)
 
-pub loop_judged : {E : Type 0} (p : Program) (k : Known) (l : Line) (set : Atoms) {n : List ℤ} (lits : List Literal) (r : Result (Option Why) E) → l ≡ line.Loop set n → lits ≡ nogood_of l → HasLiterals p l → IfOk r (LoopSays p set lits) → IfOk r (LineSays p k l)
-loop_judged p k l set {n} lits (Ok o) e f of h =
-    subst (λ m. LineSays p k m o) (sym e) (loop_says p k set n o (subst (HasLiterals p) e of) (subst (λ ls. LoopSays p set ls o) (f ∙ ap nogood_of e) h))
-loop_judged p k l set {n} lits (Err x) e f of h = tt
+pub loop_judged : {E : Type 0} (p : Program) (k : Known) (l : Line) (set : Atoms) {at : ℕ} {n : List ℤ} (lits : List Literal) (r : Result (Option Why) E) → l ≡ line.Loop at set n → lits ≡ nogood_of l → HasLiterals p l → IfOk r (LoopSays p set lits) → IfOk r (LineSays p k l)
+loop_judged p k l set {at} {n} lits (Ok o) e f of h =
+    subst (λ m. LineSays p k m o) (sym e) (loop_says p k at set n o (subst (HasLiterals p) e of) (subst (λ ls. LoopSays p set ls o) (f ∙ ap nogood_of e) h))
+loop_judged p k l set {at} {n} lits (Err x) e f of h = tt
 
-pub learned_judged : {E : Type 0} (p : Program) (k : Known) (l : Line) {n : List ℤ} (lits : List Literal) (r : Result (Option Why) E) → l ≡ line.Learned n → lits ≡ nogood_of l → HasLiterals p l → IfOk r (NogoodSays p k lits) → IfOk r (LineSays p k l)
-learned_judged p k l {n} lits (Ok o) e f of h =
-    subst (λ m. LineSays p k m o) (sym e) (learned_says p k n o (subst (HasLiterals p) e of) (subst (λ ls. NogoodSays p k ls o) (f ∙ ap nogood_of e) h))
-learned_judged p k l {n} lits (Err x) e f of h = tt
+pub learned_judged : {E : Type 0} (p : Program) (k : Known) (l : Line) {at : ℕ} {n : List ℤ} {names : List ℕ} (lits : List Literal) (r : Result (Option Why) E) → l ≡ line.Learned at n names → lits ≡ nogood_of l → HasLiterals p l → IfOk r (NogoodSays p k lits) → IfOk r (LineSays p k l)
+learned_judged p k l {at} {n} {names} lits (Ok o) e f of h =
+    subst (λ m. LineSays p k m o) (sym e) (learned_says p k at n names o (subst (HasLiterals p) e of) (subst (λ ls. NogoodSays p k ls o) (f ∙ ap nogood_of e) h))
+learned_judged p k l {at} {n} {names} lits (Err x) e f of h = tt
 
 pub cube_judged : {E : Type 0} (p : Program) (k : Known) (l : Line) {n : List ℤ} (lits : List Literal) (r : Result (Option Why) E) → l ≡ line.Cube n → lits ≡ nogood_of l → HasLiterals p l → IfOk r (NogoodSays p k lits) → IfOk r (LineSays p k l)
 cube_judged p k l {n} lits (Ok o) e f of h =
@@ -218,7 +218,7 @@ cube_judged p k l {n} lits (Err x) e f of h = tt
 pub lits_are_of : (p : Program) (l : Line) (lits : List Literal) → lits ≡ nogood_of l → HasLiterals p l → AreOf p lits
 lits_are_of p l lits e of = subst (AreOf p) (sym e) (has_of p l of)
 
-pub loop_stands : (p : Program) (l : Line) (set : Atoms) {n : List ℤ} → l ≡ line.Loop set n → HasLiterals p l → list_all (has (atoms_of p)) set ≡ true
+pub loop_stands : (p : Program) (l : Line) (set : Atoms) {at : ℕ} {n : List ℤ} → l ≡ line.Loop at set n → HasLiterals p l → list_all (has (atoms_of p)) set ≡ true
 loop_stands p l set e of = (subst (HasLiterals p) e of).0
 
 pub known_next : (rows new : List (List Literal)) (b : Option Bound) (lits n : List Literal) → new ≡ rows ++ lits ∷ [] → lits ≡ n → known_by new b ≡ with_nogood (known_by rows b) n

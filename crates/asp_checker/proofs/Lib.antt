@@ -2,6 +2,7 @@ pub mod ConflictLaws
 pub mod LoopLaws
 pub mod RightLaws
 pub mod StepLaws
+pub mod StockLaws
 pub mod WeightLaws
 pub mod LookLaws
 pub mod LiteralLaws

@@ -1,5 +1,5 @@
 -- What right proofs show.
-use Rattle.std.proofs.Common.{◌≡◌, ℕ, ◌≤◌, Bool, true, false, not, cond, ◌||◌, List, [], ◌∷◌, ◌++◌, map, length, eqb, refl, sym, ap, ◌∙◌, subst, arith, Some, None, inl, inr}
+use Rattle.std.proofs.Common.{◌≡◌, ℕ, zero, suc, ◌≤◌, Bool, true, false, not, cond, ◌||◌, List, [], ◌∷◌, ◌++◌, map, length, eqb, refl, sym, ap, ◌∙◌, subst, arith, Some, None, inl, inr}
 use Rattle.std.specs.Prelude.{AllPairs, Contains, MatchBool}
 use Rattle.std.specs.List.{list_all, list_any, AllByRecursion}
 use Rattle.std.proofs.lemmas.Bool.{false≢true, and_parts, and_from, or_cases, or_from, or_left, eqb-true}
@@ -27,22 +27,35 @@ use Rattle.asp_proof.specs.declared.proof.Line.{Line}
 use Rattle.asp_proof.specs.declared.proof.Line.TheVariants as line
 use Rattle.asp_proof.specs.declared.proof.Proof.{Proof}
 use Rattle.asp_checker.specs.Propagation.{Known}
-use Rattle.asp_checker.specs.Lines.{AreConfirmed, AreOf, IsConfirmed, nogood_of, nogood_of_answer, literals_of, with_nogood, bound_of}
+use Rattle.asp_checker.specs.Lines.{AreConfirmed, AreOf, IsConfirmed, nogood_of, nogood_of_answer, literals_of, with_nogood, place_of, Stock, stock, all_of, with_placed, with_line, bound_of}
 use Rattle.asp_checker.specs.Right.{closes, IsRight, Shows, ShowsBest}
 use Rattle.asp_checker.proofs.ConflictLaws.{IsKnownFor, conflict-excused, optimistic-assigned}
 use Rattle.asp_checker.proofs.LoopLaws.{line-entailed}
+use Rattle.asp_checker.proofs.StockLaws.{put_each}
 
 -- ---- one line more
 entailed-excused : (p : Program) (excuse : Atoms → Bool) (n : List Literal) → Entailed p n → HitsOnly p excuse n
 entailed-excused p excuse n h = record { excused = λ S stable hit. absurd (false≢true (h.excused S stable hit)) }
 
 line-excused : (p : Program) (excuse : Atoms → Bool) (k : Known) (l : Line) → IsSound p → IsKnownFor p excuse k → AreOf p (nogood_of l) → IsConfirmed p k l → HitsOnly p excuse (nogood_of l)
-line-excused p excuse k (line.Loop set nogood) sound known of h = entailed-excused p excuse (literals_of nogood) (line-entailed p set (literals_of nogood) sound h)
-line-excused p excuse k (line.Learned nogood) sound known of h = conflict-excused p excuse k (literals_of nogood) known of h
+line-excused p excuse k (line.Loop place set nogood) sound known of h = entailed-excused p excuse (literals_of nogood) (line-entailed p set (literals_of nogood) sound h)
+line-excused p excuse k (line.Learned place nogood names) sound known of h = conflict-excused p excuse k (literals_of nogood) known of h
 line-excused p excuse k (line.Cube nogood) sound known of h = conflict-excused p excuse k (literals_of nogood) known of h
 
 known-more : (p : Program) (excuse : Atoms → Bool) (k : Known) (n : List Literal) → IsKnownFor p excuse k → HitsOnly p excuse n → IsKnownFor p excuse (with_nogood k n)
 known-more p excuse k n known h = record { nogoods = each-append (HitsOnly p excuse) k.nogoods (n ∷ []) known.nogoods (h, tt); bound = known.bound }
+
+-- the same of a stock
+record IsStockFor (p : Program) (excuse : Atoms → Bool) (s : Stock) : Type 0 where
+  pub kept : IsKnownFor p excuse s.kept
+  pub placed : AllByRecursion (HitsOnly p excuse) s.placed
+
+stock-known : (p : Program) (excuse : Atoms → Bool) (s : Stock) → IsStockFor p excuse s → IsKnownFor p excuse (all_of s)
+stock-known p excuse s h = record { nogoods = each-append (HitsOnly p excuse) s.placed s.kept.nogoods h.placed h.kept.nogoods; bound = h.kept.bound }
+
+stock-placed : (p : Program) (excuse : Atoms → Bool) (s : Stock) (at : ℕ) (n : List Literal) → IsStockFor p excuse s → HitsOnly p excuse n → IsStockFor p excuse (with_placed s at n)
+stock-placed p excuse s zero n h k = record { kept = known-more p excuse s.kept n h.kept k; placed = h.placed }
+stock-placed p excuse s (suc at) n h k = record { kept = h.kept; placed = put_each (HitsOnly p excuse) s.placed at n h.placed k }
 
 -- ---- a line within the assumptions
 within-hits : (v : List Bool) (q n : List Literal) → hits v q ≡ true → list_all (has_literal q) n ≡ true → hits v n ≡ true
@@ -52,19 +65,22 @@ within-hits v q (l ∷ n) hit e =
     and_from (is_true v l) (hits v n) (hits-has v q l hit parts.0) (within-hits v q n hit parts.1)
 
 closes-hit : (p : Program) (S : Atoms) (l : Line) → hits (values p S) (map (literal_of p) p.assumptions) ≡ true → closes p l ≡ true → hits (values p S) (nogood_of l) ≡ true
-closes-hit p S (line.Loop set nogood) assumed e = absurd (false≢true e)
-closes-hit p S (line.Learned nogood) assumed e = within-hits (values p S) (map (literal_of p) p.assumptions) (literals_of nogood) assumed e
+closes-hit p S (line.Loop place set nogood) assumed e = absurd (false≢true e)
+closes-hit p S (line.Learned place nogood names) assumed e = within-hits (values p S) (map (literal_of p) p.assumptions) (literals_of nogood) assumed e
 closes-hit p S (line.Cube nogood) assumed e = within-hits (values p S) (map (literal_of p) p.assumptions) (literals_of nogood) assumed e
 
 -- Each answer is excused, where a line closes.
-closed-excused : (p : Program) (excuse : Atoms → Bool) (k : Known) (lines : List Line) → IsSound p → IsKnownFor p excuse k → AreConfirmed p k lines → list_any (closes p) lines ≡ true → (S : Atoms) → is_stable p S ≡ true → hits (values p S) (map (literal_of p) p.assumptions) ≡ true → excuse S ≡ true
-closed-excused p excuse k [] sound known h e S stable assumed = absurd (false≢true e)
-closed-excused p excuse k (l ∷ lines) sound known h e S stable assumed =
-    let here : HitsOnly p excuse (nogood_of l) = line-excused p excuse k l sound known h.0 h.1 in
+stock-excused : (p : Program) (excuse : Atoms → Bool) (s : Stock) (lines : List Line) → IsSound p → IsStockFor p excuse s → AreConfirmed p s lines → list_any (closes p) lines ≡ true → (S : Atoms) → is_stable p S ≡ true → hits (values p S) (map (literal_of p) p.assumptions) ≡ true → excuse S ≡ true
+stock-excused p excuse s [] sound known h e S stable assumed = absurd (false≢true e)
+stock-excused p excuse s (l ∷ lines) sound known h e S stable assumed =
+    let here : HitsOnly p excuse (nogood_of l) = line-excused p excuse (all_of s) l sound (stock-known p excuse s known) h.0 h.1 in
     elim (or_cases (closes p l) (list_any (closes p) lines) e) [
       | inl c ↦ here.excused S stable (closes-hit p S l assumed c)
-      | inr c ↦ closed-excused p excuse (with_nogood k (nogood_of l)) lines sound (known-more p excuse k (nogood_of l) known here) h.2 c S stable assumed
+      | inr c ↦ stock-excused p excuse (with_line s l) lines sound (stock-placed p excuse s (place_of l) (nogood_of l) known here) h.2 c S stable assumed
     ]
+
+closed-excused : (p : Program) (excuse : Atoms → Bool) (k : Known) (lines : List Line) → IsSound p → IsKnownFor p excuse k → AreConfirmed p (stock k []) lines → list_any (closes p) lines ≡ true → (S : Atoms) → is_stable p S ≡ true → hits (values p S) (map (literal_of p) p.assumptions) ≡ true → excuse S ≡ true
+closed-excused p excuse k lines sound known h e S stable assumed = stock-excused p excuse (stock k []) lines sound (record { kept = known; placed = tt }) h e S stable assumed
 
 -- ---- the start
 answer-hits : (p : Program) (S : Atoms) → all_hold S p.assumptions ≡ true → hits (values p S) (map (literal_of p) p.assumptions) ≡ true
@@ -148,7 +164,7 @@ none_passes : (q : Atoms → Bool) (xs : List Atoms) → AllByRecursion (λ x. q
 none_passes q [] h = refl
 none_passes q (x ∷ xs) h = or_from (q x) (list_any q xs) h.0 (none_passes q xs h.1)
 
-shows-all : (p : Program) (K : List Atoms) (lines : List Line) → IsSound p → AllByRecursion (Contains (answers p)) K → AllPairs IsBefore K → AreConfirmed p (record { nogoods = map (nogood_of_answer p) K ++ completion p; bound = None }) lines → list_any (closes p) lines ≡ true → K ≡ answers p
+shows-all : (p : Program) (K : List Atoms) (lines : List Line) → IsSound p → AllByRecursion (Contains (answers p)) K → AllPairs IsBefore K → AreConfirmed p (stock (record { nogoods = map (nogood_of_answer p) K ++ completion p; bound = None }) []) lines → list_any (closes p) lines ≡ true → K ≡ answers p
 shows-all p K lines sound members order confirmed whole = same_from_members K (answers p) order (answers-rise p) (λ S. (
   λ h. All-contains (Contains (answers p)) K S (All-from_recursion (Contains (answers p)) K members) h,
   λ h. let is = (answers-are p S).0 h in contains_from_test K S (listed S (closed-excused p (is_done p K None) (record { nogoods = map (nogood_of_answer p) K ++ completion p; bound = None }) lines sound (listed-known p K sound members) confirmed whole S is.0 (answer-hits p S is.1))),
@@ -157,7 +173,7 @@ shows-all p K lines sound members order confirmed whole = same_from_members K (a
     listed : (S : Atoms) → is_done p K None S ≡ true → list_any (same_set S) K ≡ true
     listed S e = elim (or_cases (list_any (same_set S) K) false e) [ inl h ↦ h | inr h ↦ absurd (false≢true h) ]
 
-shows-best : (p : Program) (K : List Atoms) (lines : List Line) → IsSound p → AllByRecursion (Contains (answers p)) K → length K ≤ 1 → AreConfirmed p (record { nogoods = completion p; bound = bound_of p K }) lines → list_any (closes p) lines ≡ true → ShowsBest p K
+shows-best : (p : Program) (K : List Atoms) (lines : List Line) → IsSound p → AllByRecursion (Contains (answers p)) K → length K ≤ 1 → AreConfirmed p (stock (record { nogoods = completion p; bound = bound_of p K }) []) lines → list_any (closes p) lines ≡ true → ShowsBest p K
 shows-best p [] lines sound members single confirmed whole = none_listed (answers p) (λ S h.
     let is = (answers-are p S).0 h in
     false≢true (closed-excused p (λ S. false) (record { nogoods = completion p; bound = None }) lines sound (nothing-known p sound) confirmed whole S is.0 (answer-hits p S is.1)))
@@ -179,7 +195,7 @@ shows-best p (S ∷ K) lines sound members single confirmed whole = (
         let is = (answers-are p T).0 h in
         undone (betters (cost p T) (cost p S)) (closed-excused p (costs p (cost p S)) (record { nogoods = completion p; bound = Some (cost p S) }) lines sound (costs-known p S sound) confirmed whole T is.0 (answer-hits p T is.1))
 
-by-mode : (p : Program) (opt : Bool) (K : List Atoms) (lines : List Line) → IsSound p → AllByRecursion (Contains (answers p)) K → AllPairs IsBefore K → (opt ≡ true → length K ≤ 1) → AreConfirmed p (cond opt (record { nogoods = completion p; bound = bound_of p K }) (record { nogoods = map (nogood_of_answer p) K ++ completion p; bound = None })) lines → list_any (closes p) lines ≡ true → MatchBool opt (ShowsBest p K) (K ≡ answers p)
+by-mode : (p : Program) (opt : Bool) (K : List Atoms) (lines : List Line) → IsSound p → AllByRecursion (Contains (answers p)) K → AllPairs IsBefore K → (opt ≡ true → length K ≤ 1) → AreConfirmed p (stock (cond opt (record { nogoods = completion p; bound = bound_of p K }) (record { nogoods = map (nogood_of_answer p) K ++ completion p; bound = None })) []) lines → list_any (closes p) lines ≡ true → MatchBool opt (ShowsBest p K) (K ≡ answers p)
 by-mode p true K lines sound members order single confirmed whole = shows-best p K lines sound members (single refl) confirmed whole
 by-mode p false K lines sound members order single confirmed whole = shows-all p K lines sound members order confirmed whole
 

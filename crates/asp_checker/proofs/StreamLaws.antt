@@ -23,7 +23,7 @@ use Rattle.asp_checker.specs.declared.judge.Judgement.TheVariants as judgement
 use Rattle.asp_checker.specs.declared.error.CheckError.{CheckError}
 use Rattle.asp_checker.specs.declared.error.CheckError.TheVariants as error
 use Rattle.asp_checker.specs.Propagation.{Known}
-use Rattle.asp_checker.specs.Lines.{AreConfirmed, IsConfirmed, known_at_first, nogood_of, with_nogood}
+use Rattle.asp_checker.specs.Lines.{AreConfirmed, IsConfirmed, Stock, all_of, with_line, first_stock}
 use Rattle.asp_checker.specs.Right.{closes, IsRight}
 use Rattle.asp_checker.specs.Errors.{proof_error, read_fault}
 use Rattle.asp_checker.specs.Judging.{AreRightAnswers, IsRightAnswer, HasAnswerFault, HasLineFault, HasLiterals, known_after}
@@ -77,14 +77,14 @@ pub no_fault : {T : Type 0} (x : T) (e : CheckError) → (let r : Result T Check
 no_fault x e is = cc
 
 -- ---- what is said of a text that begins so
-right_before : (p : Program) (q : Proof) (rest : List ℕ) (number : ℕ) → IsProof q → AreRightAnswers p q.opt q.answers → AreConfirmed p (known_at_first p q) q.lines → number ≡ length q.answers + length q.lines + 3 → IsRightBefore p (front_of q ++ rest) number
+right_before : (p : Program) (q : Proof) (rest : List ℕ) (number : ℕ) → IsProof q → AreRightAnswers p q.opt q.answers → AreConfirmed p (first_stock p q) q.lines → number ≡ length q.answers + length q.lines + 3 → IsRightBefore p (front_of q ++ rest) number
 right_before p q rest number is answers lines e = record { proof = q; is = is; rest = rest; begins = refl; answers = answers; lines = lines; next = inl e }
 
 first_as : (text : List ℕ) (n number : ℕ) → IsFirstFault text n → n ≡ number → IsFirstFault text number
 first_as text n number f e = subst (IsFirstFault text) e f
 
 -- no line feed comes after the lines so far
-broken : (p : Program) (q : Proof) (rest : List ℕ) (number : ℕ) → IsBegun (length q.answers + length q.lines + 2) q → AreRightAnswers p q.opt q.answers → AreConfirmed p (known_at_first p q) q.lines → IsUnbroken rest → number ≡ length q.answers + length q.lines + 3
+broken : (p : Program) (q : Proof) (rest : List ℕ) (number : ℕ) → IsBegun (length q.answers + length q.lines + 2) q → AreRightAnswers p q.opt q.answers → AreConfirmed p (first_stock p q) q.lines → IsUnbroken rest → number ≡ length q.answers + length q.lines + 3
     → IsFaultAt p (front_of q ++ rest) number
 broken p q rest number begun answers lines u e = record {
   first = first_as _ _ number (line_broken (length q.answers + length q.lines + 2) q rest begun u) (omega (arith, e));
@@ -148,7 +148,7 @@ listed_broken p opt answers first source now bytes old new h n =
     begun_with b = subst (λ m. IsBegun m (proof_of opt answers [])) (omega arith) b
 
 -- ---- lines
-pub so_far_first : (p : Program) (opt : Bool) (answers : List Atoms) (k : Known) (source : Option (List ℕ)) (w : Window) → IsBegun (length answers + 2) (proof_of opt answers []) → IsUnbroken w.line → IsNone IsSet answer_text w.line
+pub so_far_first : (p : Program) (opt : Bool) (answers : List Atoms) (k : Stock) (source : Option (List ℕ)) (w : Window) → IsBegun (length answers + 2) (proof_of opt answers []) → IsUnbroken w.line → IsNone IsSet answer_text w.line
     → IsSoFar p opt answers k k false 0 source source (front_of (proof_of opt answers []) ++ held w) w
 so_far_first p opt answers k source w begun u none = record {
   entries = [];
@@ -162,13 +162,13 @@ so_far_first p opt answers k source w begun u none = record {
   whole_is = refl;
 }
 
-pub so_far_front : (p : Program) (opt : Bool) (answers : List Atoms) (k now : Known) (whole : Bool) (at number : ℕ) (source left : Option (List ℕ)) (first : List ℕ) (w : Window) → IsSound p → AreRightAnswers p opt answers → k ≡ known_at_first p (proof_of opt answers []) → number ≡ length answers + at + 3
+pub so_far_front : (p : Program) (opt : Bool) (answers : List Atoms) (k now : Stock) (whole : Bool) (at number : ℕ) (source left : Option (List ℕ)) (first : List ℕ) (w : Window) → IsSound p → AreRightAnswers p opt answers → k ≡ first_stock p (proof_of opt answers []) → number ≡ length answers + at + 3
     → (h : IsSoFar p opt answers k now whole at source left first w) → IsRightFront p (proof_of opt answers h.entries) number whole
 so_far_front p opt answers k now whole at number source left first w sound right e counted h = record {
   sound = sound;
   begun = h.begun;
   answers = right;
-  lines = subst (λ (m : Known). AreConfirmed p m h.entries) e h.confirmed;
+  lines = subst (λ (m : Stock). AreConfirmed p m h.entries) e h.confirmed;
   counted = omega (arith, h.counted, counted);
   whole_is = h.whole_is;
 }
@@ -191,8 +191,8 @@ not_nil : {X : Type 0} (xs : List X) (x : X) → xs ++ x ∷ [] ≡ [] → ⊥
 not_nil [] x e = absurd cc
 not_nil (y ∷ xs) x e = absurd cc
 
-pub so_far_next : (p : Program) (opt : Bool) (answers : List Atoms) (k known now : Known) (whole closing both : Bool) (at : ℕ) (source left later : Option (List ℕ)) (first : List ℕ) (w new : Window) (l : Line) → IsSoFar p opt answers k known whole at source left first w
-    → IsWhole IsLine line_text w.line l → HasLiterals p l → IsConfirmed p known l → now ≡ with_nogood known (nogood_of l) → closing ≡ closes p l → both ≡ (whole || closing) → IsNextLine left later w new (Ok true)
+pub so_far_next : (p : Program) (opt : Bool) (answers : List Atoms) (k known now : Stock) (whole closing both : Bool) (at : ℕ) (source left later : Option (List ℕ)) (first : List ℕ) (w new : Window) (l : Line) → IsSoFar p opt answers k known whole at source left first w
+    → IsWhole IsLine line_text w.line l → HasLiterals p l → IsConfirmed p (all_of known) l → now ≡ with_line known l → closing ≡ closes p l → both ≡ (whole || closing) → IsNextLine left later w new (Ok true)
     → IsSoFar p opt answers k now both (at + 1) source later first new
 so_far_next p opt answers k known now whole closing both at source left later first w new l h line_is literals confirmed e closes_is both_is n =
     let q = proof_of opt answers (h.entries ++ l ∷ []) in
@@ -204,14 +204,14 @@ so_far_next p opt answers k known now whole closing both at source left later fi
       moved = step_moves source left later first (front_of q) w (held new) m n.1;
       unbroken = n.0;
       no_answer = λ nil. absurd (not_nil h.entries l nil);
-      confirmed = confirmed_push p k h.entries l h.confirmed (has_of p l literals) (subst (λ (m : Known). IsConfirmed p m l) h.known confirmed);
-      known = e ∙ ap (λ (m : Known). with_nogood m (nogood_of l)) h.known ∙ sym (known_push k h.entries l);
+      confirmed = confirmed_push p k h.entries l h.confirmed (has_of p l literals) (subst (λ (m : Stock). IsConfirmed p (all_of m) l) h.known confirmed);
+      known = e ∙ ap (λ (m : Stock). with_line m l) h.known ∙ sym (known_push k h.entries l);
       whole_is = closes_push p h.entries l whole closing both h.whole_is closes_is both_is;
     }
 
 -- the step after a line of which no line feed comes
-pub so_far_broken : (p : Program) (opt : Bool) (answers : List Atoms) (k known : Known) (whole : Bool) (at number : ℕ) (source left later : Option (List ℕ)) (first : List ℕ) (w new : Window) (l : Line) → AreRightAnswers p opt answers → k ≡ known_at_first p (proof_of opt answers []) → IsSoFar p opt answers k known whole at source left first w
-    → IsWhole IsLine line_text w.line l → HasLiterals p l → IsConfirmed p known l → number ≡ length answers + at + 3 → IsNextLine left later w new (Ok false)
+pub so_far_broken : (p : Program) (opt : Bool) (answers : List Atoms) (k known : Stock) (whole : Bool) (at number : ℕ) (source left later : Option (List ℕ)) (first : List ℕ) (w new : Window) (l : Line) → AreRightAnswers p opt answers → k ≡ first_stock p (proof_of opt answers []) → IsSoFar p opt answers k known whole at source left first w
+    → IsWhole IsLine line_text w.line l → HasLiterals p l → IsConfirmed p (all_of known) l → number ≡ length answers + at + 3 → IsNextLine left later w new (Ok false)
     → Comes source first (λ text. Judges p text (Err (error.Proof (proof.Refused (number + 1)))))
 so_far_broken p opt answers k known whole at number source left later first w new l right at_first h line_is literals confirmed counted n =
     let q = proof_of opt answers (h.entries ++ l ∷ []) in
@@ -219,11 +219,11 @@ so_far_broken p opt answers k known whole at number source left later first w ne
     comes_back source later first (front_of q ++ new.line) _ (step_moves source left later first (front_of q) w new.line m n.1)
     (comes_end later (front_of q ++ new.line) _ n.2
     (broken p q new.line (number + 1) (begun_more opt answers h.entries l w.line h.begun h.unbroken line_is) right
-    (subst (λ (m : Known). AreConfirmed p m (h.entries ++ l ∷ [])) at_first (confirmed_push p k h.entries l h.confirmed (has_of p l literals) (subst (λ (m : Known). IsConfirmed p m l) h.known confirmed)))
+    (subst (λ (m : Stock). AreConfirmed p m (h.entries ++ l ∷ [])) at_first (confirmed_push p k h.entries l h.confirmed (has_of p l literals) (subst (λ (m : Stock). IsConfirmed p (all_of m) l) h.known confirmed)))
     n.0 (omega (arith, h.counted, counted, length_push h.entries l))))
 
 -- the step after a line that fails
-pub so_far_failed : (p : Program) (opt : Bool) (answers : List Atoms) (k known : Known) (whole : Bool) (at : ℕ) (source left later : Option (List ℕ)) (first : List ℕ) (w new : Window) (l : Line) (e : CheckError) → IsSoFar p opt answers k known whole at source left first w
+pub so_far_failed : (p : Program) (opt : Bool) (answers : List Atoms) (k known : Stock) (whole : Bool) (at : ℕ) (source left later : Option (List ℕ)) (first : List ℕ) (w new : Window) (l : Line) (e : CheckError) → IsSoFar p opt answers k known whole at source left first w
     → IsWhole IsLine line_text w.line l → StepsTo left later w new (Err e) → Comes source first (λ text. Judges p text (Err e))
 so_far_failed p opt answers k known whole at source left later first w new l e h line_is s =
     step_failed p source left later first (front_of (proof_of opt answers (h.entries ++ l ∷ []))) w new e
@@ -232,8 +232,8 @@ so_far_failed p opt answers k known whole at source left later first w new l e h
 no_such_line : (p : Program) (k : Known) (l : Line) (w : Why) → HasLineFault p k l w → w ≡ why.NotWhole → ⊥
 no_such_line p k l w h e = subst (HasLineFault p k l) e h
 
-pub so_far_wrong : (p : Program) (opt : Bool) (answers : List Atoms) (k known : Known) (whole : Bool) (at number : ℕ) (source left : Option (List ℕ)) (first : List ℕ) (w : Window) (l : Line) (reason : Why) → AreRightAnswers p opt answers → k ≡ known_at_first p (proof_of opt answers []) → IsSoFar p opt answers k known whole at source left first w
-    → IsWhole IsLine line_text w.line l → HasLineFault p known l reason → number ≡ length answers + at + 3 → Comes source first (λ text. Judges p text (Ok (judgement.No reason number)))
+pub so_far_wrong : (p : Program) (opt : Bool) (answers : List Atoms) (k known : Stock) (whole : Bool) (at number : ℕ) (source left : Option (List ℕ)) (first : List ℕ) (w : Window) (l : Line) (reason : Why) → AreRightAnswers p opt answers → k ≡ first_stock p (proof_of opt answers []) → IsSoFar p opt answers k known whole at source left first w
+    → IsWhole IsLine line_text w.line l → HasLineFault p (all_of known) l reason → number ≡ length answers + at + 3 → Comes source first (λ text. Judges p text (Ok (judgement.No reason number)))
 so_far_wrong p opt answers k known whole at number source left first w l reason right at_first h line_is fault e =
     comes_back source left first _ _ h.moved (comes_any left _ _ (λ rest. record {
       proof = proof_of opt answers (h.entries ++ l ∷ []);
@@ -243,22 +243,22 @@ so_far_wrong p opt answers k known whole at number source left first w l reason 
       wrong = inr (inl (record {
         answers = right;
         place = length h.entries;
-        wrong = pushed_line_wrong p (known_at_first p (proof_of opt answers [])) known h.entries l reason (h.known ∙ ap (λ (m : Known). known_after m h.entries) at_first) (subst (λ (m : Known). AreConfirmed p m h.entries) at_first h.confirmed) fault;
+        wrong = pushed_line_wrong p (first_stock p (proof_of opt answers [])) known h.entries l reason (h.known ∙ ap (λ (m : Stock). known_after m h.entries) at_first) (subst (λ (m : Stock). AreConfirmed p m h.entries) at_first h.confirmed) fault;
         is = omega (arith, e, h.counted);
       }));
-      last = λ e. absurd (no_such_line p known l reason fault e);
+      last = λ e. absurd (no_such_line p (all_of known) l reason fault e);
     }))
 
-pub so_far_refused : (p : Program) (opt : Bool) (answers : List Atoms) (k known : Known) (whole : Bool) (at number : ℕ) (source left : Option (List ℕ)) (first : List ℕ) (w : Window) → AreRightAnswers p opt answers → k ≡ known_at_first p (proof_of opt answers []) → IsSoFar p opt answers k known whole at source left first w
+pub so_far_refused : (p : Program) (opt : Bool) (answers : List Atoms) (k known : Stock) (whole : Bool) (at number : ℕ) (source left : Option (List ℕ)) (first : List ℕ) (w : Window) → AreRightAnswers p opt answers → k ≡ first_stock p (proof_of opt answers []) → IsSoFar p opt answers k known whole at source left first w
     → w.line ≢ codes "0" → IsNone IsLine line_text w.line → number ≡ length answers + at + 3 → Comes source first (λ text. Judges p text (Err (error.Proof (proof.Refused number))))
 so_far_refused p opt answers k known whole at number source left first w right at_first h last none e =
     let q = proof_of opt answers h.entries in
     comes_back source left first _ _ h.moved (comes_any left _ _ (λ rest. subst (λ (t : List ℕ). IsFaultAt p t number) (held_more (front_of q) w.line w.behind rest) (record {
       first = first_as _ _ number (line_refused (length answers + length h.entries + 2) q w.line (w.behind ++ rest) h.begun h.unbroken last (record { no_line = none; no_answer = h.no_answer })) (omega (arith, e, h.counted));
-      right = inr (right_before p q (w.line ++ 10 ∷ (w.behind ++ rest)) number h.begun.is right (subst (λ (m : Known). AreConfirmed p m h.entries) at_first h.confirmed) (omega (arith, e, h.counted)));
+      right = inr (right_before p q (w.line ++ 10 ∷ (w.behind ++ rest)) number h.begun.is right (subst (λ (m : Stock). AreConfirmed p m h.entries) at_first h.confirmed) (omega (arith, e, h.counted)));
     })))
 
-pub so_far_last : (p : Program) (opt : Bool) (answers : List Atoms) (k known : Known) (whole : Bool) (at number : ℕ) (source left : Option (List ℕ)) (first : List ℕ) (w : Window) (r : Result Judgement CheckError) → IsSound p → AreRightAnswers p opt answers → k ≡ known_at_first p (proof_of opt answers []) → number ≡ length answers + at + 3
+pub so_far_last : (p : Program) (opt : Bool) (answers : List Atoms) (k known : Stock) (whole : Bool) (at number : ℕ) (source left : Option (List ℕ)) (first : List ℕ) (w : Window) (r : Result Judgement CheckError) → IsSound p → AreRightAnswers p opt answers → k ≡ first_stock p (proof_of opt answers []) → number ≡ length answers + at + 3
     → IsSoFar p opt answers k known whole at source left first w → ((m : Program) (q : Proof) → IsRightFront m q number whole → Comes left (front_of q ++ held w) (λ text. Judges m text r)) → Comes source first (λ text. Judges p text r)
 so_far_last p opt answers k known whole at number source left first w r sound right e counted h c =
     comes_back source left first _ _ h.moved (c p (proof_of opt answers h.entries) (so_far_front p opt answers k known whole at number source left first w sound right e counted h))
@@ -307,23 +307,23 @@ pub last_failed : (p : Program) (source now : Option (List ℕ)) (bytes : List �
 last_failed p source now bytes w new e h = rw h (comes_any source bytes _ (λ rest. tt))
 
 -- ---- the first two lines
-head_held : (w : Window) → w.line ≡ codes "proof 1" → head ++ w.behind ≡ held w
+head_held : (w : Window) → w.line ≡ codes "proof 2" → head ++ w.behind ≡ held w
 head_held w e = ap (λ (t : List ℕ). t ++ 10 ∷ w.behind) (sym e)
 
-head_moves : (source now : Option (List ℕ)) (old : Window) (after : List ℕ) → old.line ≡ codes "proof 1" → Moves source now old.behind after → Moves source now (held old) (head ++ after)
+head_moves : (source now : Option (List ℕ)) (old : Window) (after : List ℕ) → old.line ≡ codes "proof 2" → Moves source now old.behind after → Moves source now (held old) (head ++ after)
 head_moves source now old after e m = subst (λ (t : List ℕ). Moves source now t (head ++ after)) (head_held old e) (moves_more source now old.behind after head m)
 
-pub head_failed : (p : Program) (source now : Option (List ℕ)) (old new : Window) (e : CheckError) → old.line ≡ codes "proof 1" → StepsTo source now old new (Err e) → Comes source (held old) (λ text. Judges p text (Err e))
+pub head_failed : (p : Program) (source now : Option (List ℕ)) (old new : Window) (e : CheckError) → old.line ≡ codes "proof 2" → StepsTo source now old new (Err e) → Comes source (held old) (λ text. Judges p text (Err e))
 head_failed p source now old new e z s = step_failed p source source now (held old) head old new e (moves_as source source (held old) _ _ (sym (head_held old z)) (moves_none source (held old))) s
 
-pub head_broken : (p : Program) (source now : Option (List ℕ)) (old new : Window) → old.line ≡ codes "proof 1" → IsNextLine source now old new (Ok false) → Comes source (held old) (λ text. Judges p text (Err (error.Proof (proof.Refused 2))))
+pub head_broken : (p : Program) (source now : Option (List ℕ)) (old new : Window) → old.line ≡ codes "proof 2" → IsNextLine source now old new (Ok false) → Comes source (held old) (λ text. Judges p text (Err (error.Proof (proof.Refused 2))))
 head_broken p source now old new z n = comes_back source now (held old) (head ++ new.line) _ (head_moves source now old new.line z n.1) (comes_end now _ _ n.2 (record { first = mode_broken new.line n.0; right = inl refl }))
 
-pub head_refused : (p : Program) (source now : Option (List ℕ)) (old new : Window) → old.line ≡ codes "proof 1" → IsNextLine source now old new (Ok true) → ((opt : Bool) → mode_line opt ≡ line new.line → ⊥) → Comes source (held old) (λ text. Judges p text (Err (error.Proof (proof.Refused 2))))
+pub head_refused : (p : Program) (source now : Option (List ℕ)) (old new : Window) → old.line ≡ codes "proof 2" → IsNextLine source now old new (Ok true) → ((opt : Bool) → mode_line opt ≡ line new.line → ⊥) → Comes source (held old) (λ text. Judges p text (Err (error.Proof (proof.Refused 2))))
 head_refused p source now old new z n none = comes_back source now (held old) (head ++ held new) _ (head_moves source now old (held new) z n.1)
     (comes_any now _ _ (λ rest. record { first = subst (λ (t : List ℕ). IsFirstFault t 2) (held_more head new.line new.behind rest) (mode_refused new.line (new.behind ++ rest) n.0 none); right = inl refl }))
 
-pub head_goes : (p : Program) (source now : Option (List ℕ)) (old new : Window) (opt : Bool) (r : Result Judgement CheckError) → old.line ≡ codes "proof 1" → IsNextLine source now old new (Ok true) → mode_line opt ≡ line new.line
+pub head_goes : (p : Program) (source now : Option (List ℕ)) (old new : Window) (opt : Bool) (r : Result Judgement CheckError) → old.line ≡ codes "proof 2" → IsNextLine source now old new (Ok true) → mode_line opt ≡ line new.line
     → Comes now (front_of (proof_of opt [] []) ++ new.behind) (λ text. Judges p text r) → Comes source (held old) (λ text. Judges p text r)
 head_goes p source now old new opt r z n mode_is c =
     comes_back source now (held old) (head ++ held new) _ (head_moves source now old (held new) z n.1) (comes_as now _ _ _ (front_mode opt new.line new.behind mode_is) c)

@@ -9,7 +9,7 @@ use Rattle.asp_proof.specs.Walk.{IsStart, front_of, proof_of}
 use Rattle.asp_proof.proofs.TextLaws.{one_whole, start_of}
 use Rattle.asp_checker.specs.declared.judge.Why.{Why}
 use Rattle.asp_checker.specs.Propagation.{Known}
-use Rattle.asp_checker.specs.Lines.{AreConfirmed, known_at_first}
+use Rattle.asp_checker.specs.Lines.{AreConfirmed, known_at_first, Stock, stock, all_of, first_stock}
 use Rattle.asp_checker.specs.Right.{IsRight}
 use Rattle.asp_checker.specs.Judging.{AreRightAnswers, HasAnswerFault, HasLineFault, IsLineFault, IsNotWhole, IsWrongAnswer, IsWrongLine, known_after, no_line}
 use Rattle.asp_checker.specs.Streams.{IsWrongAt}
@@ -32,17 +32,17 @@ known_as p q other mode same =
     ap (λ o. known_at_first p (proof_of o q.answers [])) mode ∙ ap (λ Ss. known_at_first p (proof_of other.opt Ss [])) same
 
 -- the same of a line
-lines_of : (p : Program) (q other : Proof) (w : Why) (place : ℕ) → IsStart q other → q.answers ≡ other.answers → IsWrongLine p (known_at_first p q) q.lines w place → IsWrongLine p (known_at_first p other) other.lines w place
+lines_of : (p : Program) (q other : Proof) (w : Why) (place : ℕ) → IsStart q other → q.answers ≡ other.answers → IsWrongLine p (first_stock p q) q.lines w place → IsWrongLine p (first_stock p other) other.lines w place
 lines_of p q other w place s same h =
-    let k = known_at_first p other in
-    let e = known_as p q other s.mode same in
+    let k = first_stock p other in
+    let e = ap (λ (m : Known). stock m []) (known_as p q other s.mode same) in
     let front : take place other.lines ≡ take place q.lines = ap (take place) s.lines ∙ take-append-le place q.lines s.more_lines (omega (arith, h.within)) in
     let at : get_or other.lines place no_line ≡ get_or q.lines place no_line = ap (λ ls. get_or ls place no_line) s.lines ∙ get_or_append_left q.lines s.more_lines no_line place h.within in
     record {
       within = omega (arith, ap length s.lines, length-append q.lines s.more_lines, h.within);
-      before = subst (AreConfirmed p k) (sym front) (subst (λ (m : Known). AreConfirmed p m (take place q.lines)) e h.before);
-      fault = subst (λ ls. HasLineFault p (known_after k ls) (get_or other.lines place no_line) w) (sym front)
-          (subst (λ l. HasLineFault p (known_after k (take place q.lines)) l w) (sym at) (subst (λ (m : Known). HasLineFault p (known_after m (take place q.lines)) (get_or q.lines place no_line) w) e h.fault));
+      before = subst (AreConfirmed p k) (sym front) (subst (λ (m : Stock). AreConfirmed p m (take place q.lines)) e h.before);
+      fault = subst (λ ls. HasLineFault p (all_of (known_after k ls)) (get_or other.lines place no_line) w) (sym front)
+          (subst (λ l. HasLineFault p (all_of (known_after k (take place q.lines))) l w) (sym at) (subst (λ (m : Stock). HasLineFault p (all_of (known_after m (take place q.lines))) (get_or q.lines place no_line) w) e h.fault));
     }
 
 pub told-not_right : (p : Program) (proof : Proof) (w : Why) (number : ℕ) → IsProof proof → IsRight p proof → IsWrongAt p (text_of proof) w number → ⊥

@@ -17,7 +17,7 @@ use Rattle.asp_proof.specs.declared.proof.Proof.{Proof}
 use Rattle.asp_checker.specs.declared.judge.Why.{Why}
 use Rattle.asp_checker.specs.declared.judge.Why.TheVariants as why
 use Rattle.asp_checker.specs.Propagation.{Known}
-use Rattle.asp_checker.specs.Lines.{AreOf, IsConfirmed, AreConfirmed, nogood_of, with_nogood, known_at_first}
+use Rattle.asp_checker.specs.Lines.{AreOf, IsConfirmed, AreConfirmed, nogood_of, Stock, all_of, with_line, first_stock}
 use Rattle.asp_checker.specs.Right.{IsRight}
 use Rattle.asp_checker.specs.Judging.{IsInOrder, HasAnswerFault, IsWrongAnswer, HasLiterals, HasLineFault, IsWrongLine, IsNotWhole, IsRefused, known_after, no_line}
 
@@ -58,29 +58,29 @@ wrong_answer_no p proof w i right wrong =
     (All-from_recursion (Contains (answers p)) proof.answers right.members i [] wrong.within) wrong.fault
 
 -- ---- lines
-confirmed_of : (p : Program) (k : Known) (lines : List Line) (i : ℕ) → i < length lines → AreConfirmed p k lines → AreOf p (nogood_of (get_or lines i no_line))
-confirmed_of p k [] i lt h = absurd (omega arith)
-confirmed_of p k (l ∷ lines) zero lt h = h.0
-confirmed_of p k (l ∷ lines) (suc i) lt h = confirmed_of p (with_nogood k (nogood_of l)) lines i (omega arith) h.2
+confirmed_of : (p : Program) (s : Stock) (lines : List Line) (i : ℕ) → i < length lines → AreConfirmed p s lines → AreOf p (nogood_of (get_or lines i no_line))
+confirmed_of p s [] i lt h = absurd (omega arith)
+confirmed_of p s (l ∷ lines) zero lt h = h.0
+confirmed_of p s (l ∷ lines) (suc i) lt h = confirmed_of p (with_line s l) lines i (omega arith) h.2
 
-confirmed_at : (p : Program) (k : Known) (lines : List Line) (i : ℕ) → i < length lines → AreConfirmed p k lines → IsConfirmed p (known_after k (take i lines)) (get_or lines i no_line)
-confirmed_at p k [] i lt h = absurd (omega arith)
-confirmed_at p k (l ∷ lines) zero lt h = h.1
-confirmed_at p k (l ∷ lines) (suc i) lt h = confirmed_at p (with_nogood k (nogood_of l)) lines i (omega arith) h.2
+confirmed_at : (p : Program) (s : Stock) (lines : List Line) (i : ℕ) → i < length lines → AreConfirmed p s lines → IsConfirmed p (all_of (known_after s (take i lines))) (get_or lines i no_line)
+confirmed_at p s [] i lt h = absurd (omega arith)
+confirmed_at p s (l ∷ lines) zero lt h = h.1
+confirmed_at p s (l ∷ lines) (suc i) lt h = confirmed_at p (with_line s l) lines i (omega arith) h.2
 
 literals_of_confirmed : (p : Program) (k : Known) (l : Line) → AreOf p (nogood_of l) → IsConfirmed p k l → HasLiterals p l
-literals_of_confirmed p k (line.Loop set n) of h = (h.among, of)
-literals_of_confirmed p k (line.Learned n) of h = of
+literals_of_confirmed p k (line.Loop place set n) of h = (h.among, of)
+literals_of_confirmed p k (line.Learned place n names) of h = of
 literals_of_confirmed p k (line.Cube n) of h = of
 
 no_loop : (p : Program) (k : Known) (l : Line) → IsConfirmed p k l → HasLineFault p k l why.Loop → ⊥
-no_loop p k (line.Loop set n) c h = h.1 c
-no_loop p k (line.Learned n) c h = h.1
+no_loop p k (line.Loop place set n) c h = h.1 c
+no_loop p k (line.Learned place n names) c h = h.1
 no_loop p k (line.Cube n) c h = h.1
 
 not_implied : (p : Program) (k : Known) (l : Line) → IsConfirmed p k l → HasLineFault p k l why.NotImplied → ⊥
-not_implied p k (line.Loop set n) c h = h.1
-not_implied p k (line.Learned n) c h = h.1 c
+not_implied p k (line.Loop place set n) c h = h.1
+not_implied p k (line.Learned place n names) c h = h.1 c
 not_implied p k (line.Cube n) c h = h.1 c
 
 line_fault : (p : Program) (k : Known) (l : Line) (w : Why) → AreOf p (nogood_of l) → IsConfirmed p k l → HasLineFault p k l w → ⊥
@@ -91,9 +91,9 @@ line_fault p k l why.Member of c h = h
 line_fault p k l why.Order of c h = h
 line_fault p k l why.NotWhole of c h = h
 
-wrong_line_no : (p : Program) (k : Known) (lines : List Line) (w : Why) (i : ℕ) → AreConfirmed p k lines → IsWrongLine p k lines w i → ⊥
-wrong_line_no p k lines w i c wrong =
-    line_fault p (known_after k (take i lines)) (get_or lines i no_line) w (confirmed_of p k lines i wrong.within c) (confirmed_at p k lines i wrong.within c) wrong.fault
+wrong_line_no : (p : Program) (s : Stock) (lines : List Line) (w : Why) (i : ℕ) → AreConfirmed p s lines → IsWrongLine p s lines w i → ⊥
+wrong_line_no p s lines w i c wrong =
+    line_fault p (all_of (known_after s (take i lines))) (get_or lines i no_line) w (confirmed_of p s lines i wrong.within c) (confirmed_at p s lines i wrong.within c) wrong.fault
 
 -- ---- the whole
 not_whole_no : (p : Program) (proof : Proof) (w : Why) (n : ℕ) → IsRight p proof → IsNotWhole p proof w n → ⊥
@@ -103,7 +103,7 @@ pub refused-not_right : (p : Program) (proof : Proof) (w : Why) (n : ℕ) → Is
 refused-not_right p proof w n right refused = elim refused [
   | inl a ↦ let b = a.wrong in wrong_answer_no p proof w a.place right b
   | inr o ↦ elim o [
-    | inl l ↦ let b = l.wrong in wrong_line_no p (known_at_first p proof) proof.lines w l.place right.lines b
+    | inl l ↦ let b = l.wrong in wrong_line_no p (first_stock p proof) proof.lines w l.place right.lines b
     | inr h ↦ not_whole_no p proof w n right h
   ]
 ]

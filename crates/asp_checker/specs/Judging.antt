@@ -22,7 +22,7 @@ use Rattle.asp_proof.specs.Grammar.{IsSet, IsLine}
 use Rattle.asp_proof.specs.Fields.{IsNone, IsWhole}
 use Rattle.asp_checker.specs.declared.bounds.Bound.{Bound}
 use Rattle.asp_checker.specs.Propagation.{Known, LeadsToConflict}
-use Rattle.asp_checker.specs.Lines.{AreOf, IsLoop, IsConfirmed, AreConfirmed, literals_of, nogood_of, with_nogood, known_at_first}
+use Rattle.asp_checker.specs.Lines.{AreOf, IsLoop, IsConfirmed, AreConfirmed, literals_of, nogood_of, Stock, stock, all_of, with_line, first_stock}
 use Rattle.asp_checker.specs.Right.{closes, IsRight}
 use Rattle.asp_checker.specs.Blocks.{known_with}
 use Rattle.asp_checker.specs.Chasing.{IsRoot}
@@ -73,19 +73,19 @@ HasLoopLiterals p set nogood = (list_all (has (atoms_of p)) set ≡ true) × Are
 
 -- The program has the variables of the line's literals, and the atoms of its set.
 abbrev pub HasLiterals : Program → Line → Type 0
-HasLiterals p (line.Loop set nogood) = HasLoopLiterals p set nogood
-HasLiterals p (line.Learned nogood) = AreOf p (literals_of nogood)
+HasLiterals p (line.Loop place set nogood) = HasLoopLiterals p set nogood
+HasLiterals p (line.Learned place nogood names) = AreOf p (literals_of nogood)
 HasLiterals p (line.Cube nogood) = AreOf p (literals_of nogood)
 
 -- what the line is to show isn't so
 abbrev pub IsNoLoop : Program → Line → Type 0
-IsNoLoop p (line.Loop set nogood) = IsLoop p set (literals_of nogood) → ⊥
-IsNoLoop p (line.Learned nogood) = ⊥
+IsNoLoop p (line.Loop place set nogood) = IsLoop p set (literals_of nogood) → ⊥
+IsNoLoop p (line.Learned place nogood names) = ⊥
 IsNoLoop p (line.Cube nogood) = ⊥
 
 abbrev pub IsNotImplied : Program → Known → Line → Type 0
-IsNotImplied p k (line.Loop set nogood) = ⊥
-IsNotImplied p k (line.Learned nogood) = LeadsToConflict p k (literals_of nogood) → ⊥
+IsNotImplied p k (line.Loop place set nogood) = ⊥
+IsNotImplied p k (line.Learned place nogood names) = LeadsToConflict p k (literals_of nogood) → ⊥
 IsNotImplied p k (line.Cube nogood) = LeadsToConflict p k (literals_of nogood) → ⊥
 
 -- what is wrong with a line, where this is known
@@ -103,39 +103,40 @@ IsLineJudged p k l (step.Wrong w) = HasLineFault p k l w
 IsLineJudged p k l (step.Known n) = (n ≡ nogood_of l) × HasLiterals p l × IsConfirmed p k l
 
 -- A line was right, and is known now, with the values that follow.
-pub record IsKnownNow (p : Program) (listed : List Atoms) (bound : Option Bound) (rows now : List (List Literal)) (l : Line) (x : List (Option Bool)) (closing : Bool) : Type 0 where
+pub record IsKnownNow (p : Program) (listed : List Atoms) (bound : Option Bound) (rows placed now now_placed : List (List Literal)) (l : Line) (x : List (Option Bool)) (closing : Bool) : Type 0 where
   pub literals : HasLiterals p l
-  pub confirmed : IsConfirmed p (known_with p listed rows bound) l
+  pub confirmed : IsConfirmed p (all_of (stock (known_with p listed rows bound) placed)) l
   pub of : AllByRecursion (AreOf p) now
-  pub known : known_with p listed now bound ≡ with_nogood (known_with p listed rows bound) (nogood_of l)
+  pub of_placed : AllByRecursion (AreOf p) now_placed
+  pub known : stock (known_with p listed now bound) now_placed ≡ with_line (stock (known_with p listed rows bound) placed) l
   pub root : IsRoot p (known_with p listed now bound) x
   pub closing_is : closing ≡ closes p l
 
 -- what the bytes of a line came to: the last one, no line of a proof, or one that was judged
-abbrev pub IsLineRead : Program → List Atoms → Option Bound → List (List Literal) → List (List Literal) → List ℕ → List (Option Bool) → Read → Type 0
-IsLineRead p listed bound rows now bytes x read.Last = bytes ≡ codes "0"
-IsLineRead p listed bound rows now bytes x read.Refused = (bytes ≢ codes "0") × IsNone IsLine line_text bytes
-IsLineRead p listed bound rows now bytes x (read.Wrong w) = (l : Line) × IsWhole IsLine line_text bytes l × HasLineFault p (known_with p listed rows bound) l w
-IsLineRead p listed bound rows now bytes x (read.Right closing) = (l : Line) × IsWhole IsLine line_text bytes l × IsKnownNow p listed bound rows now l x closing
+abbrev pub IsLineRead : Program → List Atoms → Option Bound → List (List Literal) → List (List Literal) → List (List Literal) → List (List Literal) → List ℕ → List (Option Bool) → Read → Type 0
+IsLineRead p listed bound rows placed now now_placed bytes x read.Last = bytes ≡ codes "0"
+IsLineRead p listed bound rows placed now now_placed bytes x read.Refused = (bytes ≢ codes "0") × IsNone IsLine line_text bytes
+IsLineRead p listed bound rows placed now now_placed bytes x (read.Wrong w) = (l : Line) × IsWhole IsLine line_text bytes l × HasLineFault p (all_of (stock (known_with p listed rows bound) placed)) l w
+IsLineRead p listed bound rows placed now now_placed bytes x (read.Right closing) = (l : Line) × IsWhole IsLine line_text bytes l × IsKnownNow p listed bound rows placed now now_placed l x closing
 
 -- what is known behind these lines
-abbrev pub known_after : Known → List Line → Known
-known_after k [] = k
-known_after k (l ∷ lines) = known_after (with_nogood k (nogood_of l)) lines
+abbrev pub known_after : Stock → List Line → Stock
+known_after s [] = s
+known_after s (l ∷ lines) = known_after (with_line s l) lines
 
 -- the line past the last
 abbrev pub no_line : Line
-no_line = line.Learned []
+no_line = line.Cube []
 
 -- the first line that is wrong
-pub record IsWrongLine (p : Program) (k : Known) (lines : List Line) (w : Why) (place : ℕ) : Type 0 where
+pub record IsWrongLine (p : Program) (s : Stock) (lines : List Line) (w : Why) (place : ℕ) : Type 0 where
   pub within : place < length lines
-  pub before : AreConfirmed p k (take place lines)
-  pub fault : HasLineFault p (known_after k (take place lines)) (slice_index_or lines place no_line) w
+  pub before : AreConfirmed p s (take place lines)
+  pub fault : HasLineFault p (all_of (known_after s (take place lines))) (slice_index_or lines place no_line) w
 
 -- All lines are right, and one of them says that there is nothing else, or none.
-pub record AreRightLines (p : Program) (k : Known) (lines : List Line) (whole : Bool) : Type 0 where
-  pub confirmed : AreConfirmed p k lines
+pub record AreRightLines (p : Program) (s : Stock) (lines : List Line) (whole : Bool) : Type 0 where
+  pub confirmed : AreConfirmed p s lines
   pub whole_is : whole ≡ list_any (closes p) lines
 
 -- ---- the whole
@@ -148,12 +149,12 @@ pub record IsAnswerFault (p : Program) (proof : Proof) (w : Why) (number : ℕ) 
 pub record IsLineFault (p : Program) (proof : Proof) (w : Why) (number : ℕ) : Type 0 where
   pub answers : AreRightAnswers p proof.opt proof.answers
   pub place : ℕ
-  pub wrong : IsWrongLine p (known_at_first p proof) proof.lines w place
+  pub wrong : IsWrongLine p (first_stock p proof) proof.lines w place
   pub is : number ≡ length proof.answers + place + 3
 
 pub record IsNotWhole (p : Program) (proof : Proof) (w : Why) (number : ℕ) : Type 0 where
   pub answers : AreRightAnswers p proof.opt proof.answers
-  pub lines : AreRightLines p (known_at_first p proof) proof.lines false
+  pub lines : AreRightLines p (first_stock p proof) proof.lines false
   pub why : w ≡ why.NotWhole
   pub is : number ≡ length proof.answers + length proof.lines + 3
 

@@ -1,5 +1,5 @@
 -- When a line of a proof is confirmed by those before it.
-use Rattle.std.specs.Prelude.{suc, ◌<◌, ◌≤◌, Bool, not, ◌||◌, if◌then◌else◌, List, [], ◌∷◌, ◌++◌, map, Option, Some, None, ℤ, pos, negsuc, int_lt, IsTrue}
+use Rattle.std.specs.Prelude.{ℕ, zero, suc, ◌<◌, ◌≤◌, Bool, not, ◌||◌, if◌then◌else◌, List, [], ◌∷◌, ◌++◌, map, Option, Some, None, ℤ, pos, negsuc, int_lt, IsTrue}
 use Rattle.std.specs.List.{list_all, list_any, AllByRecursion}
 use Rattle.asp_model.specs.declared.program.Body.{Body}
 use Rattle.asp_model.specs.declared.program.Body.TheVariants as body
@@ -26,8 +26,8 @@ abbrev pub literals_of : List ℤ → List Literal
 literals_of numbers = map signed numbers
 
 abbrev pub nogood_of : Line → List Literal
-nogood_of (line.Loop set nogood) = literals_of nogood
-nogood_of (line.Learned nogood) = literals_of nogood
+nogood_of (line.Loop place set nogood) = literals_of nogood
+nogood_of (line.Learned place nogood names) = literals_of nogood
 nogood_of (line.Cube nogood) = literals_of nogood
 
 -- ---- loops
@@ -52,17 +52,48 @@ abbrev pub AreOf : Program → List Literal → Type 0
 AreOf p n = AllByRecursion (IsOf p) n
 
 abbrev pub IsConfirmed : Program → Known → Line → Type 0
-IsConfirmed p k (line.Loop set nogood) = IsLoop p set (literals_of nogood)
-IsConfirmed p k (line.Learned nogood) = LeadsToConflict p k (literals_of nogood)
+IsConfirmed p k (line.Loop place set nogood) = IsLoop p set (literals_of nogood)
+IsConfirmed p k (line.Learned place nogood names) = LeadsToConflict p k (literals_of nogood)
 IsConfirmed p k (line.Cube nogood) = LeadsToConflict p k (literals_of nogood)
 
 abbrev pub with_nogood : Known → List Literal → Known
 with_nogood k n = record { nogoods = k.nogoods ++ n ∷ []; bound = k.bound }
 
--- Each line is confirmed by what was known at the start and the lines before it.
-abbrev pub AreConfirmed : Program → Known → List Line → Type 0
-AreConfirmed p k [] = Unit {0}
-AreConfirmed p k (l ∷ lines) = AreOf p (nogood_of l) × IsConfirmed p k l × AreConfirmed p (with_nogood k (nogood_of l)) lines
+-- the place that a line takes, counted from 1; 0 where its nogood is known for good
+abbrev pub place_of : Line → ℕ
+place_of (line.Loop place set nogood) = place
+place_of (line.Learned place nogood names) = place
+place_of (line.Cube nogood) = 0
+
+-- a nogood in a place, counted from 0: the one that was there is known no more; behind the last one, where there is no such place
+abbrev pub put : List (List Literal) → ℕ → List Literal → List (List Literal)
+put [] at n = n ∷ []
+put (m ∷ placed) zero n = n ∷ placed
+put (m ∷ placed) (suc at) n = m ∷ put placed at n
+
+-- what is known for good, and the nogoods in places
+pub record Stock : Type 0 where
+  pub kept : Known
+  pub placed : List (List Literal)
+
+abbrev pub stock : Known → List (List Literal) → Stock
+stock k placed = record { kept = k; placed = placed }
+
+-- all that is known
+abbrev pub all_of : Stock → Known
+all_of s = record { nogoods = s.placed ++ s.kept.nogoods; bound = s.kept.bound }
+
+abbrev pub with_placed : Stock → ℕ → List Literal → Stock
+with_placed s zero n = stock (with_nogood s.kept n) s.placed
+with_placed s (suc at) n = stock s.kept (put s.placed at n)
+
+abbrev pub with_line : Stock → Line → Stock
+with_line s l = with_placed s (place_of l) (nogood_of l)
+
+-- Each line is confirmed by what is known at the start and of the lines before it.
+abbrev pub AreConfirmed : Program → Stock → List Line → Type 0
+AreConfirmed p s [] = Unit {0}
+AreConfirmed p s (l ∷ lines) = AreOf p (nogood_of l) × IsConfirmed p (all_of s) l × AreConfirmed p (with_line s l) lines
 
 -- ---- the start
 -- the literals of all atoms by which a set differs from all others
@@ -79,3 +110,6 @@ abbrev pub known_at_first : Program → Proof → Known
 known_at_first p proof =
     if proof.opt then record { nogoods = completion p; bound = bound_of p proof.answers }
     else record { nogoods = map (nogood_of_answer p) proof.answers ++ completion p; bound = None }
+
+abbrev pub first_stock : Program → Proof → Stock
+first_stock p proof = stock (known_at_first p proof) []

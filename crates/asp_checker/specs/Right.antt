@@ -10,7 +10,7 @@ use Rattle.asp_vars.specs.Numbering.{literal_of}
 use Rattle.asp_proof.specs.declared.proof.Line.{Line}
 use Rattle.asp_proof.specs.declared.proof.Line.TheVariants as line
 use Rattle.asp_proof.specs.declared.proof.Proof.{Proof}
-use Rattle.asp_checker.specs.Lines.{literals_of, AreConfirmed, known_at_first}
+use Rattle.asp_checker.specs.Lines.{literals_of, AreConfirmed, first_stock}
 
 -- Each of the literals is an assumption.
 abbrev pub is_assumed : Program → List Literal → Bool
@@ -18,15 +18,15 @@ is_assumed p n = list_all (has_literal (map (literal_of p) p.assumptions)) n
 
 -- The line says that nothing else is to be found.
 abbrev pub closes : Program → Line → Bool
-closes p (line.Loop set nogood) = false
-closes p (line.Learned nogood) = is_assumed p (literals_of nogood)
+closes p (line.Loop place set nogood) = false
+closes p (line.Learned place nogood names) = is_assumed p (literals_of nogood)
 closes p (line.Cube nogood) = is_assumed p (literals_of nogood)
 
 pub record IsRight (p : Program) (proof : Proof) : Type 0 where
   pub members : AllByRecursion (Contains (answers p)) proof.answers
   pub order : AllPairs IsBefore proof.answers
   pub single : IsTrue proof.opt → length proof.answers ≤ 1
-  pub lines : AreConfirmed p (known_at_first p proof) proof.lines
+  pub lines : AreConfirmed p (first_stock p proof) proof.lines
   pub whole : IsTrue (list_any (closes p) proof.lines)
 
 -- An optimisation lists one answer that none betters, and none only where there is none.

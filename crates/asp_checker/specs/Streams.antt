@@ -21,8 +21,7 @@ use Rattle.asp_checker.specs.declared.judge.Judgement.{Judgement}
 use Rattle.asp_checker.specs.declared.judge.Judgement.TheVariants as judgement
 use Rattle.asp_checker.specs.declared.error.CheckError.{CheckError}
 use Rattle.asp_checker.specs.declared.error.CheckError.TheVariants as error
-use Rattle.asp_checker.specs.Propagation.{Known}
-use Rattle.asp_checker.specs.Lines.{AreConfirmed, known_at_first}
+use Rattle.asp_checker.specs.Lines.{AreConfirmed, Stock, first_stock}
 use Rattle.asp_checker.specs.Right.{closes, IsRight, Shows}
 use Rattle.asp_checker.specs.Judging.{AreRightAnswers, IsRefused, known_after}
 
@@ -51,7 +50,7 @@ pub record IsRightBefore (p : Program) (text : List ℕ) (number : ℕ) : Type 0
   pub rest : List ℕ
   pub begins : front_of proof ++ rest ≡ text
   pub answers : AreRightAnswers p proof.opt proof.answers
-  pub lines : AreConfirmed p (known_at_first p proof) proof.lines
+  pub lines : AreConfirmed p (first_stock p proof) proof.lines
   pub next : (number ≡ length proof.answers + length proof.lines + 3) ⊎ ((number ≡ length proof.answers + length proof.lines + 4) × IsTrue (list_any (closes p) proof.lines))
 
 -- The line is the first with which no proof's text begins, and those before it are right. The first two have nothing to be judged.
@@ -96,7 +95,7 @@ pub record IsRightFront (p : Program) (q : Proof) (number : ℕ) (whole : Bool) 
   pub sound : IsSound p
   pub begun : IsBegun (length q.answers + length q.lines + 2) q
   pub answers : AreRightAnswers p q.opt q.answers
-  pub lines : AreConfirmed p (known_at_first p q) q.lines
+  pub lines : AreConfirmed p (first_stock p q) q.lines
   pub counted : number ≡ length q.answers + length q.lines + 3
   pub whole_is : whole ≡ list_any (closes p) q.lines
 
@@ -119,13 +118,13 @@ JudgesAnswers p opt answers source now first w (Ok (Some why)) = Comes source fi
 JudgesAnswers p opt answers source now first w (Err e) = Comes source first (λ text. Judges p text (Err e))
 
 -- The lines so far are right, and the reader is at the next one.
-pub record IsSoFar (p : Program) (opt : Bool) (answers : List Atoms) (k now : Known) (whole : Bool) (at : ℕ) (source left : Option (List ℕ)) (first : List ℕ) (w : Window) : Type 0 where
+pub record IsSoFar (p : Program) (opt : Bool) (answers : List Atoms) (s now : Stock) (whole : Bool) (at : ℕ) (source left : Option (List ℕ)) (first : List ℕ) (w : Window) : Type 0 where
   pub entries : List Line
   pub counted : length entries ≡ at
   pub begun : IsBegun (length answers + length entries + 2) (proof_of opt answers entries)
   pub moved : Moves source left first (front_of (proof_of opt answers entries) ++ held w)
   pub unbroken : IsUnbroken w.line
   pub no_answer : entries ≡ [] → IsNone IsSet answer_text w.line
-  pub confirmed : AreConfirmed p k entries
-  pub known : now ≡ known_after k entries
+  pub confirmed : AreConfirmed p s entries
+  pub known : now ≡ known_after s entries
   pub whole_is : whole ≡ list_any (closes p) entries

@@ -83,3 +83,23 @@ pub(crate) fn sweep_all(
         Visit::Fixpoint => sweep_answers(compiled, listed, values),
     }
 }
+
+/// The same, and last the nogoods in places.
+pub(crate) fn sweep_known(
+    compiled: &Compiled,
+    listed: &[Interp],
+    rows: &[Seq<Lit>],
+    placed: &[Seq<Lit>],
+    values: &mut Assign,
+) -> Visit
+    requires of { AllByRecursion (AreOf compiled.now) rows.now }
+    requires placed { AllByRecursion (AreOf compiled.now) placed.now }
+    requires size { length values.old ≡ var_count compiled.now + 1 }
+    ensures { IsSwept values.old values.new (placed.now ++ (map (nogood_of_answer compiled.now) listed.now ++ rows.now)) result }
+{
+    match sweep_all(compiled, listed, rows, values) {
+        Visit::Conflict => Visit::Conflict,
+        Visit::Implied => Visit::Implied,
+        Visit::Fixpoint => sweep(placed, values),
+    }
+}

@@ -4,7 +4,7 @@ ghost use Rattle.std.specs.List.{AllByRecursion, list_any};
 ghost use Rattle.asp_vars.specs.Literals.{Literal, value_of};
 ghost use Rattle.asp_vars.specs.Numbering.{bodies_of, var_count};
 ghost use Rattle.asp_checker.specs.Propagation.{Known, is_broken};
-ghost use Rattle.asp_checker.specs.Lines.{AreOf, nogood_of_answer};
+ghost use Rattle.asp_checker.specs.Lines.{AreOf, nogood_of_answer, stock, all_of};
 ghost use Rattle.asp_checker.specs.Looks.{IsSeen};
 ghost use Rattle.asp_checker.specs.Sweeps.{IsNogoodOf, AreNogoodsOf};
 ghost use Rattle.asp_checker.specs.Blocks.{is_blocked, HasLevels, known_by, known_with, cost_of_bound, Extends, AreRefuted};
@@ -200,17 +200,20 @@ fn follow(
     compiled: &Compiled,
     listed: &[Interp],
     rows: &[Seq<Lit>],
+    placed: &[Seq<Lit>],
     bound: &Option<Bound>,
     values: &mut Assign,
     hint: &Hint,
 ) -> Found
     requires of { AllByRecursion (AreOf compiled.now) rows.now }
+    requires placed { AllByRecursion (AreOf compiled.now) placed.now }
     requires size { length values.old ≡ var_count compiled.now + 1 }
     requires levels { HasLevels compiled.now bound.now }
-    ensures { IsFoundBy compiled.now (known_with compiled.now listed.now rows.now bound.now) values.old values.new result }
+    ensures { IsFoundBy compiled.now (all_of (stock (known_with compiled.now listed.now rows.now bound.now) placed.now)) values.old values.new result }
 {
     match hint {
         Hint::Nogood(place) => look(compiled, rows, *place, values),
+        Hint::Placed(place) => look(compiled, placed, *place, values),
         Hint::Answer(place) => look_at_listed(compiled, listed, *place, values),
         Hint::Body(body, lit) => force(compiled, bound, values, Some(*body), *lit),
         Hint::Bound(lit) => force(compiled, bound, values, None, *lit),
@@ -237,24 +240,34 @@ pub(crate) fn chase(
     compiled: &Compiled,
     listed: &[Interp],
     rows: &[Seq<Lit>],
+    placed: &[Seq<Lit>],
     bound: &Option<Bound>,
     watches: &mut Watches,
     values: &mut Assign,
     trail: &mut Vec<Lit>,
 ) -> Result<bool, AllocError>
     requires of { AllByRecursion (AreOf compiled.now) rows.now }
+    requires placed { AllByRecursion (AreOf compiled.now) placed.now }
     requires size { length values.old ≡ var_count compiled.now + 1 }
     requires levels { HasLevels compiled.now bound.now }
-    ensures conflict { IfOk result (λ yes. yes ≡ true → AreRefuted compiled.now (known_with compiled.now listed.now rows.now bound.now) values.old) }
-    ensures extends { OnOk result (Extends compiled.now (known_with compiled.now listed.now rows.now bound.now) values.old values.new) }
+    ensures conflict { IfOk result (λ yes. yes ≡ true → AreRefuted compiled.now (all_of (stock (known_with compiled.now listed.now rows.now bound.now) placed.now)) values.old) }
+    ensures extends { OnOk result (Extends compiled.now (all_of (stock (known_with compiled.now listed.now rows.now bound.now) placed.now)) values.old values.new) }
     ensures trailed { OnOk result (IsTrailedAlike values.old values.new trail.old.items trail.new.items) }
 {
     'hints: for _ in 0..u64::MAX {
-        let Some(hint) = watches.next(compiled, listed, rows, bound, values, trail.as_slice())?
+        let Some(hint) = watches.next(
+            compiled,
+            listed,
+            rows,
+            placed,
+            bound,
+            values,
+            trail.as_slice(),
+        )?
         else {
             return Ok(false);
         };
-        let found = follow(compiled, listed, rows, bound, values, &hint);
+        let found = follow(compiled, listed, rows, placed, bound, values, &hint);
         if let Found::Conflict = found {
             watches.keep(hint);
             return Ok(true);

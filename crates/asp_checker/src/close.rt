@@ -4,10 +4,10 @@ ghost use Rattle.std.specs.List.{AllByRecursion};
 ghost use Rattle.asp_vars.specs.Literals.{Literal};
 ghost use Rattle.asp_vars.specs.Numbering.{var_count};
 ghost use Rattle.asp_checker.specs.Propagation.{IsPropagated};
-ghost use Rattle.asp_checker.specs.Lines.{AreOf};
+ghost use Rattle.asp_checker.specs.Lines.{AreOf, stock, all_of};
 ghost use Rattle.asp_checker.specs.Blocks.{HasLevels, known_by, known_with, IsStep, IsFound, Extends, AreRefuted};
 
-use crate::answers::sweep_all;
+use crate::answers::sweep_known;
 use crate::blocks::{implied, is_blocked};
 use crate::bounds::Bound;
 use crate::nogoods::Visit;
@@ -41,15 +41,17 @@ fn step(
     compiled: &Compiled,
     listed: &[Interp],
     rows: &[Seq<Lit>],
+    placed: &[Seq<Lit>],
     bound: &Option<Bound>,
     values: &mut Assign,
 ) -> Visit
     requires of { AllByRecursion (AreOf compiled.now) rows.now }
+    requires placed { AllByRecursion (AreOf compiled.now) placed.now }
     requires size { length values.old ≡ var_count compiled.now + 1 }
     requires levels { HasLevels compiled.now bound.now }
-    ensures { IsStep compiled.now (known_with compiled.now listed.now rows.now bound.now) values.old values.new result }
+    ensures { IsStep compiled.now (all_of (stock (known_with compiled.now listed.now rows.now bound.now) placed.now)) values.old values.new result }
 {
-    match sweep_all(compiled, listed, rows, values) {
+    match sweep_known(compiled, listed, rows, placed, values) {
         Visit::Conflict => Visit::Conflict,
         Visit::Implied => Visit::Implied,
         Visit::Fixpoint => look_further(compiled, bound, values),
@@ -61,18 +63,20 @@ pub fn close(
     compiled: &Compiled,
     listed: &[Interp],
     rows: &[Seq<Lit>],
+    placed: &[Seq<Lit>],
     bound: &Option<Bound>,
     values: &mut Assign,
 ) -> bool
     requires of { AllByRecursion (AreOf compiled.now) rows.now }
+    requires placed { AllByRecursion (AreOf compiled.now) placed.now }
     requires size { length values.old ≡ var_count compiled.now + 1 }
     requires levels { HasLevels compiled.now bound.now }
-    ensures conflict { result ≡ true → AreRefuted compiled.now (known_with compiled.now listed.now rows.now bound.now) values.old }
-    ensures extends { result ≡ false → Extends compiled.now (known_with compiled.now listed.now rows.now bound.now) values.old values.new }
-    ensures propagated { result ≡ false → IsPropagated compiled.now (known_with compiled.now listed.now rows.now bound.now) values.new }
+    ensures conflict { result ≡ true → AreRefuted compiled.now (all_of (stock (known_with compiled.now listed.now rows.now bound.now) placed.now)) values.old }
+    ensures extends { result ≡ false → Extends compiled.now (all_of (stock (known_with compiled.now listed.now rows.now bound.now) placed.now)) values.old values.new }
+    ensures propagated { result ≡ false → IsPropagated compiled.now (all_of (stock (known_with compiled.now listed.now rows.now bound.now) placed.now)) values.new }
 {
     'steps: loop {
-        match step(compiled, listed, rows, bound, values) {
+        match step(compiled, listed, rows, placed, bound, values) {
             Visit::Conflict => return true,
             Visit::Fixpoint => return false,
             Visit::Implied => {}

@@ -3,7 +3,7 @@ ghost use Rattle.std.specs.Prelude.{◌≡◌, ◌+◌, ◌<◌, true, false, Al
 ghost use Rattle.std.specs.List.{AllByRecursion};
 ghost use Rattle.asp_vars.specs.Numbering.{var_count};
 ghost use Rattle.asp_checker.specs.Propagation.{LeadsToConflict};
-ghost use Rattle.asp_checker.specs.Lines.{AreOf};
+ghost use Rattle.asp_checker.specs.Lines.{AreOf, stock, all_of};
 ghost use Rattle.asp_checker.specs.Blocks.{HasLevels, known_with};
 ghost use Rattle.asp_checker.specs.Assuming.{IsAssumed, AreAssumed};
 ghost use Rattle.asp_checker.specs.Steps.{Follow};
@@ -61,17 +61,19 @@ fn confirms_plainly(
     compiled: &Compiled,
     listed: &[Interp],
     rows: &[Seq<Lit>],
+    placed: &[Seq<Lit>],
     bound: &Option<Bound>,
     known: &Assign,
     lits: &[Lit],
 ) -> Result<bool, AllocError>
     requires rows { AllByRecursion (AreOf compiled.now) rows.now }
+    requires placed { AllByRecursion (AreOf compiled.now) placed.now }
     requires lits { AreOf compiled.now lits.now }
     requires levels { HasLevels compiled.now bound.now }
     requires size { length known.now ≡ var_count compiled.now + 1 }
-    requires follow { Follow compiled.now (known_with compiled.now listed.now rows.now bound.now) lits.now known.now }
-    ensures yes { IfOk result (λ yes. yes ≡ true → LeadsToConflict compiled.now (known_with compiled.now listed.now rows.now bound.now) lits.now) }
-    ensures no { IfOk result (λ yes. yes ≡ false → LeadsToConflict compiled.now (known_with compiled.now listed.now rows.now bound.now) lits.now → ⊥) }
+    requires follow { Follow compiled.now (all_of (stock (known_with compiled.now listed.now rows.now bound.now) placed.now)) lits.now known.now }
+    ensures yes { IfOk result (λ yes. yes ≡ true → LeadsToConflict compiled.now (all_of (stock (known_with compiled.now listed.now rows.now bound.now) placed.now)) lits.now) }
+    ensures no { IfOk result (λ yes. yes ≡ false → LeadsToConflict compiled.now (all_of (stock (known_with compiled.now listed.now rows.now bound.now) placed.now)) lits.now → ⊥) }
 {
     let _program = compiled.program();
     let mut values = copied(alloc, compiled, known)?;
@@ -80,7 +82,7 @@ fn confirms_plainly(
     if !assumed {
         return Ok(true);
     }
-    Ok(close(compiled, listed, rows, bound, &mut values))
+    Ok(close(compiled, listed, rows, placed, bound, &mut values))
 }
 
 // Whether unit propagation from the literals leads to a conflict. What it adds to the values is on the trail.
@@ -88,59 +90,68 @@ fn confirms_by(
     compiled: &Compiled,
     listed: &[Interp],
     rows: &[Seq<Lit>],
+    placed: &[Seq<Lit>],
     bound: &Option<Bound>,
     watches: &mut Watches,
     values: &mut Assign,
     trail: &mut Vec<Lit>,
     lits: &[Lit],
+    names: &[u32],
 ) -> Result<bool, AllocError>
     requires rows { AllByRecursion (AreOf compiled.now) rows.now }
+    requires placed { AllByRecursion (AreOf compiled.now) placed.now }
     requires lits { AreOf compiled.now lits.now }
     requires levels { HasLevels compiled.now bound.now }
-    requires root { IsRoot compiled.now (known_with compiled.now listed.now rows.now bound.now) values.old }
-    ensures yes { IfOk result (λ yes. yes ≡ true → LeadsToConflict compiled.now (known_with compiled.now listed.now rows.now bound.now) lits.now) }
-    ensures no { IfOk result (λ yes. yes ≡ false → LeadsToConflict compiled.now (known_with compiled.now listed.now rows.now bound.now) lits.now → ⊥) }
+    requires root { IsRoot compiled.now (all_of (stock (known_with compiled.now listed.now rows.now bound.now) placed.now)) values.old }
+    ensures yes { IfOk result (λ yes. yes ≡ true → LeadsToConflict compiled.now (all_of (stock (known_with compiled.now listed.now rows.now bound.now) placed.now)) lits.now) }
+    ensures no { IfOk result (λ yes. yes ≡ false → LeadsToConflict compiled.now (all_of (stock (known_with compiled.now listed.now rows.now bound.now) placed.now)) lits.now → ⊥) }
     ensures trailed { OnOk result (IsTrailedAlike values.old values.new trail.old.items trail.new.items) }
 {
     let alloc = watches.allocator();
     let _program = compiled.program();
     watches.restart(values, compiled.vars(), rows)?;
     watches.look_deeper();
+    watches.name(names)?;
     let assumed = assume_all(values, trail, lits)?;
     if !assumed {
         return Ok(true);
     }
-    let refuted = chase(compiled, listed, rows, bound, watches, values, trail)?;
+    let refuted = chase(
+        compiled, listed, rows, placed, bound, watches, values, trail,
+    )?;
     if refuted {
         return Ok(true);
     }
-    let confirmed = confirms_plainly(alloc, compiled, listed, rows, bound, values, lits)?;
+    let confirmed = confirms_plainly(alloc, compiled, listed, rows, placed, bound, values, lits)?;
     Ok(confirmed)
 }
 
 /// Whether unit propagation from the literals leads to a conflict, where these nogoods and this bound are known. The values
-/// follow from what is known, and are left so. Where the hints lead to no conflict, all that is known is looked at.
+/// follow from what is known for good, and are left so. Where the hints lead to no conflict, all that is known is looked at.
 pub fn confirms(
     alloc: Global,
     compiled: &Compiled,
     listed: &[Interp],
     rows: &[Seq<Lit>],
+    placed: &[Seq<Lit>],
     bound: &Option<Bound>,
     watches: &mut Watches,
     values: &mut Assign,
     lits: &[Lit],
+    names: &[u32],
 ) -> Result<bool, AllocError>
     requires rows { AllByRecursion (AreOf compiled.now) rows.now }
+    requires placed { AllByRecursion (AreOf compiled.now) placed.now }
     requires lits { AreOf compiled.now lits.now }
     requires levels { HasLevels compiled.now bound.now }
     requires root { IsRoot compiled.now (known_with compiled.now listed.now rows.now bound.now) values.old }
-    ensures yes { IfOk result (λ yes. yes ≡ true → LeadsToConflict compiled.now (known_with compiled.now listed.now rows.now bound.now) lits.now) }
-    ensures no { IfOk result (λ yes. yes ≡ false → LeadsToConflict compiled.now (known_with compiled.now listed.now rows.now bound.now) lits.now → ⊥) }
+    ensures yes { IfOk result (λ yes. yes ≡ true → LeadsToConflict compiled.now (all_of (stock (known_with compiled.now listed.now rows.now bound.now) placed.now)) lits.now) }
+    ensures no { IfOk result (λ yes. yes ≡ false → LeadsToConflict compiled.now (all_of (stock (known_with compiled.now listed.now rows.now bound.now) placed.now)) lits.now → ⊥) }
     ensures root { OnOk result (IsRoot compiled.now (known_with compiled.now listed.now rows.now bound.now) values.new) }
 {
     let mut trail = Vec::new(alloc);
     let confirmed = confirms_by(
-        compiled, listed, rows, bound, watches, values, &mut trail, lits,
+        compiled, listed, rows, placed, bound, watches, values, &mut trail, lits, names,
     )?;
     undo(values, compiled.vars(), trail.as_slice());
     Ok(confirmed)

@@ -13,6 +13,8 @@ use std::alloc::{AllocError, Global};
 pub(crate) enum Hint {
     /// The nogood at this place.
     Nogood(usize),
+    /// The nogood at this one of the places that lines take.
+    Placed(usize),
     /// The nogood of the listed answer at this place.
     Answer(usize),
     /// Whether the weight body implies the literal.

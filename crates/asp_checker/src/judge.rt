@@ -11,7 +11,7 @@ ghost use Rattle.asp_proof.specs.Fields.{IsWhole};
 ghost use Rattle.asp_checker.specs.Right.{closes};
 ghost use Rattle.asp_vars.specs.Completion.{completion};
 ghost use Rattle.asp_checker.specs.Propagation.{LeadsToConflict};
-ghost use Rattle.asp_checker.specs.Lines.{AreOf, IsConfirmed, IsLoop, literals_of, nogood_of, bound_of};
+ghost use Rattle.asp_checker.specs.Lines.{AreOf, IsConfirmed, IsLoop, literals_of, nogood_of, stock, all_of, place_of, put, with_placed, bound_of};
 ghost use Rattle.asp_checker.specs.Blocks.{HasLevels, known_with, cost_of_bound};
 ghost use Rattle.asp_checker.specs.Chasing.{IsRoot};
 ghost use Rattle.asp_checker.specs.Judging.{IsInOrder, AreRightAnswers, IsRightAnswer, HasAnswerFault, HasLiterals, HasLineFault, HasLoopLiterals, IsLineJudged, IsAnswerRead, IsLineRead};
@@ -261,8 +261,8 @@ fn literals(alloc: Global, compiled: &Compiled, line: &Line) -> Result<Option<Ve
         (λ lits. (lits.items ≡ nogood_of line.now) × HasLiterals compiled.now line.now)) }
 {
     match line {
-        Line::Loop { set, nogood } => loop_literals(alloc, compiled, set, nogood),
-        Line::Learned(nogood) => nogood_literals(alloc, compiled, nogood),
+        Line::Loop { set, nogood, .. } => loop_literals(alloc, compiled, set, nogood),
+        Line::Learned { nogood, .. } => nogood_literals(alloc, compiled, nogood),
         Line::Cube(nogood) => nogood_literals(alloc, compiled, nogood),
     }
 }
@@ -291,20 +291,25 @@ fn fault_of_nogood(
     compiled: &Compiled,
     listed: &[Interp],
     rows: &[Seq<Lit>],
+    placed: &[Seq<Lit>],
     bound: &Option<Bound>,
     watches: &mut Watches,
     values: &mut Assign,
     lits: &[Lit],
+    names: &[u32],
 ) -> Result<Option<Why>, AllocError>
     requires rows { AllByRecursion (AreOf compiled.now) rows.now }
+    requires placed { AllByRecursion (AreOf compiled.now) placed.now }
     requires levels { HasLevels compiled.now bound.now }
     requires root { IsRoot compiled.now (known_with compiled.now listed.now rows.now bound.now) values.old }
     requires lits { AreOf compiled.now lits.now }
-    ensures judged { IfOk result (λ o. MatchOption o (LeadsToConflict compiled.now (known_with compiled.now listed.now rows.now bound.now) lits.now)
-        (λ w. (w ≡ Why.NotImplied) × (LeadsToConflict compiled.now (known_with compiled.now listed.now rows.now bound.now) lits.now → ⊥))) }
+    ensures judged { IfOk result (λ o. MatchOption o (LeadsToConflict compiled.now (all_of (stock (known_with compiled.now listed.now rows.now bound.now) placed.now)) lits.now)
+        (λ w. (w ≡ Why.NotImplied) × (LeadsToConflict compiled.now (all_of (stock (known_with compiled.now listed.now rows.now bound.now) placed.now)) lits.now → ⊥))) }
     ensures root { OnOk result (IsRoot compiled.now (known_with compiled.now listed.now rows.now bound.now) values.new) }
 {
-    let confirmed = confirms(alloc, compiled, listed, rows, bound, watches, values, lits)?;
+    let confirmed = confirms(
+        alloc, compiled, listed, rows, placed, bound, watches, values, lits, names,
+    )?;
     if confirmed {
         return Ok(None);
     }
@@ -316,6 +321,7 @@ fn fault_of_line(
     compiled: &Compiled,
     listed: &[Interp],
     rows: &[Seq<Lit>],
+    placed: &[Seq<Lit>],
     bound: &Option<Bound>,
     watches: &mut Watches,
     values: &mut Assign,
@@ -323,22 +329,41 @@ fn fault_of_line(
     lits: &[Lit],
 ) -> Result<Option<Why>, AllocError>
     requires rows { AllByRecursion (AreOf compiled.now) rows.now }
+    requires placed { AllByRecursion (AreOf compiled.now) placed.now }
     requires levels { HasLevels compiled.now bound.now }
     requires root { IsRoot compiled.now (known_with compiled.now listed.now rows.now bound.now) values.old }
     requires lits { lits.now ≡ nogood_of line.now }
     requires has { HasLiterals compiled.now line.now }
-    ensures judged { IfOk result (λ o. MatchOption o (IsConfirmed compiled.now (known_with compiled.now listed.now rows.now bound.now) line.now)
-        (HasLineFault compiled.now (known_with compiled.now listed.now rows.now bound.now) line.now)) }
+    ensures judged { IfOk result (λ o. MatchOption o (IsConfirmed compiled.now (all_of (stock (known_with compiled.now listed.now rows.now bound.now) placed.now)) line.now)
+        (HasLineFault compiled.now (all_of (stock (known_with compiled.now listed.now rows.now bound.now) placed.now)) line.now)) }
     ensures root { OnOk result (IsRoot compiled.now (known_with compiled.now listed.now rows.now bound.now) values.new) }
 {
     let alloc = watches.allocator();
     match line {
-        Line::Loop { set, nogood: _ } => fault_of_loop(alloc, compiled, set, lits),
-        Line::Learned(_) => fault_of_nogood(
-            alloc, compiled, listed, rows, bound, watches, values, lits,
+        Line::Loop { set, .. } => fault_of_loop(alloc, compiled, set, lits),
+        Line::Learned { names, .. } => fault_of_nogood(
+            alloc,
+            compiled,
+            listed,
+            rows,
+            placed,
+            bound,
+            watches,
+            values,
+            lits,
+            names.as_slice(),
         ),
         Line::Cube(_) => fault_of_nogood(
-            alloc, compiled, listed, rows, bound, watches, values, lits,
+            alloc,
+            compiled,
+            listed,
+            rows,
+            placed,
+            bound,
+            watches,
+            values,
+            lits,
+            &[],
         ),
     }
 }
@@ -349,8 +374,8 @@ fn closes(assumptions: &[Lit], line: &Line, lits: &[Lit]) -> bool
     ensures { (p : Program) → assumptions.now ≡ map (literal_of p) p.assumptions → result ≡ closes p line.now }
 {
     match line {
-        Line::Loop { set: _, nogood: _ } => false,
-        Line::Learned(_) => are_assumed(assumptions, lits),
+        Line::Loop { .. } => false,
+        Line::Learned { .. } => are_assumed(assumptions, lits),
         Line::Cube(_) => are_assumed(assumptions, lits),
     }
 }
@@ -369,6 +394,7 @@ fn judge_literals(
     compiled: &Compiled,
     listed: &[Interp],
     rows: &[Seq<Lit>],
+    placed: &[Seq<Lit>],
     bound: &Option<Bound>,
     watches: &mut Watches,
     values: &mut Assign,
@@ -376,15 +402,18 @@ fn judge_literals(
     lits: Vec<Lit>,
 ) -> Result<Step, AllocError>
     requires rows { AllByRecursion (AreOf compiled.now) rows.now }
+    requires placed { AllByRecursion (AreOf compiled.now) placed.now }
     requires levels { HasLevels compiled.now bound.now }
     requires root { IsRoot compiled.now (known_with compiled.now listed.now rows.now bound.now) values.old }
     requires lits { lits.items ≡ nogood_of line.now }
     requires has { HasLiterals compiled.now line.now }
-    ensures judged { IfOk result (IsLineJudged compiled.now (known_with compiled.now listed.now rows.now bound.now) line.now) }
+    ensures judged { IfOk result (IsLineJudged compiled.now (all_of (stock (known_with compiled.now listed.now rows.now bound.now) placed.now)) line.now) }
     ensures root { OnOk result (IsRoot compiled.now (known_with compiled.now listed.now rows.now bound.now) values.new) }
 {
     let own = lits.as_slice();
-    let fault = fault_of_line(compiled, listed, rows, bound, watches, values, line, own)?;
+    let fault = fault_of_line(
+        compiled, listed, rows, placed, bound, watches, values, line, own,
+    )?;
     match fault {
         Some(why) => Ok(Step::Wrong(why)),
         None => Ok(Step::Known(Seq::from_vec(lits))),
@@ -397,20 +426,24 @@ fn judge_line(
     compiled: &Compiled,
     listed: &[Interp],
     rows: &[Seq<Lit>],
+    placed: &[Seq<Lit>],
     bound: &Option<Bound>,
     watches: &mut Watches,
     values: &mut Assign,
     line: &Line,
 ) -> Result<Step, AllocError>
     requires rows { AllByRecursion (AreOf compiled.now) rows.now }
+    requires placed { AllByRecursion (AreOf compiled.now) placed.now }
     requires levels { HasLevels compiled.now bound.now }
     requires root { IsRoot compiled.now (known_with compiled.now listed.now rows.now bound.now) values.old }
-    ensures judged { IfOk result (IsLineJudged compiled.now (known_with compiled.now listed.now rows.now bound.now) line.now) }
+    ensures judged { IfOk result (IsLineJudged compiled.now (all_of (stock (known_with compiled.now listed.now rows.now bound.now) placed.now)) line.now) }
     ensures root { OnOk result (IsRoot compiled.now (known_with compiled.now listed.now rows.now bound.now) values.new) }
 {
     let found = literals(alloc, compiled, line)?;
     match found {
-        Some(lits) => judge_literals(compiled, listed, rows, bound, watches, values, line, lits),
+        Some(lits) => judge_literals(
+            compiled, listed, rows, placed, bound, watches, values, line, lits,
+        ),
         None => Ok(Step::Wrong(Why::Literal)),
     }
 }
@@ -428,11 +461,68 @@ pub enum Read {
     Right(bool),
 }
 
+// Which place a line takes, counted from 1; 0 where its nogood is kept for good.
+fn place_of(line: &Line) -> u32
+    ensures { result ≡ place_of line.now }
+{
+    match line {
+        Line::Loop { place, .. } => *place,
+        Line::Learned { place, .. } => *place,
+        Line::Cube(_) => 0,
+    }
+}
+
+// Puts a nogood into a place; behind the last one, where there is no such place yet.
+fn put(placed: &mut Vec<Seq<Lit>>, at: usize, lits: Seq<Lit>) -> Result<(), AllocError>
+    ensures { OnOk result (placed.new.items ≡ put placed.old.items at lits) }
+{
+    if at < placed.len() {
+        placed[at] = lits;
+        return Ok(());
+    }
+    placed.push(lits)?;
+    Ok(())
+}
+
+// A line is known from now on.
+fn keep(
+    alloc: Global,
+    compiled: &Compiled,
+    listed: &[Interp],
+    rows: &mut Vec<Seq<Lit>>,
+    placed: &mut Vec<Seq<Lit>>,
+    bound: &Option<Bound>,
+    watches: &mut Watches,
+    values: &mut Assign,
+    place: u32,
+    lits: Seq<Lit>,
+) -> Result<(), AllocError>
+    requires rows { AllByRecursion (AreOf compiled.now) rows.old.items }
+    requires placed { AllByRecursion (AreOf compiled.now) placed.old.items }
+    requires lits { AreOf compiled.now lits }
+    requires levels { HasLevels compiled.now bound.now }
+    requires root { IsRoot compiled.now (known_with compiled.now listed.now rows.old.items bound.now) values.old }
+    ensures rows { OnOk result (AllByRecursion (AreOf compiled.now) rows.new.items) }
+    ensures placed { OnOk result (AllByRecursion (AreOf compiled.now) placed.new.items) }
+    ensures known { OnOk result (stock (known_with compiled.now listed.now rows.new.items bound.now) placed.new.items ≡ with_placed (stock (known_with compiled.now listed.now rows.old.items bound.now) placed.old.items) place lits) }
+    ensures root { OnOk result (IsRoot compiled.now (known_with compiled.now listed.now rows.new.items bound.now) values.new) }
+{
+    if place > 0 {
+        put(placed, place as usize - 1, lits)?;
+        return Ok(());
+    }
+    rows.push(lits)?;
+    let more = rows.as_slice();
+    learn(alloc, compiled, listed, more, bound, watches, values)?;
+    Ok(())
+}
+
 // Judges a line. Where it is right, it is known to the later ones.
 fn take_line(
     compiled: &Compiled,
     listed: &[Interp],
     rows: &mut Vec<Seq<Lit>>,
+    placed: &mut Vec<Seq<Lit>>,
     bound: &Option<Bound>,
     assumed: &[Lit],
     watches: &mut Watches,
@@ -440,23 +530,36 @@ fn take_line(
     line: &Line,
 ) -> Result<Read, AllocError>
     requires rows { AllByRecursion (AreOf compiled.now) rows.old.items }
+    requires placed { AllByRecursion (AreOf compiled.now) placed.old.items }
     requires levels { HasLevels compiled.now bound.now }
     requires assumed { assumed.now ≡ map (literal_of compiled.now) compiled.now.assumptions }
     requires root { IsRoot compiled.now (known_with compiled.now listed.now rows.old.items bound.now) values.old }
     ensures { (bytes : List ℕ) → IsWhole IsLine line_text bytes line.now →
-        IfOk result (IsLineRead compiled.now listed.now bound.now rows.old.items rows.new.items bytes values.new) }
+        IfOk result (IsLineRead compiled.now listed.now bound.now rows.old.items placed.old.items rows.new.items placed.new.items bytes values.new) }
 {
     let alloc = watches.allocator();
     let known = rows.as_slice();
-    let step = judge_line(alloc, compiled, listed, known, bound, watches, values, line)?;
+    let in_places = placed.as_slice();
+    let step = judge_line(
+        alloc, compiled, listed, known, in_places, bound, watches, values, line,
+    )?;
     match step {
         Step::Wrong(why) => Ok(Read::Wrong(why)),
         Step::Known(lits) => {
             let own = lits.as_slice();
             let closing = closes(assumed, line, own);
-            rows.push(lits)?;
-            let more = rows.as_slice();
-            learn(alloc, compiled, listed, more, bound, watches, values)?;
+            keep(
+                alloc,
+                compiled,
+                listed,
+                rows,
+                placed,
+                bound,
+                watches,
+                values,
+                place_of(line),
+                lits,
+            )?;
             Ok(Read::Right(closing))
         }
     }
@@ -467,6 +570,7 @@ pub(crate) fn read_line(
     compiled: &Compiled,
     listed: &[Interp],
     rows: &mut Vec<Seq<Lit>>,
+    placed: &mut Vec<Seq<Lit>>,
     bound: &Option<Bound>,
     assumed: &[Lit],
     watches: &mut Watches,
@@ -474,10 +578,11 @@ pub(crate) fn read_line(
     bytes: &[u8],
 ) -> Result<Read, AllocError>
     requires rows { AllByRecursion (AreOf compiled.now) rows.old.items }
+    requires placed { AllByRecursion (AreOf compiled.now) placed.old.items }
     requires levels { HasLevels compiled.now bound.now }
     requires assumed { assumed.now ≡ map (literal_of compiled.now) compiled.now.assumptions }
     requires root { IsRoot compiled.now (known_with compiled.now listed.now rows.old.items bound.now) values.old }
-    ensures { IfOk result (IsLineRead compiled.now listed.now bound.now rows.old.items rows.new.items bytes.now values.new) }
+    ensures { IfOk result (IsLineRead compiled.now listed.now bound.now rows.old.items placed.old.items rows.new.items placed.new.items bytes.now values.new) }
 {
     if is_last(bytes) {
         return Ok(Read::Last);
@@ -485,7 +590,7 @@ pub(crate) fn read_line(
     let found = line(watches.allocator(), bytes)?;
     match found {
         Some(line) => take_line(
-            compiled, listed, rows, bound, assumed, watches, values, &line,
+            compiled, listed, rows, placed, bound, assumed, watches, values, &line,
         ),
         None => Ok(Read::Refused),
     }

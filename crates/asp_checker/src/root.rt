@@ -34,7 +34,16 @@ fn settle(
     ensures { OnOk result (Extends compiled.now (known_with compiled.now listed.now rows.now bound.now) values.old values.new) }
 {
     let mut trail = Vec::new(alloc);
-    let refuted = chase(compiled, listed, rows, bound, watches, values, &mut trail)?;
+    let refuted = chase(
+        compiled,
+        listed,
+        rows,
+        &[],
+        bound,
+        watches,
+        values,
+        &mut trail,
+    )?;
     watches.stick(refuted);
     Ok(())
 }

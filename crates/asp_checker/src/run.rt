@@ -90,7 +90,7 @@ fn judge_by<S: Source>(
     source: &mut S,
 ) -> Result<Judgement, CheckError>
     requires sound { IsSound program }
-    requires head { reader.old.line ≡ codes "proof 1" }
+    requires head { reader.old.line ≡ codes "proof 2" }
     ensures says { Comes (S.left source.old) (held reader.old) (λ text. Judges program text result) }
     ensures cause { IsErrOf result read_fault → Rose (S.faults source.old) (S.faults source.new) }
     ensures quiet { ¬ IsErrOf result read_fault → S.faults source.new ≡ S.faults source.old }
@@ -133,7 +133,7 @@ fn judge_behind<S: Source>(
     reader: &mut LineReader,
     source: &mut S,
 ) -> Result<Judgement, CheckError>
-    requires head { reader.old.line ≡ codes "proof 1" }
+    requires head { reader.old.line ≡ codes "proof 2" }
     ensures says { Comes (S.left source.old) (held reader.old) (λ text. TextsSay format program.items text result) }
     ensures cause { IsErrOf result read_fault → Rose (S.faults source.old) (S.faults source.new) }
     ensures quiet { ¬ IsErrOf result read_fault → S.faults source.new ≡ S.faults source.old }
@@ -186,7 +186,7 @@ fn program_text<S: Source>(
 }
 
 /// Judges the proof that a source gives after its program, which is in this format. The proof begins with the first line
-/// `proof 1`.
+/// `proof 2`.
 pub fn check_proof<S: Source>(
     alloc: Global,
     format: Format,
@@ -309,7 +309,7 @@ fn status_of(error: CheckError) -> CheckStatus
     }
 }
 
-/// Reads a program's text in this format and after it a proof's, which begins with the first line `proof 1`, writes what
+/// Reads a program's text in this format and after it a proof's, which begins with the first line `proof 2`, writes what
 /// is said of the proof, and flushes the sink: `YES`, or `NO` with the number of the reason and of the line. Nothing is
 /// written where no proof was judged.
 pub fn run_check<S: Source, K: Sink>(

@@ -129,6 +129,7 @@ fn judge_each<S: Source>(
     opt: bool,
     answers: &[Interp],
     rows: &mut Vec<Seq<Lit>>,
+    placed: &mut Vec<Seq<Lit>>,
     bound: &Option<Bound>,
     assumed: &[Lit],
     watches: &mut Watches,
@@ -142,6 +143,7 @@ fn judge_each<S: Source>(
     requires unbroken { IsUnbroken reader.old.line }
     requires no_answer { IsNone IsSet answer_text reader.old.line }
     requires rows { AllByRecursion (AreOf compiled.now) rows.old.items }
+    requires placed { placed.old.items ≡ [] }
     requires levels { HasLevels compiled.now bound.now }
     requires assumed { assumed.now ≡ map (literal_of compiled.now) compiled.now.assumptions }
     requires root { IsRoot compiled.now (known_with compiled.now (if opt then [] else answers.now) rows.old.items bound.now) values.old }
@@ -156,7 +158,7 @@ fn judge_each<S: Source>(
         let number = answers.len() + at + 3;
         let bytes = reader.line();
         let came_to = read_line(
-            compiled, listed, rows, bound, assumed, watches, values, bytes,
+            compiled, listed, rows, placed, bound, assumed, watches, values, bytes,
         )?;
         match came_to {
             Read::Last => return judge_last(whole, number, reader, source),
@@ -192,6 +194,7 @@ fn judge_lines<S: Source>(
 {
     let listed = avoided(opt, answers);
     let mut rows = completed(alloc, compiled)?;
+    let mut placed = Vec::new(alloc);
     let bound = bound_at_first(alloc, compiled, opt, answers)?;
     let assumptions = assumptions(alloc, compiled)?;
     let mut watches = Watches::new(alloc, compiled, &bound)?;
@@ -203,6 +206,7 @@ fn judge_lines<S: Source>(
         opt,
         answers,
         &mut rows,
+        &mut placed,
         &bound,
         assumed,
         &mut watches,
@@ -248,7 +252,7 @@ pub(crate) fn judge<S: Source>(
     source: &mut S,
 ) -> Result<Judgement, CheckError>
     requires sound { IsSound compiled.now }
-    requires head { reader.old.line ≡ codes "proof 1" }
+    requires head { reader.old.line ≡ codes "proof 2" }
     ensures says { Comes (S.left source.old) (held reader.old) (λ text. Judges compiled.now text result) }
     ensures cause { IsErrOf result read_fault → Rose (S.faults source.old) (S.faults source.new) }
     ensures quiet { ¬ IsErrOf result read_fault → S.faults source.new ≡ S.faults source.old }

@@ -7,6 +7,8 @@ ghost use Rattle.asp_vars.specs.Numbering.{bodies_of, var_count};
 
 use crate::bounds::Bound;
 use crate::hints::{Hint, fails, hints_of_body, hints_of_bound, holds, priced};
+use crate::named::Named;
+use crate::open::{another, another_from, first_open};
 use crate::seek::answer_near;
 use asp_model::interp::Interp;
 use asp_model::seq::Seq;
@@ -62,6 +64,8 @@ pub struct Watches {
     retired_left: usize,
     // Those that said something, and watch again from the next line on.
     revived: Vec<usize>,
+    // Those that the line names.
+    named: Named,
     // By variable, the weight bodies that it touches.
     by_var: Vec<Vec<usize>>,
     // The variables that cost something.
@@ -94,72 +98,6 @@ enum Turn {
     Move(Lit, Lit),
     // All of its literals hold but one at most.
     Look,
-}
-
-// The first literal that doesn't hold.
-fn first_open(values: &Assign, vars: u32, lits: &[Lit]) -> Option<Lit>
-    requires { length values.now ≡ vars + 1 }
-{
-    for lit in lits {
-        if !holds(values, vars, *lit) {
-            return Some(*lit);
-        }
-    }
-    None
-}
-
-// A literal that doesn't hold, other than this one.
-fn another(values: &Assign, vars: u32, lits: &[Lit], but: Lit) -> Option<Lit>
-    requires { length values.now ≡ vars + 1 }
-{
-    for lit in lits {
-        let held = holds(values, vars, *lit);
-        if !held && *lit != but {
-            return Some(*lit);
-        }
-    }
-    None
-}
-
-// A literal of a nogood, and its place there.
-#[derive(Clone, Copy)]
-struct Spot {
-    lit: Lit,
-    place: u32,
-}
-
-// A literal from a place on that doesn't hold, other than this one.
-fn another_at(
-    values: &Assign,
-    vars: u32,
-    lits: &[Lit],
-    start: usize,
-    end: usize,
-    but: Lit,
-) -> Option<Spot>
-    requires { length values.now ≡ vars + 1 }
-{
-    for place in start..end {
-        let Some(lit) = lits.get(place).copied() else {
-            return None;
-        };
-        let held = holds(values, vars, lit);
-        if !held && lit != but {
-            let place = u32::try_from(place).unwrap_or(0);
-            return Some(Spot { lit, place });
-        }
-    }
-    None
-}
-
-// The same, from a place on and then before it.
-fn another_from(values: &Assign, vars: u32, lits: &[Lit], start: usize, but: Lit) -> Option<Spot>
-    requires { length values.now ≡ vars + 1 }
-{
-    match another_at(values, vars, lits, start, lits.len(), but) {
-        Some(spot) => Some(spot),
-        None => another_at(values, vars, lits, 0, start, but),
-    }
 }
 
 fn is_watching(entries: &[Entry], watch: Watch) -> bool {
@@ -238,6 +176,7 @@ impl Watches {
             next_retired: 0,
             retired_left: 0,
             revived: Vec::new(alloc),
+            named: Named::new(alloc),
             by_var,
             priced,
             done: 0,
@@ -468,6 +407,7 @@ impl Watches {
         self.priced_at = None;
         self.sought_at = None;
         self.retired_left = 0;
+        self.named.clear();
         self.revive(values, vars, rows)?;
         if let Some(hint) = self.stuck {
             self.hints.push(hint)?;
@@ -478,6 +418,11 @@ impl Watches {
     /// Those that don't watch are to be looked at too.
     pub(crate) fn look_deeper(&mut self) {
         self.retired_left = self.retired.len();
+    }
+
+    /// A line names these places.
+    pub(crate) fn name(&mut self, places: &[u32]) -> Result<(), AllocError> {
+        self.named.name(places)
     }
 
     /// This was in conflict.
@@ -761,6 +706,7 @@ impl Watches {
         compiled: &Compiled,
         listed: &[Interp],
         rows: &[Seq<Lit>],
+        placed: &[Seq<Lit>],
         bound: &Option<Bound>,
         values: &Assign,
         trail: &[Lit],
@@ -772,6 +718,12 @@ impl Watches {
         }
         if let Some(place) = self.next_nogood(rows, values, compiled.vars(), trail)? {
             return Ok(Some(Hint::Nogood(place)));
+        }
+        if let Some(place) = self
+            .named
+            .next(placed, values, compiled.vars(), trail.len())?
+        {
+            return Ok(Some(Hint::Placed(place)));
         }
         self.weigh(compiled, values)?;
         if let Some(hint) = self.hints.pop() {

@@ -52,7 +52,7 @@ check_note closed check.Memory = codes "aspcheck: out of memory\n"
 check_note closed (check.Program e) = program_note e
 check_note closed check.ReadFault = codes "aspcheck: read failed\n"
 check_note closed check.TooLong = codes "aspcheck: input too long\n"
-check_note closed check.NoProof = codes "aspcheck: no line is 'proof 1', with which a proof begins (the program's last line needs its line feed)\n"
+check_note closed check.NoProof = codes "aspcheck: no line is 'proof 2', with which a proof begins (the program's last line needs its line feed)\n"
 check_note closed (check.Proof e) = proof_note e
 check_note closed check.WriteFault = write_note closed
 

@@ -119,7 +119,7 @@ fn write_check<N: Sink>(notes: &mut N, status: CheckStatus, is_closed: bool) -> 
         CheckStatus::TooLong => write(notes, b"aspcheck: input too long\n"),
         CheckStatus::NoProof => write(
             notes,
-            b"aspcheck: no line is 'proof 1', with which a proof begins (the program's last line needs its line feed)\n",
+            b"aspcheck: no line is 'proof 2', with which a proof begins (the program's last line needs its line feed)\n",
         ),
         CheckStatus::Proof(error) => write_proof(notes, error),
         CheckStatus::WriteFault => write_failed(notes, is_closed),

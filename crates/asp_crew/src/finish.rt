@@ -101,6 +101,15 @@ fn set_bound<P: Propagator>(
     }
 }
 
+// From now on it is noted by which nogoods each step finds what it keeps, if somebody wants it.
+fn note_uses<P: Propagator>(search: &mut Search<'_, P>, recorder: Option<&Recorder>)
+    ensures { search.new ≡ search.old }
+{
+    if recorder.is_some() {
+        search.note();
+    }
+}
+
 // Works off all that is open below the bound, if there is one.
 fn work_off_below<P: Propagator, W: Watch>(
     book: &mut Book,
@@ -149,6 +158,7 @@ fn search_all<P: Propagator, W: Watch>(
         bound,
     } = aim;
     let mut search = Search::new(alloc, compiled, mode, propagator)?;
+    note_uses(&mut search, recorder);
     let unpaid = work_off_below(
         book,
         mode,

@@ -68,8 +68,13 @@ fn note<P: Propagator>(
     search: &Search<'_, P>,
 ) -> Result<(), AllocError> {
     if let Some(recorder) = recorder {
+        recorder.place_given(search.given())?;
         if let Some(nogood) = search.kept() {
-            recorder.add_learned(nogood)?;
+            let id = search.kept_number();
+            recorder.add_learned(id, nogood, search.uses())?;
+        }
+        if let Some(nogood) = search.closing() {
+            recorder.add_learned(None, nogood, search.uses())?;
         }
     }
     Ok(())

@@ -19,8 +19,8 @@ use Rattle.asp_model.specs.Holding.{atom_of}
 use Rattle.asp_model.proofs.MemberLaws.{each_weaker, each-append}
 use Rattle.asp_text.specs.Fields.{integer_of, num_of, is_i64}
 use Rattle.asp_text.specs.declared.numbers.Num.TheVariants.{Value}
-use Rattle.asp_proof.specs.Texts.{natural_field, integer_field, counted_fields, atoms_fields, literals_fields}
-use Rattle.asp_proof.specs.Grammar.{IsAtom, IsLiteral, AreCounted, IsNogood, IsSet}
+use Rattle.asp_proof.specs.Texts.{natural_field, integer_field, counted_fields, two_fields, atoms_fields, literals_fields, loop_fields, learned_fields}
+use Rattle.asp_proof.specs.Grammar.{IsAtom, IsLiteral, AreCounted, ArePlaces, Both, IsNogood, IsSet, IsLoopSet, IsLoop, IsLearned}
 use Rattle.asp_proof.specs.Fields.{Stops, IsCut, IsNumber, IsCount, IsAt, IsMissing, IsNone, IsWhole, AreSo}
 use Rattle.asp_text.proofs.DigitLaws.{IsShort, SpellsInteger, spells_integer}
 use Rattle.asp_proof.proofs.CutLaws.{Lacks, one_cut, list_same}
@@ -167,6 +167,67 @@ counted_at P text line rest after n xs at h = record {
   same = append_assoc (natural_field (length xs)) (flat_map text xs) after ∙ ap (λ (t : List ℕ). natural_field (length xs) ++ t) h.same ∙ ap (λ m. natural_field m ++ rest) h.is.counted ∙ at.same;
   stops = h.stops;
 }
+
+-- ---- one after the other
+
+same_pair : {A B : Type 0} (x y : A × B) → x.0 ≡ y.0 → x.1 ≡ y.1 → x ≡ y
+same_pair x y e f = ap (λ a. (a, x.1)) e ∙ ap (λ b. (y.0, b)) f
+
+pub clear_both : {A B : Type 0} (P : A → Type 0) (Q : B → Type 0) (s : A → List ℕ) (t : B → List ℕ) → IsClear P s → IsClear Q t → IsClear (Both P Q) (two_fields s t)
+clear_both P Q s t c d = record {
+  one = λ x y r u p q a b e.
+      let first = c.one x.0 y.0 (t x.1 ++ r) (t y.1 ++ u) p.0 q.0 (d.starts x.1 r) (d.starts y.1 u) (sym (append_assoc (s x.0) (t x.1) r) ∙ e ∙ append_assoc (s y.0) (t y.1) u) in
+      let second = d.one x.1 y.1 r u p.1 q.1 a b first.1 in
+      (same_pair x y first.0 second.0, second.1);
+  starts = λ x r. rw append_assoc (c.starts x.0 (t x.1 ++ r));
+}
+
+pub no_first : {A B : Type 0} (P : A → Type 0) (Q : B → Type 0) (s : A → List ℕ) (t : B → List ℕ) (line : List ℕ) → IsClear Q t → IsMissing P s line → IsMissing (Both P Q) (two_fields s t) line
+no_first P Q s t line d none = λ x r h. none x.0 (t x.1 ++ r) (record { is = h.is.0; same = sym (append_assoc (s x.0) (t x.1) r) ∙ h.same; stops = d.starts x.1 r })
+
+pub no_second : {A B : Type 0} (P : A → Type 0) (Q : B → Type 0) (s : A → List ℕ) (t : B → List ℕ) (line : List ℕ) (a : A) (rest : List ℕ) → IsClear P s → IsClear Q t → IsAt P s line a rest → IsMissing Q t rest
+    → IsMissing (Both P Q) (two_fields s t) line
+no_second P Q s t line a rest c d at none = λ x r h.
+    let first = c.one x.0 a (t x.1 ++ r) rest h.is.0 at.is (d.starts x.1 r) at.stops (sym (append_assoc (s x.0) (t x.1) r) ∙ h.same ∙ sym at.same) in
+    none x.1 r (record { is = h.is.1; same = first.1; stops = h.stops })
+
+pub both_at : {A B : Type 0} (P : A → Type 0) (Q : B → Type 0) (s : A → List ℕ) (t : B → List ℕ) (line : List ℕ) (a : A) (b : B) (rest after : List ℕ) → IsAt P s line a rest → IsAt Q t rest b after
+    → IsAt (Both P Q) (two_fields s t) line (a, b) after
+both_at P Q s t line a b rest after at h = record {
+  is = (at.is, h.is);
+  same = append_assoc (s a) (t b) after ∙ ap (λ (u : List ℕ). s a ++ u) h.same ∙ at.same;
+  stops = h.stops;
+}
+
+pub clear_places : IsClear ArePlaces (counted_fields natural_field)
+clear_places = clear_counted IsCount natural_field clear_count
+
+pub clear_loop_set : IsClear IsLoopSet atoms_fields
+clear_loop_set = clear_weaker IsSet IsLoopSet atoms_fields clear_set (λ S h. h.0)
+
+pub clear_set_and_nogood : IsClear (Both IsLoopSet IsNogood) (two_fields atoms_fields literals_fields)
+clear_set_and_nogood = clear_both IsLoopSet IsNogood atoms_fields literals_fields clear_loop_set clear_nogood
+
+pub clear_nogood_and_places : IsClear (Both IsNogood ArePlaces) (two_fields literals_fields (counted_fields natural_field))
+clear_nogood_and_places = clear_both IsNogood ArePlaces literals_fields (counted_fields natural_field) clear_nogood clear_places
+
+pub clear_loop : IsClear IsLoop loop_fields
+clear_loop = clear_both IsCount (Both IsLoopSet IsNogood) natural_field (two_fields atoms_fields literals_fields) clear_count clear_set_and_nogood
+
+pub clear_learned : IsClear IsLearned learned_fields
+clear_learned = clear_both IsCount (Both IsNogood ArePlaces) natural_field (two_fields literals_fields (counted_fields natural_field)) clear_count clear_nogood_and_places
+
+-- a loop's set isn't missing alone, nor empty
+pub no_loop_set : (line : List ℕ) → IsMissing IsSet atoms_fields line → IsMissing IsLoopSet atoms_fields line
+no_loop_set line none = λ S r h. none S r (record { is = h.is.0; same = h.same; stops = h.stops })
+
+pub empty_loop_set : (line : List ℕ) (S rest : List ℕ) → IsAt IsSet atoms_fields line S rest → length S ≡ 0 → IsMissing IsLoopSet atoms_fields line
+empty_loop_set line S rest at e = λ R r h.
+    let same = clear_set.one R S r rest h.is.0 at.is h.stops at.stops (h.same ∙ sym at.same) in
+    omega (arith, ap length same.0, e, h.is.1)
+
+pub loop_set_at : (line : List ℕ) (S rest : List ℕ) → IsAt IsSet atoms_fields line S rest → 0 < length S → IsAt IsLoopSet atoms_fields line S rest
+loop_set_at line S rest at lt = record { is = (at.is, lt); same = at.same; stops = at.stops }
 
 -- ---- sets
 

@@ -4,10 +4,10 @@ use Rattle.std.specs.Prelude.{ℤ, IfOk, MatchOption}
 use Rattle.std.proofs.lemmas.Bool.{eqb-true, false≢true}
 use Rattle.asp_model.specs.Sets.{Atoms}
 use Rattle.asp_proof.specs.declared.proof.Line.TheVariants as kind
-use Rattle.asp_proof.specs.Texts.{atoms_fields, literals_fields, loop_fields, answer_text, line_text}
-use Rattle.asp_proof.specs.Grammar.{IsSet, IsNogood, IsLoop, IsLine}
+use Rattle.asp_proof.specs.Texts.{atoms_fields, literals_fields, loop_fields, learned_fields, answer_text, line_text}
+use Rattle.asp_proof.specs.Grammar.{IsSet, IsNogood, IsLoop, IsLearned, IsLine}
 use Rattle.asp_proof.specs.Fields.{IsAt, IsMissing, IsNone, IsWhole}
-use Rattle.asp_proof.proofs.FieldLaws.{IsClear, clear_set}
+use Rattle.asp_proof.proofs.FieldLaws.{IsClear}
 
 at_end : {A : Type 0} (P : A → Type 0) (text : A → List ℕ) (line : List ℕ) (x : A) → IsWhole P text line x → IsAt P text line x []
 at_end P text line x w = record { is = w.is; same = append-nil (text x) ∙ w.same; stops = tt }
@@ -34,29 +34,13 @@ pub some_from : {A : Type 0} (b : Bool) (xs : List A) → b ≡ eqb (length xs) 
 some_from b [] e f = absurd (false≢true (sym f ∙ e))
 some_from b (x ∷ xs) e f = omega arith
 
--- ---- loops
+-- ---- loops and learnt nogoods
 
-loop_at : (line : List ℕ) (x : Atoms × List ℤ) → IsWhole IsLoop loop_fields line x → IsAt IsSet atoms_fields line x.0 (literals_fields x.1)
-loop_at line x w = record { is = w.is.0; same = w.same; stops = refl }
+pub loop_whole : (line : List ℕ) (place : ℕ) (S : List ℕ) (nogood : List ℤ) → IsWhole IsLoop loop_fields line (place, (S, nogood)) → IsWhole IsLine line_text (111 ∷ line) (kind.Loop place S nogood)
+loop_whole line place S nogood w = record { is = w.is; same = ap (λ (t : List ℕ). 111 ∷ t) w.same }
 
-pub no_loop_set : (line : List ℕ) → IsMissing IsSet atoms_fields line → IsNone IsLoop loop_fields line
-no_loop_set line none = λ x w. none x.0 (literals_fields x.1) (loop_at line x w)
-
-pub no_empty_loop : (line : List ℕ) (S rest : List ℕ) → IsAt IsSet atoms_fields line S rest → length S ≡ 0 → IsNone IsLoop loop_fields line
-no_empty_loop line S rest h e = λ x w.
-    let same = clear_set.one x.0 S (literals_fields x.1) rest w.is.0 h.is refl h.stops (w.same ∙ sym h.same) in
-    omega (arith, ap length same.0, e, w.is.1)
-
-pub no_loop_nogood : (line : List ℕ) (S rest : List ℕ) → IsAt IsSet atoms_fields line S rest → IsNone IsNogood literals_fields rest → IsNone IsLoop loop_fields line
-no_loop_nogood line S rest h none = λ x w.
-    let same = clear_set.one x.0 S (literals_fields x.1) rest w.is.0 h.is refl h.stops (w.same ∙ sym h.same) in
-    none x.1 (record { is = w.is.2; same = same.1 })
-
-pub loop_whole : (line : List ℕ) (S rest : List ℕ) (nogood : List ℤ) → IsAt IsSet atoms_fields line S rest → 0 < length S → IsWhole IsNogood literals_fields rest nogood → IsWhole IsLine line_text (111 ∷ line) (kind.Loop S nogood)
-loop_whole line S rest nogood h lt w = record {
-  is = (h.is, lt, w.is);
-  same = ap (λ (t : List ℕ). 111 ∷ (atoms_fields S ++ t)) w.same ∙ ap (λ (t : List ℕ). 111 ∷ t) h.same;
-}
+pub learned_whole : (line : List ℕ) (place : ℕ) (nogood : List ℤ) (names : List ℕ) → IsWhole IsLearned learned_fields line (place, (nogood, names)) → IsWhole IsLine line_text (108 ∷ line) (kind.Learned place nogood names)
+learned_whole line place nogood names w = record { is = w.is; same = ap (λ (t : List ℕ). 108 ∷ t) w.same }
 
 -- ---- the first byte tells what a line is
 
@@ -76,27 +60,24 @@ pub no_answer_fields : (line : List ℕ) → IsNone IsSet atoms_fields line → 
 no_answer_fields line none = λ S w. none S (record { is = w.is; same = behind 97 (atoms_fields S) line w.same })
 
 pub no_loop_line : (line : List ℕ) → IsNone IsLoop loop_fields line → IsNone IsLine line_text (111 ∷ line)
-no_loop_line line none (kind.Loop set nogood) w = none (set, nogood) (record { is = w.is; same = behind 111 _ line w.same })
-no_loop_line line none (kind.Learned nogood) w = omega (arith, first_bytes 108 111 (literals_fields nogood) line w.same)
+no_loop_line line none (kind.Loop place set nogood) w = none (place, (set, nogood)) (record { is = w.is; same = behind 111 _ line w.same })
+no_loop_line line none (kind.Learned place nogood names) w = omega (arith, first_bytes 108 111 (learned_fields (place, (nogood, names))) line w.same)
 no_loop_line line none (kind.Cube cube) w = omega (arith, first_bytes 99 111 (literals_fields cube) line w.same)
 
-pub no_learned_line : (line : List ℕ) → IsNone IsNogood literals_fields line → IsNone IsLine line_text (108 ∷ line)
-no_learned_line line none (kind.Loop set nogood) w = omega (arith, first_bytes 111 108 (loop_fields (set, nogood)) line w.same)
-no_learned_line line none (kind.Learned nogood) w = none nogood (record { is = w.is; same = behind 108 _ line w.same })
+pub no_learned_line : (line : List ℕ) → IsNone IsLearned learned_fields line → IsNone IsLine line_text (108 ∷ line)
+no_learned_line line none (kind.Loop place set nogood) w = omega (arith, first_bytes 111 108 (loop_fields (place, (set, nogood))) line w.same)
+no_learned_line line none (kind.Learned place nogood names) w = none (place, (nogood, names)) (record { is = w.is; same = behind 108 _ line w.same })
 no_learned_line line none (kind.Cube cube) w = omega (arith, first_bytes 99 108 (literals_fields cube) line w.same)
 
 pub no_cube_line : (line : List ℕ) → IsNone IsNogood literals_fields line → IsNone IsLine line_text (99 ∷ line)
-no_cube_line line none (kind.Loop set nogood) w = omega (arith, first_bytes 111 99 (loop_fields (set, nogood)) line w.same)
-no_cube_line line none (kind.Learned nogood) w = omega (arith, first_bytes 108 99 (literals_fields nogood) line w.same)
+no_cube_line line none (kind.Loop place set nogood) w = omega (arith, first_bytes 111 99 (loop_fields (place, (set, nogood))) line w.same)
+no_cube_line line none (kind.Learned place nogood names) w = omega (arith, first_bytes 108 99 (learned_fields (place, (nogood, names))) line w.same)
 no_cube_line line none (kind.Cube cube) w = none cube (record { is = w.is; same = behind 99 _ line w.same })
 
 pub no_line : (line : List ℕ) → ((rest : List ℕ) → 111 ∷ rest ≡ line → ⊥) → ((rest : List ℕ) → 108 ∷ rest ≡ line → ⊥) → ((rest : List ℕ) → 99 ∷ rest ≡ line → ⊥) → IsNone IsLine line_text line
-no_line line o l c (kind.Loop set nogood) w = o (loop_fields (set, nogood)) w.same
-no_line line o l c (kind.Learned nogood) w = l (literals_fields nogood) w.same
+no_line line o l c (kind.Loop place set nogood) w = o (loop_fields (place, (set, nogood))) w.same
+no_line line o l c (kind.Learned place nogood names) w = l (learned_fields (place, (nogood, names))) w.same
 no_line line o l c (kind.Cube cube) w = c (literals_fields cube) w.same
-
-pub learned_whole : (line : List ℕ) (nogood : List ℤ) → IsWhole IsNogood literals_fields line nogood → IsWhole IsLine line_text (108 ∷ line) (kind.Learned nogood)
-learned_whole line nogood w = record { is = w.is; same = ap (λ (t : List ℕ). 108 ∷ t) w.same }
 
 pub cube_whole : (line : List ℕ) (cube : List ℤ) → IsWhole IsNogood literals_fields line cube → IsWhole IsLine line_text (99 ∷ line) (kind.Cube cube)
 cube_whole line cube w = record { is = w.is; same = ap (λ (t : List ℕ). 99 ∷ t) w.same }

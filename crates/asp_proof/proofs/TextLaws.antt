@@ -6,10 +6,10 @@ use Rattle.asp_model.specs.Sets.{Atoms}
 use Rattle.asp_proof.specs.declared.proof.Line.{Line}
 use Rattle.asp_proof.specs.declared.proof.Line.TheVariants as kind
 use Rattle.asp_proof.specs.declared.proof.Proof.{Proof}
-use Rattle.asp_proof.specs.Texts.{atoms_fields, literals_fields, loop_fields, answer_text, line_text, mode_line, text_of, lines}
-use Rattle.asp_proof.specs.Grammar.{IsSet, IsNogood, IsLine, IsProof, IsFirstFault}
+use Rattle.asp_proof.specs.Texts.{atoms_fields, literals_fields, loop_fields, learned_fields, answer_text, line_text, mode_line, text_of, lines}
+use Rattle.asp_proof.specs.Grammar.{IsSet, IsNogood, IsLoop, IsLearned, IsLine, IsProof, IsFirstFault}
 use Rattle.asp_proof.specs.Walk.{proof_of, front_of, IsStart}
-use Rattle.asp_proof.proofs.FieldLaws.{IsClear, clear_set, clear_nogood}
+use Rattle.asp_proof.proofs.FieldLaws.{IsClear, clear_set, clear_nogood, clear_loop, clear_learned}
 use Rattle.asp_proof.proofs.LineLaws.{first_bytes}
 use Rattle.asp_proof.proofs.WalkLaws.{first_line, front_first, regroup, parts_of, behind_head, behind_mode, same_mode, unbroken_answer, unbroken_line, zero_unbroken, answer_or_line, answer_or_last, line_or_last}
 
@@ -23,16 +23,14 @@ one_answer : (S R : Atoms) → IsSet S → IsSet R → answer_text S ≡ answer_
 one_answer S R p q e = one_alone IsSet atoms_fields S R clear_set p q (behind 97 (atoms_fields S) (atoms_fields R) e)
 
 one_line : (l m : Line) → IsLine l → IsLine m → line_text l ≡ line_text m → l ≡ m
-one_line (kind.Loop S n) (kind.Loop R m) p q e =
-    let h = clear_set.one S R (literals_fields n) (literals_fields m) p.0 q.0 refl refl (behind 111 (loop_fields (S, n)) (loop_fields (R, m)) e) in
-    cc (h.0, one_alone IsNogood literals_fields n m clear_nogood p.2 q.2 h.1)
-one_line (kind.Loop S n) (kind.Learned m) p q e = absurd (omega (arith, first_bytes 111 108 (loop_fields (S, n)) (literals_fields m) e))
-one_line (kind.Loop S n) (kind.Cube m) p q e = absurd (omega (arith, first_bytes 111 99 (loop_fields (S, n)) (literals_fields m) e))
-one_line (kind.Learned n) (kind.Loop R m) p q e = absurd (omega (arith, first_bytes 108 111 (literals_fields n) (loop_fields (R, m)) e))
-one_line (kind.Learned n) (kind.Learned m) p q e = ap (λ (x : List ℤ). kind.Learned x) (one_alone IsNogood literals_fields n m clear_nogood p q (behind 108 (literals_fields n) (literals_fields m) e))
-one_line (kind.Learned n) (kind.Cube m) p q e = absurd (omega (arith, first_bytes 108 99 (literals_fields n) (literals_fields m) e))
-one_line (kind.Cube n) (kind.Loop R m) p q e = absurd (omega (arith, first_bytes 99 111 (literals_fields n) (loop_fields (R, m)) e))
-one_line (kind.Cube n) (kind.Learned m) p q e = absurd (omega (arith, first_bytes 99 108 (literals_fields n) (literals_fields m) e))
+one_line (kind.Loop i S n) (kind.Loop j R m) p q e = ap (λ (z : ℕ × (Atoms × List ℤ)). kind.Loop z.0 z.1.0 z.1.1) (one_alone IsLoop loop_fields (i, (S, n)) (j, (R, m)) clear_loop p q (behind 111 (loop_fields (i, (S, n))) (loop_fields (j, (R, m))) e))
+one_line (kind.Loop i S n) (kind.Learned j m y) p q e = absurd (omega (arith, first_bytes 111 108 (loop_fields (i, (S, n))) (learned_fields (j, (m, y))) e))
+one_line (kind.Loop i S n) (kind.Cube m) p q e = absurd (omega (arith, first_bytes 111 99 (loop_fields (i, (S, n))) (literals_fields m) e))
+one_line (kind.Learned i n x) (kind.Loop j R m) p q e = absurd (omega (arith, first_bytes 108 111 (learned_fields (i, (n, x))) (loop_fields (j, (R, m))) e))
+one_line (kind.Learned i n x) (kind.Learned j m y) p q e = ap (λ (z : ℕ × (List ℤ × List ℕ)). kind.Learned z.0 z.1.0 z.1.1) (one_alone IsLearned learned_fields (i, (n, x)) (j, (m, y)) clear_learned p q (behind 108 (learned_fields (i, (n, x))) (learned_fields (j, (m, y))) e))
+one_line (kind.Learned i n x) (kind.Cube m) p q e = absurd (omega (arith, first_bytes 108 99 (learned_fields (i, (n, x))) (literals_fields m) e))
+one_line (kind.Cube n) (kind.Loop j R m) p q e = absurd (omega (arith, first_bytes 99 111 (literals_fields n) (loop_fields (j, (R, m))) e))
+one_line (kind.Cube n) (kind.Learned j m y) p q e = absurd (omega (arith, first_bytes 99 108 (literals_fields n) (learned_fields (j, (m, y))) e))
 one_line (kind.Cube n) (kind.Cube m) p q e = ap (λ (x : List ℤ). kind.Cube x) (one_alone IsNogood literals_fields n m clear_nogood p q (behind 99 (literals_fields n) (literals_fields m) e))
 
 -- the first line of what stands behind
@@ -79,7 +77,7 @@ same_proof o r Ss Rs ls ms e s = let a = s.answers in let b = s.entries in cc
 
 pub one_whole : (p q : Proof) (after : List ℕ) → IsProof p → IsProof q → front_of p ++ (codes "0\n" ++ after) ≡ text_of q → p ≡ q
 one_whole p q after h k e =
-    let behind_one = behind_head _ _ (sym (regroup (codes "proof 1\n") (mode_line p.opt) (lines answer_text p.answers) (lines line_text p.lines) (codes "0\n" ++ after)) ∙ e ∙ parts_of q) in
+    let behind_one = behind_head _ _ (sym (regroup (codes "proof 2\n") (mode_line p.opt) (lines answer_text p.answers) (lines line_text p.lines) (codes "0\n" ++ after)) ∙ e ∙ parts_of q) in
     same_proof p.opt q.opt p.answers q.answers p.lines q.lines (same_mode p.opt q.opt _ _ behind_one)
     (one_tail p.answers q.answers p.lines q.lines after h.answers k.answers h.lines k.lines (behind_mode p.opt q.opt _ _ behind_one))
 
@@ -116,7 +114,7 @@ starts_tail (S ∷ Ss) (R ∷ Rs) ls ms rest a b p q e =
 
 pub start_of : (p q : Proof) (rest : List ℕ) → IsProof p → IsProof q → front_of q ++ rest ≡ text_of p → IsStart q p
 start_of p q rest h k e =
-    let behind_one = behind_head _ _ (sym (regroup (codes "proof 1\n") (mode_line q.opt) (lines answer_text q.answers) (lines line_text q.lines) rest) ∙ e ∙ parts_of p) in
+    let behind_one = behind_head _ _ (sym (regroup (codes "proof 2\n") (mode_line q.opt) (lines answer_text q.answers) (lines line_text q.lines) rest) ∙ e ∙ parts_of p) in
     let more = starts_tail q.answers p.answers q.lines p.lines rest k.answers h.answers k.lines h.lines (behind_mode q.opt p.opt _ _ behind_one) in
     record { mode = same_mode q.opt p.opt _ _ behind_one; more_answers = more.more_answers; answers = more.answers; more_lines = more.more_lines; lines = more.lines; all_answers = more.all_answers }
 

@@ -8,9 +8,9 @@ use Rattle.asp_model.proofs.MemberLaws.{each_weaker, each-append, each-flat_map}
 use Rattle.asp_proof.specs.declared.proof.Line.{Line}
 use Rattle.asp_proof.specs.declared.proof.Line.TheVariants as kind
 use Rattle.asp_proof.specs.declared.proof.Proof.{Proof}
-use Rattle.asp_proof.specs.Texts.{natural_field, integer_field, counted_fields, loop_fields, answer_text, line_text, mode_line, text_of, line, lines}
-use Rattle.asp_proof.specs.Grammar.{IsAtom, IsLiteral, AreCounted, IsSet, IsNogood, IsLine, IsProof, IsProofText, Begins, IsUnbroken, IsLines, IsFirstFault}
-use Rattle.asp_proof.specs.Fields.{IsNumber, IsWhole}
+use Rattle.asp_proof.specs.Texts.{natural_field, integer_field, counted_fields, loop_fields, learned_fields, answer_text, line_text, mode_line, text_of, line, lines}
+use Rattle.asp_proof.specs.Grammar.{IsAtom, IsLiteral, AreCounted, ArePlaces, IsSet, IsNogood, IsLine, IsProof, IsProofText, Begins, IsUnbroken, IsLines, IsFirstFault}
+use Rattle.asp_proof.specs.Fields.{IsNumber, IsCount, IsWhole}
 use Rattle.asp_proof.specs.Walk.{proof_of, front_of, Ends, IsWalked, Takes, IsRefused}
 use Rattle.asp_proof.proofs.CutLaws.{one_cut}
 use Rattle.asp_proof.proofs.FieldLaws.{no_feed}
@@ -35,9 +35,27 @@ unbroken_nogood xs h = unbroken_counted IsLiteral integer_field (λ z k. unbroke
 pub unbroken_answer : (S : Atoms) → IsSet S → IsUnbroken (answer_text S)
 unbroken_answer S h = ((λ e. omega (arith, e)), unbroken_atoms S h.atoms)
 
+unbroken_place : (n : ℕ) → IsCount n → IsUnbroken (natural_field n)
+unbroken_place n h = unbroken_integer (pos n) h
+
+unbroken_places : (xs : List ℕ) → ArePlaces xs → IsUnbroken (counted_fields natural_field xs)
+unbroken_places xs h = unbroken_counted IsCount natural_field unbroken_place xs h
+
+-- two parts one after the other
+unbroken_two : (xs ys : List ℕ) → IsUnbroken xs → IsUnbroken ys → IsUnbroken (xs ++ ys)
+unbroken_two xs ys a b = each-append (λ b. b ≢ 10) xs ys a b
+
 pub unbroken_line : (l : Line) → IsLine l → IsUnbroken (line_text l)
-unbroken_line (kind.Loop set nogood) h = ((λ e. omega (arith, e)), each-append (λ b. b ≢ 10) (counted_fields natural_field set) (counted_fields integer_field nogood) (unbroken_atoms set h.0.atoms) (unbroken_nogood nogood h.2))
-unbroken_line (kind.Learned nogood) h = ((λ e. omega (arith, e)), unbroken_nogood nogood h)
+unbroken_line (kind.Loop place set nogood) h = (
+  (λ e. omega (arith, e)),
+  unbroken_two (natural_field place) (counted_fields natural_field set ++ counted_fields integer_field nogood) (unbroken_place place h.0)
+      (unbroken_two (counted_fields natural_field set) (counted_fields integer_field nogood) (unbroken_atoms set h.1.0.0.atoms) (unbroken_nogood nogood h.1.1)),
+)
+unbroken_line (kind.Learned place nogood names) h = (
+  (λ e. omega (arith, e)),
+  unbroken_two (natural_field place) (counted_fields integer_field nogood ++ counted_fields natural_field names) (unbroken_place place h.0)
+      (unbroken_two (counted_fields integer_field nogood) (counted_fields natural_field names) (unbroken_nogood nogood h.1.0) (unbroken_places names h.1.1)),
+)
 unbroken_line (kind.Cube cube) h = ((λ e. omega (arith, e)), unbroken_nogood cube h)
 
 pub zero_unbroken : IsUnbroken (codes "0")
@@ -86,16 +104,16 @@ next entries bytes more u e = next_from entries e.more_lines e.more_answers byte
 -- ---- lines of different kinds
 
 pub answer_or_line : (S : Atoms) (l : Line) → answer_text S ≡ line_text l → ⊥
-answer_or_line S (kind.Loop set nogood) e = omega (arith, first_bytes 97 111 (counted_fields natural_field S) (loop_fields (set, nogood)) e)
-answer_or_line S (kind.Learned nogood) e = omega (arith, first_bytes 97 108 (counted_fields natural_field S) (counted_fields integer_field nogood) e)
+answer_or_line S (kind.Loop place set nogood) e = omega (arith, first_bytes 97 111 (counted_fields natural_field S) (loop_fields (place, (set, nogood))) e)
+answer_or_line S (kind.Learned place nogood names) e = omega (arith, first_bytes 97 108 (counted_fields natural_field S) (learned_fields (place, (nogood, names))) e)
 answer_or_line S (kind.Cube cube) e = omega (arith, first_bytes 97 99 (counted_fields natural_field S) (counted_fields integer_field cube) e)
 
 pub answer_or_last : (S : Atoms) → answer_text S ≡ codes "0" → ⊥
 answer_or_last S e = omega (arith, first_bytes 97 48 (counted_fields natural_field S) [] e)
 
 pub line_or_last : (l : Line) → line_text l ≡ codes "0" → ⊥
-line_or_last (kind.Loop set nogood) e = omega (arith, first_bytes 111 48 (loop_fields (set, nogood)) [] e)
-line_or_last (kind.Learned nogood) e = omega (arith, first_bytes 108 48 (counted_fields integer_field nogood) [] e)
+line_or_last (kind.Loop place set nogood) e = omega (arith, first_bytes 111 48 (loop_fields (place, (set, nogood))) [] e)
+line_or_last (kind.Learned place nogood names) e = omega (arith, first_bytes 108 48 (learned_fields (place, (nogood, names))) [] e)
 line_or_last (kind.Cube cube) e = omega (arith, first_bytes 99 48 (counted_fields integer_field cube) [] e)
 
 -- ---- one more line
@@ -105,7 +123,7 @@ lines_more text xs x = flat_map-append (λ y. line (text y)) xs (x ∷ []) ∙ a
 
 front_answer : (opt : Bool) (answers : List Atoms) (S : Atoms) → front_of (proof_of opt (answers ++ S ∷ []) []) ≡ front_of (proof_of opt answers []) ++ line (answer_text S)
 front_answer opt answers S =
-    let head = codes "proof 1\n" ++ mode_line opt in
+    let head = codes "proof 2\n" ++ mode_line opt in
     append-nil (head ++ lines answer_text (answers ++ S ∷ []))
     ∙ ap (λ (t : List ℕ). head ++ t) (lines_more answer_text answers S)
     ∙ sym (append_assoc head (lines answer_text answers) (line (answer_text S)))
@@ -113,7 +131,7 @@ front_answer opt answers S =
 
 front_line : (opt : Bool) (answers : List Atoms) (entries : List Line) (l : Line) → front_of (proof_of opt answers (entries ++ l ∷ [])) ≡ front_of (proof_of opt answers entries) ++ line (line_text l)
 front_line opt answers entries l =
-    let head = codes "proof 1\n" ++ mode_line opt ++ lines answer_text answers in
+    let head = codes "proof 2\n" ++ mode_line opt ++ lines answer_text answers in
     ap (λ (t : List ℕ). head ++ t) (lines_more line_text entries l) ∙ sym (append_assoc head (lines line_text entries) (line (line_text l)))
 
 -- a line behind a front
@@ -259,7 +277,7 @@ goes_on text n p bytes after rest w e z more =
 -- ---- the first two lines
 
 abbrev pub head : List ℕ
-head = codes "proof 1\n"
+head = codes "proof 2\n"
 
 pub regroup : (h m a l z : List ℕ) → (((h ++ m) ++ a) ++ l) ++ z ≡ h ++ (m ++ (a ++ (l ++ z)))
 regroup h m a l z = simp append_assoc
@@ -286,7 +304,7 @@ same_mode false true xs ys e = absurd (omega (arith, first_bytes 101 111 _ _ e))
 behind_first : (rest : List ℕ) → IsProofText (head ++ rest) → (p : Proof) × IsProof p × (mode_line p.opt ++ (lines answer_text p.answers ++ (lines line_text p.lines ++ codes "0\n")) ≡ rest)
 behind_first rest t = (t.proof, t.is, behind_head _ rest (sym (parts_of t.proof) ∙ t.same))
 
-pub head_unbroken : IsUnbroken (codes "proof 1")
+pub head_unbroken : IsUnbroken (codes "proof 2")
 head_unbroken = ((λ e. omega (arith, e)), ((λ e. omega (arith, e)), ((λ e. omega (arith, e)), ((λ e. omega (arith, e)), ((λ e. omega (arith, e)), ((λ e. omega (arith, e)), ((λ e. omega (arith, e)), tt)))))))
 
 abbrev pub mode_word : Bool → List ℕ
@@ -302,7 +320,7 @@ mode_break true xs = refl
 mode_break false xs = refl
 
 head_line : IsLines 1 head
-head_line = record { parts = codes "proof 1" ∷ []; counted = refl; unbroken = (head_unbroken, tt); same = refl }
+head_line = record { parts = codes "proof 2" ∷ []; counted = refl; unbroken = (head_unbroken, tt); same = refl }
 
 pub no_mode : (text rest : List ℕ) → head ++ rest ≡ text → ((o : Bool) (xs : List ℕ) → mode_line o ++ xs ≡ rest → ⊥) → IsFirstFault text 2
 no_mode text rest e none = record {
@@ -321,8 +339,8 @@ no_mode text rest e none = record {
 }
 
 two_lines : (o : Bool) → IsLines 2 (front_of (proof_of o [] []))
-two_lines true = record { parts = codes "proof 1" ∷ codes "opt" ∷ []; counted = refl; unbroken = (head_unbroken, (word_unbroken true, tt)); same = refl }
-two_lines false = record { parts = codes "proof 1" ∷ codes "enum" ∷ []; counted = refl; unbroken = (head_unbroken, (word_unbroken false, tt)); same = refl }
+two_lines true = record { parts = codes "proof 2" ∷ codes "opt" ∷ []; counted = refl; unbroken = (head_unbroken, (word_unbroken true, tt)); same = refl }
+two_lines false = record { parts = codes "proof 2" ∷ codes "enum" ∷ []; counted = refl; unbroken = (head_unbroken, (word_unbroken false, tt)); same = refl }
 
 pub start_regroup : (h m rest : List ℕ) → ((((h ++ m) ++ []) ++ []) ++ rest) ≡ h ++ (m ++ rest)
 start_regroup h m rest = simp (append_assoc, append-nil)

@@ -8,6 +8,7 @@ use Rattle.asp_proof.specs.declared.proof.Line.{Line}
 use Rattle.asp_proof.specs.declared.proof.Line.TheVariants as kind
 use Rattle.asp_proof.specs.declared.proof.Proof.{Proof}
 use Rattle.asp_proof.specs.Texts.{text_of}
+use Rattle.asp_proof.specs.Fields.{IsCount}
 
 abbrev pub most : ℕ
 most = 2147483647
@@ -35,14 +36,26 @@ pub record IsSet (S : Atoms) : Type 0 where
 abbrev pub IsNogood : List ℤ → Type 0
 IsNogood = AreCounted IsLiteral
 
+abbrev pub ArePlaces : List ℕ → Type 0
+ArePlaces = AreCounted IsCount
+
+abbrev pub Both : {A B : Type 0} → (A → Type 0) → (B → Type 0) → A × B → Type 0
+Both P Q x = P x.0 × Q x.1
+
 -- the set of a loop isn't empty
-abbrev pub IsLoop : Atoms × List ℤ → Type 0
-IsLoop x = IsSet x.0 × (0 < length x.0) × IsNogood x.1
+abbrev pub IsLoopSet : Atoms → Type 0
+IsLoopSet S = IsSet S × (0 < length S)
+
+abbrev pub IsLoop : ℕ × (Atoms × List ℤ) → Type 0
+IsLoop = Both IsCount (Both IsLoopSet IsNogood)
+
+abbrev pub IsLearned : ℕ × (List ℤ × List ℕ) → Type 0
+IsLearned = Both IsCount (Both IsNogood ArePlaces)
 
 -- a line that a text may have
 abbrev pub IsLine : Line → Type 0
-IsLine (kind.Loop set nogood) = IsLoop (set, nogood)
-IsLine (kind.Learned nogood) = IsNogood nogood
+IsLine (kind.Loop place set nogood) = IsLoop (place, (set, nogood))
+IsLine (kind.Learned place nogood names) = IsLearned (place, (nogood, names))
 IsLine (kind.Cube cube) = IsNogood cube
 
 pub record IsProof (p : Proof) : Type 0 where

@@ -24,6 +24,10 @@ atoms_fields S = counted_fields natural_field S
 abbrev pub literals_fields : List ℤ → List ℕ
 literals_fields literals = counted_fields integer_field literals
 
+-- one after the other
+abbrev pub two_fields : {A B : Type 0} → (A → List ℕ) → (B → List ℕ) → A × B → List ℕ
+two_fields first second x = first x.0 ++ second x.1
+
 -- ---- lines
 
 abbrev pub line : List ℕ → List ℕ
@@ -35,17 +39,21 @@ lines text xs = flat_map (λ x. line (text x)) xs
 abbrev pub answer_text : Atoms → List ℕ
 answer_text S = codes "a" ++ atoms_fields S
 
--- a set and its nogood
-abbrev pub loop_fields : Atoms × List ℤ → List ℕ
-loop_fields x = atoms_fields x.0 ++ literals_fields x.1
+-- a place, a set and its nogood
+abbrev pub loop_fields : ℕ × (Atoms × List ℤ) → List ℕ
+loop_fields = two_fields natural_field (two_fields atoms_fields literals_fields)
+
+-- a place, a nogood, and the places that it names
+abbrev pub learned_fields : ℕ × (List ℤ × List ℕ) → List ℕ
+learned_fields = two_fields natural_field (two_fields literals_fields (counted_fields natural_field))
 
 abbrev pub line_text : Line → List ℕ
-line_text (kind.Loop set nogood) = codes "o" ++ loop_fields (set, nogood)
-line_text (kind.Learned literals) = codes "l" ++ literals_fields literals
+line_text (kind.Loop place set nogood) = codes "o" ++ loop_fields (place, (set, nogood))
+line_text (kind.Learned place nogood names) = codes "l" ++ learned_fields (place, (nogood, names))
 line_text (kind.Cube literals) = codes "c" ++ literals_fields literals
 
 abbrev pub mode_line : Bool → List ℕ
 mode_line opt = if opt then codes "opt\n" else codes "enum\n"
 
 abbrev pub text_of : Proof → List ℕ
-text_of p = codes "proof 1\n" ++ mode_line p.opt ++ lines answer_text p.answers ++ lines line_text p.lines ++ codes "0\n"
+text_of p = codes "proof 2\n" ++ mode_line p.opt ++ lines answer_text p.answers ++ lines line_text p.lines ++ codes "0\n"

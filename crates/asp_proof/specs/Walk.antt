@@ -14,7 +14,7 @@ proof_of opt answers entries = record { opt = opt; answers = answers; lines = en
 
 -- the lines that were taken
 abbrev pub front_of : Proof → List ℕ
-front_of p = codes "proof 1\n" ++ mode_line p.opt ++ lines answer_text p.answers ++ lines line_text p.lines
+front_of p = codes "proof 2\n" ++ mode_line p.opt ++ lines answer_text p.answers ++ lines line_text p.lines
 
 -- what ends a proof's text whose lines so far are these: more answers, if there is no further line yet, more lines, and the last one
 pub record Ends (entries : List Line) (rest : List ℕ) : Type 0 where

@@ -5,8 +5,8 @@ ghost use Rattle.std.specs.List.{AllByRecursion, position, position_or_len};
 ghost use Rattle.std.specs.Fmt.{signed_decimal};
 ghost use Rattle.asp_proof.specs.Texts.{natural_field, integer_field};
 ghost use Rattle.asp_model.specs.Sets.{IsAscending};
-ghost use Rattle.asp_proof.specs.Grammar.{IsAtom, IsLiteral, AreCounted, IsSet, IsNogood};
-ghost use Rattle.asp_proof.specs.Texts.{atoms_fields, literals_fields};
+ghost use Rattle.asp_proof.specs.Grammar.{IsAtom, IsLiteral, AreCounted, ArePlaces, IsSet, IsNogood};
+ghost use Rattle.asp_proof.specs.Texts.{counted_fields, atoms_fields, literals_fields};
 ghost use Rattle.asp_proof.specs.Fields.{IsCut, IsNumber, IsCount, IsAt, IsMissing, IsNone, IsWhole, AreSo, Stops};
 
 use asp_model::interp::Interp;
@@ -90,8 +90,8 @@ fn literal(line: &[u8]) -> Option<(i32, &[u8])>
     Some((n as i32, rest))
 }
 
-// A number of 32 bits without a sign.
-fn natural(line: &[u8]) -> Option<(u32, &[u8])>
+/// A number of 32 bits without a sign, at the front of a line, and what follows it.
+pub fn natural(line: &[u8]) -> Option<(u32, &[u8])>
     ensures { MatchOption result (IsMissing IsCount natural_field line.now) (λ x. IsAt IsCount natural_field line.now x.0 x.1.now) }
 {
     let Some((n, rest)) = field(line) else {
@@ -119,7 +119,7 @@ fn atom(line: &[u8]) -> Option<(Atom, &[u8])>
 }
 
 // For how many fields room is made at first: no more than the line has bytes for.
-fn places(count: u32, line: &[u8]) -> usize {
+fn room(count: u32, line: &[u8]) -> usize {
     (count as usize).min(line.len() / 2)
 }
 
@@ -132,7 +132,7 @@ fn each_literal(
     ensures { IfOk result (λ o. MatchOption o (IsMissing (AreSo IsLiteral count) (flat_map integer_field) line.now)
         (λ x. IsAt (AreSo IsLiteral count) (flat_map integer_field) line.now x.0.items x.1.now)) }
 {
-    let mut literals = Vec::with_capacity(alloc, places(count, line))?;
+    let mut literals = Vec::with_capacity(alloc, room(count, line))?;
     let mut rest = line;
     for _ in 0..count {
         let Some((l, after)) = literal(rest) else {
@@ -153,7 +153,7 @@ fn each_atom(
     ensures { IfOk result (λ o. MatchOption o (IsMissing (AreSo IsAtom count) (flat_map natural_field) line.now)
         (λ x. IsAt (AreSo IsAtom count) (flat_map natural_field) line.now x.0.items x.1.now)) }
 {
-    let mut atoms = Vec::with_capacity(alloc, places(count, line))?;
+    let mut atoms = Vec::with_capacity(alloc, room(count, line))?;
     let mut rest = line;
     for _ in 0..count {
         let Some((a, after)) = atom(rest) else {
@@ -163,6 +163,38 @@ fn each_atom(
         rest = after;
     }
     Ok(Some((atoms, rest)))
+}
+
+fn each_place(
+    alloc: Global,
+    count: u32,
+    line: &[u8],
+) -> Result<Option<(Vec<u32>, &[u8])>, AllocError>
+    requires { Stops 32 line.now }
+    ensures { IfOk result (λ o. MatchOption o (IsMissing (AreSo IsCount count) (flat_map natural_field) line.now)
+        (λ x. IsAt (AreSo IsCount count) (flat_map natural_field) line.now x.0.items x.1.now)) }
+{
+    let mut found = Vec::with_capacity(alloc, room(count, line))?;
+    let mut rest = line;
+    for _ in 0..count {
+        let Some((place, after)) = natural(rest) else {
+            return Ok(None);
+        };
+        found.push(place)?;
+        rest = after;
+    }
+    Ok(Some((found, rest)))
+}
+
+/// The places at the front of a line, with their count, and what follows them.
+pub fn places(alloc: Global, line: &[u8]) -> Result<Option<(Vec<u32>, &[u8])>, AllocError>
+    ensures { IfOk result (λ o. MatchOption o (IsMissing ArePlaces (counted_fields natural_field) line.now)
+        (λ x. IsAt ArePlaces (counted_fields natural_field) line.now x.0.items x.1.now)) }
+{
+    let Some((count, rest)) = natural(line) else {
+        return Ok(None);
+    };
+    each_place(alloc, count, rest)
 }
 
 /// The literals at the front of a line, with their count, and what follows them.

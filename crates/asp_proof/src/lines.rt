@@ -1,10 +1,10 @@
 //! A line of a proof, without its line feed.
 ghost use Rattle.std.specs.Prelude.{◌≡◌, ◌∷◌, Bool, IfOk, MatchBool, MatchOption, codes};
-ghost use Rattle.asp_proof.specs.Grammar.{IsSet, IsNogood, IsLoop, IsLine};
-ghost use Rattle.asp_proof.specs.Texts.{atoms_fields, literals_fields, loop_fields, answer_text, line_text, mode_line, line as with_feed};
-ghost use Rattle.asp_proof.specs.Fields.{IsNone, IsWhole};
+ghost use Rattle.asp_proof.specs.Grammar.{Both, IsSet, IsNogood, ArePlaces, IsLoopSet, IsLoop, IsLearned, IsLine};
+ghost use Rattle.asp_proof.specs.Texts.{natural_field, counted_fields, atoms_fields, literals_fields, two_fields, loop_fields, learned_fields, answer_text, line_text, mode_line, line as with_feed};
+ghost use Rattle.asp_proof.specs.Fields.{IsAt, IsMissing, IsNone, IsWhole};
 
-use crate::fields::{after, atoms, literals};
+use crate::fields::{after, atoms, literals, natural, places};
 use crate::proof::Line;
 use asp_model::interp::Interp;
 use asp_model::seq::Seq;
@@ -12,9 +12,9 @@ use std::alloc::{AllocError, Global};
 
 /// Whether a proof begins with this line.
 pub fn is_head(line: &[u8]) -> bool
-    ensures { MatchBool result (line.now ≡ codes "proof 1") (line.now ≡ codes "proof 1" → ⊥) }
+    ensures { MatchBool result (line.now ≡ codes "proof 2") (line.now ≡ codes "proof 2" → ⊥) }
 {
-    line == b"proof 1".as_slice()
+    line == b"proof 2".as_slice()
 }
 
 /// Whether a proof ends with this line.
@@ -73,9 +73,13 @@ pub fn answer(alloc: Global, line: &[u8]) -> Result<Option<Interp>, AllocError>
     set(alloc, fields)
 }
 
-// The set of a loop, its nogood, and nothing else.
-fn loop_line(alloc: Global, line: &[u8]) -> Result<Option<Line>, AllocError>
-    ensures { IfOk result (λ o. MatchOption o (IsNone IsLoop loop_fields line.now) (λ x. IsWhole IsLine line_text (111 ∷ line.now) x)) }
+// A set that isn't empty, and literals, at the front of a line.
+fn set_and_nogood(
+    alloc: Global,
+    line: &[u8],
+) -> Result<Option<(Interp, Vec<i32>, &[u8])>, AllocError>
+    ensures { IfOk result (λ o. MatchOption o (IsMissing (Both IsLoopSet IsNogood) (two_fields atoms_fields literals_fields) line.now)
+        (λ x. IsAt (Both IsLoopSet IsNogood) (two_fields atoms_fields literals_fields) line.now (x.0, x.1.items) x.2.now)) }
 {
     let Some((set, rest)) = atoms(alloc, line)? else {
         return Ok(None);
@@ -83,19 +87,67 @@ fn loop_line(alloc: Global, line: &[u8]) -> Result<Option<Line>, AllocError>
     if set.as_slice().is_empty() {
         return Ok(None);
     }
-    match nogood(alloc, rest)? {
-        Some(nogood) => Ok(Some(Line::Loop { set, nogood })),
+    match literals(alloc, rest)? {
+        Some((nogood, rest)) => Ok(Some((set, nogood, rest))),
         None => Ok(None),
     }
 }
 
-fn learned_line(alloc: Global, line: &[u8]) -> Result<Option<Line>, AllocError>
-    ensures { IfOk result (λ o. MatchOption o (IsNone IsNogood literals_fields line.now) (λ x. IsWhole IsLine line_text (108 ∷ line.now) x)) }
+// Literals, and places, at the front of a line.
+fn nogood_and_places(
+    alloc: Global,
+    line: &[u8],
+) -> Result<Option<(Vec<i32>, Vec<u32>, &[u8])>, AllocError>
+    ensures { IfOk result (λ o. MatchOption o (IsMissing (Both IsNogood ArePlaces) (two_fields literals_fields (counted_fields natural_field)) line.now)
+        (λ x. IsAt (Both IsNogood ArePlaces) (two_fields literals_fields (counted_fields natural_field)) line.now (x.0.items, x.1.items) x.2.now)) }
 {
-    match nogood(alloc, line)? {
-        Some(nogood) => Ok(Some(Line::Learned(nogood))),
+    let Some((nogood, rest)) = literals(alloc, line)? else {
+        return Ok(None);
+    };
+    match places(alloc, rest)? {
+        Some((names, rest)) => Ok(Some((nogood, names, rest))),
         None => Ok(None),
     }
+}
+
+// The place of a loop, its set, its nogood, and nothing else.
+fn loop_line(alloc: Global, line: &[u8]) -> Result<Option<Line>, AllocError>
+    ensures { IfOk result (λ o. MatchOption o (IsNone IsLoop loop_fields line.now) (λ x. IsWhole IsLine line_text (111 ∷ line.now) x)) }
+{
+    let Some((place, rest)) = natural(line) else {
+        return Ok(None);
+    };
+    let Some((set, nogood, rest)) = set_and_nogood(alloc, rest)? else {
+        return Ok(None);
+    };
+    if !rest.is_empty() {
+        return Ok(None);
+    }
+    Ok(Some(Line::Loop {
+        place,
+        set,
+        nogood: Seq::from_vec(nogood),
+    }))
+}
+
+// The place of a nogood, its literals, the places that it names, and nothing else.
+fn learned_line(alloc: Global, line: &[u8]) -> Result<Option<Line>, AllocError>
+    ensures { IfOk result (λ o. MatchOption o (IsNone IsLearned learned_fields line.now) (λ x. IsWhole IsLine line_text (108 ∷ line.now) x)) }
+{
+    let Some((place, rest)) = natural(line) else {
+        return Ok(None);
+    };
+    let Some((nogood, names, rest)) = nogood_and_places(alloc, rest)? else {
+        return Ok(None);
+    };
+    if !rest.is_empty() {
+        return Ok(None);
+    }
+    Ok(Some(Line::Learned {
+        place,
+        nogood: Seq::from_vec(nogood),
+        names: Seq::from_vec(names),
+    }))
 }
 
 fn cube_line(alloc: Global, line: &[u8]) -> Result<Option<Line>, AllocError>

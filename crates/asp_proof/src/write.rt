@@ -2,9 +2,9 @@
 ghost use Rattle.std.specs.Prelude.{◌≡◌, ◌++◌, ◌∷◌, ◌≤◌, codes, flat_map, OnOk, OnErr};
 ghost use Rattle.std.specs.Io.KnownBytes.{Appends};
 ghost use Rattle.asp_io.specs.Causes.{Rose, AppendsFront};
-ghost use Rattle.asp_proof.specs.Texts.{natural_field, integer_field, line, lines};
+ghost use Rattle.asp_proof.specs.Texts.{natural_field, integer_field, counted_fields, line, lines};
 ghost use Rattle.asp_buffer.specs.Out.{Puts, out};
-ghost use Rattle.asp_proof.specs.Texts.{atoms_fields, literals_fields, answer_text, line_text, mode_line, text_of};
+ghost use Rattle.asp_proof.specs.Texts.{atoms_fields, literals_fields, loop_fields, learned_fields, answer_text, line_text, mode_line, text_of};
 
 use crate::proof::{Line, Proof};
 use asp_buffer::{Waiting, flush, put, put_number};
@@ -101,18 +101,72 @@ fn put_answers<K: Sink>(
     Ok(())
 }
 
-fn put_loop<K: Sink>(
+// Puts out the letter of a line, and its place.
+fn put_place<K: Sink>(
+    sink: &mut K,
+    waiting: &mut Waiting,
+    kind: &[u8],
+    place: u32,
+) -> Result<(), Failed>
+    ensures { Puts (out (K.held sink.old) (K.faults sink.old) waiting.old)
+        (out (K.held sink.new) (K.faults sink.new) waiting.new) result (kind.now ++ natural_field place) }
+{
+    put(sink, waiting, kind)?;
+    put_field(sink, waiting, place)
+}
+
+fn put_set_and_nogood<K: Sink>(
     sink: &mut K,
     waiting: &mut Waiting,
     set: &Interp,
     nogood: &[i32],
 ) -> Result<(), Failed>
     ensures { Puts (out (K.held sink.old) (K.faults sink.old) waiting.old)
-        (out (K.held sink.new) (K.faults sink.new) waiting.new) result (codes "o" ++ atoms_fields set.now ++ literals_fields nogood.now) }
+        (out (K.held sink.new) (K.faults sink.new) waiting.new) result (atoms_fields set.now ++ literals_fields nogood.now) }
 {
-    put(sink, waiting, b"o")?;
     put_atoms(sink, waiting, set.as_slice())?;
     put_literals(sink, waiting, nogood)
+}
+
+fn put_nogood_and_places<K: Sink>(
+    sink: &mut K,
+    waiting: &mut Waiting,
+    nogood: &[i32],
+    names: &[u32],
+) -> Result<(), Failed>
+    ensures { Puts (out (K.held sink.old) (K.faults sink.old) waiting.old)
+        (out (K.held sink.new) (K.faults sink.new) waiting.new) result (literals_fields nogood.now ++ counted_fields natural_field names.now) }
+{
+    put_literals(sink, waiting, nogood)?;
+    put_atoms(sink, waiting, names)
+}
+
+fn put_loop<K: Sink>(
+    sink: &mut K,
+    waiting: &mut Waiting,
+    place: u32,
+    set: &Interp,
+    nogood: &[i32],
+) -> Result<(), Failed>
+    ensures { Puts (out (K.held sink.old) (K.faults sink.old) waiting.old)
+        (out (K.held sink.new) (K.faults sink.new) waiting.new) result (codes "o" ++ loop_fields (place, (set.now, nogood.now))) }
+{
+    put_place(sink, waiting, b"o", place)?;
+    put_set_and_nogood(sink, waiting, set, nogood)
+}
+
+fn put_learned<K: Sink>(
+    sink: &mut K,
+    waiting: &mut Waiting,
+    place: u32,
+    nogood: &[i32],
+    names: &[u32],
+) -> Result<(), Failed>
+    ensures { Puts (out (K.held sink.old) (K.faults sink.old) waiting.old)
+        (out (K.held sink.new) (K.faults sink.new) waiting.new) result (codes "l" ++ learned_fields (place, (nogood.now, names.now))) }
+{
+    put_place(sink, waiting, b"l", place)?;
+    put_nogood_and_places(sink, waiting, nogood, names)
 }
 
 fn put_kind<K: Sink>(
@@ -133,8 +187,14 @@ fn put_fields<K: Sink>(sink: &mut K, waiting: &mut Waiting, line: &Line) -> Resu
         (out (K.held sink.new) (K.faults sink.new) waiting.new) result (line_text line.now) }
 {
     match line {
-        Line::Loop { set, nogood } => put_loop(sink, waiting, set, nogood.as_slice()),
-        Line::Learned(literals) => put_kind(sink, waiting, b"l", literals.as_slice()),
+        Line::Loop { place, set, nogood } => {
+            put_loop(sink, waiting, *place, set, nogood.as_slice())
+        }
+        Line::Learned {
+            place,
+            nogood,
+            names,
+        } => put_learned(sink, waiting, *place, nogood.as_slice(), names.as_slice()),
         Line::Cube(literals) => put_kind(sink, waiting, b"c", literals.as_slice()),
     }
 }
@@ -167,7 +227,7 @@ fn put_proof<K: Sink>(sink: &mut K, waiting: &mut Waiting, proof: &Proof) -> Res
     ensures { Puts (out (K.held sink.old) (K.faults sink.old) waiting.old)
         (out (K.held sink.new) (K.faults sink.new) waiting.new) result (text_of proof.now) }
 {
-    put(sink, waiting, b"proof 1\n")?;
+    put(sink, waiting, b"proof 2\n")?;
     put(sink, waiting, mode_line(proof.opt))?;
     put_answers(sink, waiting, proof.answers.as_slice())?;
     put_lines(sink, waiting, proof.lines.as_slice())?;

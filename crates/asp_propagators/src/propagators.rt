@@ -73,6 +73,14 @@ impl<'a> Propagators<'a> {
         self.recorder = recorder;
     }
 
+    // Tells the recorder of a nogood that was given and is no loop's, if it is one.
+    fn note_other(&self, said: &Said) -> Result<(), AllocError> {
+        match (self.recorder, said) {
+            (Some(recorder), Said::Nogood(_)) => recorder.add_other(),
+            _ => Ok(()),
+        }
+    }
+
     // Tells the recorder of the loop nogood that was given.
     fn note(&self, nogood: &Nogood) -> Result<(), AllocError> {
         match self.recorder {
@@ -128,9 +136,11 @@ impl<'a> Propagator for Propagators<'a> {
 
     fn next(&mut self, trail: &Trail) -> Result<Option<Said>, AllocError> {
         if let Some(said) = self.weights.next(trail)? {
+            self.note_other(&said)?;
             return Ok(Some(said));
         }
         if let Some(said) = self.bound.next(trail)? {
+            self.note_other(&said)?;
             return Ok(Some(said));
         }
         if let Some(nogood) = self.sources.next(trail)? {

@@ -6,6 +6,7 @@
 ghost use Rattle.std.specs.Prelude.{◌≡◌, map, IfOk};
 ghost use Rattle.asp_recorder.specs.Numbers.{number_of};
 
+use crate::places::Places;
 use asp_model::interp::Interp;
 use asp_model::program::Atom;
 use asp_model::seq::Seq;
@@ -14,6 +15,13 @@ use asp_vars::lit::Lit;
 use std::alloc::{AllocError, Global};
 use std::cell::Cell;
 
+// A set of atoms that can't found each other, and its loop nogood.
+#[derive(Drop)]
+struct Loop {
+    set: Interp,
+    nogood: Seq<i32>,
+}
+
 /// The lines of a proof that a run has so far.
 #[derive(Drop)]
 pub struct Recorder {
@@ -21,6 +29,10 @@ pub struct Recorder {
     alloc: Global,
     // the lines, the oldest first; none before the first
     lines: Cell<Option<Vec<Line>>>,
+    // which places the lines have; none before the first
+    places: Cell<Option<Places>>,
+    // what propagators gave, the oldest first, whose numbers aren't known yet: loops, and others that need no line
+    waiting: Cell<Option<Vec<Option<Loop>>>>,
 }
 
 // The variable, with the literal's sign.
@@ -48,6 +60,8 @@ impl Recorder {
         Recorder {
             alloc,
             lines: Cell::new(None),
+            places: Cell::new(None),
+            waiting: Cell::new(None),
         }
     }
 
@@ -73,20 +87,116 @@ impl Recorder {
         Ok(())
     }
 
-    /// A set of atoms, in any order, and its loop nogood.
+    // A propagator gave a nogood, of a loop or another one.
+    fn wait(&self, given: Option<Loop>) -> Result<(), AllocError> {
+        let mut waiting = match self.waiting.take() {
+            Some(waiting) => waiting,
+            None => Vec::new(self.alloc),
+        };
+        let added = waiting.push(given);
+        self.waiting.set(Some(waiting));
+        added?;
+        Ok(())
+    }
+
+    /// A set of atoms, in any order, and its loop nogood, which a propagator gives.
     pub fn add_loop(&self, set: &[Atom], nogood: &[Lit]) -> Result<(), AllocError> {
         let atoms = set.to_vec(self.alloc)?;
         let nogood = numbers(self.alloc, nogood)?;
-        self.add(Line::Loop {
+        self.wait(Some(Loop {
             set: Interp::from_atoms(atoms),
             nogood,
+        }))
+    }
+
+    /// A propagator gives a nogood that needs no line.
+    pub fn add_other(&self) -> Result<(), AllocError> {
+        self.wait(None)
+    }
+
+    // The places of the lines, which are to be put back.
+    fn take_places(&self) -> Places {
+        match self.places.take() {
+            Some(places) => places,
+            None => Places::new(self.alloc),
+        }
+    }
+
+    // Adds the line of what was given, if it needs one, under this number, if it has one.
+    fn place_one(
+        &self,
+        places: &mut Places,
+        given: Option<Loop>,
+        number: Option<usize>,
+    ) -> Result<(), AllocError> {
+        match given {
+            None => {
+                places.forget(number);
+                Ok(())
+            }
+            Some(Loop { set, nogood }) => {
+                let place = places.place(number, nogood.as_slice().len())?;
+                self.add(Line::Loop { place, set, nogood })
+            }
+        }
+    }
+
+    // The same of all that waits.
+    fn place_all(
+        &self,
+        places: &mut Places,
+        waiting: Vec<Option<Loop>>,
+        numbers: &[usize],
+    ) -> Result<(), AllocError> {
+        let mut at: usize = 0;
+        for given in waiting {
+            self.place_one(places, given, numbers.get(at).copied())?;
+            at = at.saturating_add(1);
+        }
+        Ok(())
+    }
+
+    /// The nogoods that propagators gave have these numbers, in that order. Those without a number are kept for good.
+    pub fn place_given(&self, numbers: &[usize]) -> Result<(), AllocError> {
+        let Some(waiting) = self.waiting.take() else {
+            return Ok(());
+        };
+        let mut places = self.take_places();
+        let placed = self.place_all(&mut places, waiting, numbers);
+        self.places.set(Some(places));
+        placed
+    }
+
+    // A nogood with its number, if it has one, as a line that names those by which it was found.
+    fn learned(
+        &self,
+        places: &mut Places,
+        number: Option<usize>,
+        nogood: &[Lit],
+        uses: &[usize],
+    ) -> Result<Line, AllocError> {
+        let names = places.names(self.alloc, uses)?;
+        let place = places.place(number, nogood.len())?;
+        let nogood = numbers(self.alloc, nogood)?;
+        Ok(Line::Learned {
+            place,
+            nogood,
+            names,
         })
     }
 
-    /// A nogood that was learnt, or that blocks an answer.
-    pub fn add_learned(&self, nogood: &[Lit]) -> Result<(), AllocError> {
-        let nogood = numbers(self.alloc, nogood)?;
-        self.add(Line::Learned(nogood))
+    /// A nogood that was learnt, or that blocks an answer, with its number, and the numbers of those by which it was found. Without
+    /// a number it is kept for good.
+    pub fn add_learned(
+        &self,
+        number: Option<usize>,
+        nogood: &[Lit],
+        uses: &[usize],
+    ) -> Result<(), AllocError> {
+        let mut places = self.take_places();
+        let line = self.learned(&mut places, number, nogood, uses);
+        self.places.set(Some(places));
+        self.add(line?)
     }
 
     /// The cube of a path that was closed.
@@ -97,7 +207,12 @@ impl Recorder {
 
     /// The lines, the oldest first.
     pub fn into_lines(self) -> Seq<Line> {
-        let Recorder { alloc, lines } = self;
+        let Recorder {
+            alloc,
+            lines,
+            places: _,
+            waiting: _,
+        } = self;
         match lines.into_inner() {
             Some(lines) => Seq::from_vec(lines),
             None => Seq::from_vec(Vec::new(alloc)),

@@ -23,6 +23,7 @@ ghost use Rattle.asp_state.specs.SearchStates.{KeepsCompletionAlone};
 use crate::aim::Aim;
 use crate::covering::renew;
 use crate::litter::Litter;
+use crate::noting::Uses;
 use crate::route::{Route, Turn};
 use crate::spread::Spread;
 use asp_analyze::learn::Learner;
@@ -94,6 +95,8 @@ pub struct Search<'a, P: Propagator> {
     pub(crate) last: Option<NogoodId>,
     // in an enumeration the way on which answers were found, where the path is to be split
     pub(crate) route: Route,
+    // by which nogoods the last step found something, where that is noted
+    pub(crate) uses: Uses,
 }
 
 impl<'a, P: Propagator> Model for Search<'a, P> {
@@ -249,6 +252,7 @@ impl<'a, P: Propagator> Search<'a, P> {
             bound: None,
             last: None,
             route: Route::new(alloc),
+            uses: Uses::new(alloc),
         })
     }
 
@@ -406,6 +410,34 @@ impl<'a, P: Propagator> Search<'a, P> {
             None => None,
             Some(id) => Some(store.lits(id)),
         }
+    }
+
+    /// From now on it is noted by which nogoods each step finds what it keeps.
+    pub fn note(&mut self)
+        ensures { self.new ≡ self.old }
+    {
+        self.uses.begin();
+    }
+
+    /// By which kept nogoods the last step found what it kept or closed the path by, in the order in which they said something,
+    /// if that is noted. It is advice, and no clause says it.
+    pub fn uses(&self) -> &[NogoodId] {
+        self.uses.numbers()
+    }
+
+    /// The numbers of the nogoods that propagators gave in the last step, in that order, if that is noted. No clause says it.
+    pub fn given(&self) -> &[NogoodId] {
+        self.uses.given()
+    }
+
+    /// The nogood by which the last step closed the path, if that is noted. No clause says it.
+    pub fn closing(&self) -> Option<&[Lit]> {
+        self.uses.closing()
+    }
+
+    /// The number of the nogood that the last step learnt, or by which it blocks an answer.
+    pub fn kept_number(&self) -> Option<NogoodId> {
+        self.last
     }
 
     /// How many kept nogoods aren't kept forever: those that were learnt, and those of propagators.

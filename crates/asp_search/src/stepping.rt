@@ -180,6 +180,8 @@ impl<'a, P: Propagator> Search<'a, P> {
         }
         fuel.burn(conflict);
         self.pace.count();
+        self.uses
+            .note_conflict(&self.learner, self.state.trail(), id);
         let new = jump(
             &mut self.state,
             &self.learner,
@@ -214,7 +216,10 @@ impl<'a, P: Propagator> Search<'a, P> {
         let _trail = self.state.trail();
         let _store = self.state.store();
         match learn(&mut self.learner, &self.state, id)? {
-            Learned::InCube(_) => {
+            Learned::InCube(nogood) => {
+                self.uses
+                    .note_conflict(&self.learner, self.state.trail(), id);
+                self.uses.note_closing(nogood.lits.as_slice());
                 self.make_room();
                 Ok(Step::Closed)
             }
@@ -230,6 +235,7 @@ impl<'a, P: Propagator> Search<'a, P> {
         ensures err { OnErr result (self.new ≡ self.old) }
     {
         self.known.reserve(1)?;
+        self.uses.note_answer(self.state.trail());
         let decision = self.state.decisions().last().copied();
         let id = block(self.alloc, &mut self.state, &mut self.blocking)?;
         thin(&mut self.state, &mut self.pace);
@@ -422,12 +428,14 @@ impl<'a, P: Propagator> Search<'a, P> {
         let _program = self.compiled.program();
         self.last = None;
         self.implied = 0;
+        self.uses.clear(self.state.store());
         if self.state.is_clashing() {
             return Ok(Step::Closed);
         }
         let before = self.state.trail().len();
         let met = self.state.propagate()?;
         self.implied = self.state.trail().len().saturating_sub(before);
+        self.uses.note_given(self.state.store());
         match met {
             Some(id) => {
                 self.aim.stop();

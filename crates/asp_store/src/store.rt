@@ -202,6 +202,13 @@ impl Store {
         id < self.slots.len()
     }
 
+    /// The numbers of the nogoods that propagators gave, the oldest first, and of some that are gone.
+    pub fn given(&self) -> &[u32]
+        ensures { result.now ≡ self.now.given }
+    {
+        self.given.as_slice()
+    }
+
     /// Says that a nogood was used, which keeps it longer.
     pub fn used(&mut self, id: NogoodId)
         ensures { self.new ≡ self.old }

@@ -15,8 +15,9 @@ pub(crate) fn note<R: Wait, P: Propagator>(
     recorder: Option<&Recorder>,
 ) -> Result<(), AllocError> {
     if let Some(recorder) = recorder {
+        recorder.place_given([].as_slice())?;
         if let Some(nogood) = search.kept() {
-            recorder.add_learned(nogood)?;
+            recorder.add_learned(None, nogood, [].as_slice())?;
         }
         shared.scroll.take_over(rt, recorder)?;
     }

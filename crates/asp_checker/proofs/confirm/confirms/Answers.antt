@@ -1,8 +1,12 @@
-use Rattle.std.proofs.Common.{◌+◌, sym, ap, subst, ◌∙◌}
+use Rattle.std.proofs.Common.{◌+◌, ◌++◌, map, sym, ap, subst, ◌∙◌}
+use Rattle.asp_checker.specs.Lines.{nogood_of_answer}
 use Rattle.asp_checker.specs.Blocks.{known_with}
 use Rattle.asp_checker.specs.Chasing.{AreTakenBack}
-use Rattle.asp_checker.proofs.ChaseLaws.{trailed_from, root_undone}
+use Rattle.asp_checker.proofs.ChaseLaws.{trailed_from, root_undone, root_stocked}
 use Rattle.asp_checker.proofs.confirm.confirms.Goals as goal
+
+pub confirms_by-requires-clause-root : goal.confirms_by-requires-clause-root
+confirms_by-requires-clause-root c = root_stocked c.args.compiled.now (map (nogood_of_answer c.args.compiled.now) c.args.listed.now ++ c.args.rows.now) c.args.placed.now c.args.bound.now c.args.values.now c.requires.root
 
 pub undo-requires : goal.undo-requires
 undo-requires c =

@@ -2,7 +2,7 @@ use Rattle.std.proofs.Common.{◌≡◌, [], ◌++◌}
 use Rattle.std.specs.List.{AllByRecursion}
 use Rattle.asp_proof.specs.Walk.{front_of, proof_of}
 use Rattle.asp_proof.specs.Reading.{held}
-use Rattle.asp_checker.specs.Lines.{AreOf}
+use Rattle.asp_checker.specs.Lines.{AreOf, stock}
 use Rattle.asp_checker.specs.Blocks.{known_with}
 use Rattle.asp_checker.specs.Chasing.{IsRoot}
 use Rattle.asp_checker.specs.Streams.{IsSoFar}
@@ -11,8 +11,9 @@ use Rattle.asp_checker.proofs.stream.judge_each.Given as goal
 abbrev pub invariant-lines : goal.invariant-lines
 invariant-lines g l = record {
   of : AllByRecursion (AreOf l.compiled) l.rows.items;
+  of_placed : AllByRecursion (AreOf l.compiled) l.placed.items;
   root : IsRoot l.compiled (known_with l.compiled l.listed l.rows.items l.bound) l.values;
-  so_far : IsSoFar l.compiled l.opt l.answers (known_with l.compiled l.listed l.initial.rows.items l.bound) (known_with l.compiled l.listed l.rows.items l.bound) l.whole l.at
+  so_far : IsSoFar l.compiled l.opt l.answers (stock (known_with l.compiled l.listed l.initial.rows.items l.bound) l.initial.placed.items) (stock (known_with l.compiled l.listed l.rows.items l.bound) l.placed.items) l.whole l.at
       (g.S.Source.left l.initial.source) (g.S.Source.left l.source) (front_of (proof_of l.opt l.answers []) ++ held l.initial.reader) l.reader;
   quiet : g.S.Source.faults l.source ≡ g.S.Source.faults l.initial.source;
 }

@@ -1,4 +1,4 @@
-use Rattle.std.proofs.Common.{List, sym, subst}
+use Rattle.std.proofs.Common.{List, sym, subst, arith}
 use Rattle.std.specs.Result.{OnErr}
 use Rattle.asp_vars.specs.Literals.{Literal}
 use Rattle.asp_vars.specs.Numbering.{var_count}
@@ -37,6 +37,9 @@ pay-requires-clause-met g c =
     c.program-program.ensures.sound (g.met.P.Propagator.sound i.state.program i.state.bound) (g.met.P.Propagator.given i.state.program i.state.bound) c.self.invariant.0.useful c.store-store.ensures.implied in
     (q, met_of (g.P.Propagator.gives i.state.program i.state.bound) i.mode i.state i.pace (answers_known i.known.items i.seen) i.last q c.args.id l e c.trail-trail.ensures.ordered c.trail-trail.ensures.begun settled useful (λ n h. g.met.P.Propagator.sound i.state.program i.state.bound n U sound h) x)
 
+pub note_conflict-requires : goal.note_conflict-requires
+note_conflict-requires g c = omega (arith, c.self.invariant.0.counted, c.trail.ensures.vars)
+
 pub make_room-requires : goal.make_room-requires
 make_room-requires g c = record { last = (subst (λ (s : Searching). IsEntered s c.requires.entered.0) (sym c.self.view_is) c.requires.entered.1).last }
 
@@ -55,7 +58,7 @@ returns-in-InCube-clause-ok g c = λ r h.
     let q = c.requires.entered.0 in
     let f = c.args.fuel.now in
     let e = subst (λ (s : Searching). IsEntered s q) (sym c.self.view_is) c.requires.entered.1 in
-    let n = c.in-InCube.field-0 in
+    let n = c.in-InCube.nogood in
     let x = subst (λ (y : Learned). Explains (g.P.Propagator.gives i.state.program i.state.bound) (var_count i.state.program) i.state.slots i.state.entries c.args.id y) c.in-InCube.is c.in_ok-learn.ensures.explains in
     let U = used_up (reasoning_of i.mode) i.state.program (answers_known i.known.items i.seen) in
     let sound : IsSound i.state.program = subst IsSound c.self.invariant.0.program c.program-program.ensures.sound in

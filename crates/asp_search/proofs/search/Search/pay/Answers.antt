@@ -34,6 +34,9 @@ burn-requires-clause-program g c =
     let is = conflict_of (g.P.Propagator.gives i.state.program i.state.bound) i.mode i.state i.pace (answers_known i.known.items i.seen) i.last q c.args.id c.args.lit c.in_ok-conflict.conflict m.entered shows clash in
     is.program ∙ (ap (λ (s : Searching). s.program) c.self.view_is ∙ sym c.requires.program)
 
+pub note_conflict-requires : goal.note_conflict-requires
+note_conflict-requires g c = omega (arith, c.self.invariant.0.counted, c.trail.ensures.vars)
+
 pub jump-requires-clause-vars : goal.jump-requires-clause-vars
 jump-requires-clause-vars g c = c.self.invariant.0.counted
 

@@ -1,0 +1,19 @@
+use Rattle.std.proofs.Common.{arith}
+use Rattle.std.proofs.Common.{◌≡◌, subst}
+use Rattle.std.specs.Prelude.{flat_map}
+use Rattle.asp_proof.specs.Texts.{natural_field}
+use Rattle.asp_proof.specs.Fields.{IsCount, IsAt, AreSo}
+use Rattle.asp_proof.proofs.FieldLaws.{clear_count, more_fields, no_field, no_fields_yet}
+use Rattle.asp_proof.proofs.fields.each_place.Goals as goal
+
+pub loop-init : goal.loop-init
+loop-init c = rw c.in_ok-found.ensures.items (no_fields_yet IsCount natural_field c.args.line.now c.requires)
+
+pub returns-in_default : goal.returns-in_default
+returns-in_default c = no_field IsCount natural_field c.args.line.now c.loop.rest.now c.loop.counter c.args.count c.loop.found.items clear_count c.loop.invariant c.loop-test.true c.in_default.ensures
+
+pub loop-preserved : goal.loop-preserved
+loop-preserved c = rw c.in_ok-push.ensures.items (more_fields IsCount natural_field c.args.line.now c.loop.rest.now c.in-Some.after.now c.loop.counter c.loop.found.items c.in-Some.place c.loop.invariant c.in-Some.ensures)
+
+pub returns : goal.returns
+returns c = let e : c.loop.counter ≡ c.args.count = omega arith in subst (λ k. IsAt (AreSo IsCount k) (flat_map natural_field) c.args.line.now c.loop.found.items c.loop.rest.now) e c.loop.invariant

@@ -1,0 +1,146 @@
+//! By which kept nogoods a step found something, where a proof is wanted. It is advice for whoever checks the proof: no clause
+//! says it, and out of memory less of it is noted.
+ghost use Rattle.std.specs.Prelude.{◌≤◌};
+
+use asp_analyze::learn::Learner;
+use asp_analyze::steps::{Step, add_trail, sort};
+use asp_store::store::Store;
+use asp_trail::reasons::NogoodId;
+use asp_trail::trail::Trail;
+use asp_vars::lit::Lit;
+use std::alloc::{AllocError, Global};
+
+/// What is noted of a step.
+#[derive(Drop)]
+pub struct Uses {
+    // whether anything is noted
+    is_noted: bool,
+    // what noting takes memory for
+    steps: Vec<Step>,
+    // the nogoods by which the step found something, in the order in which they said something
+    numbers: Vec<NogoodId>,
+    // the nogoods that propagators gave in the step, and how many they had given before
+    given: Vec<NogoodId>,
+    given_before: usize,
+    // whether the step closed the path by a nogood, and that nogood
+    is_closing: bool,
+    closing: Vec<Lit>,
+}
+
+impl Uses {
+    /// Nothing, and nothing is to be noted.
+    pub(crate) fn new(alloc: Global) -> Uses {
+        Uses {
+            is_noted: false,
+            steps: Vec::new(alloc),
+            numbers: Vec::new(alloc),
+            given: Vec::new(alloc),
+            given_before: 0,
+            is_closing: false,
+            closing: Vec::new(alloc),
+        }
+    }
+
+    /// From now on something is noted.
+    pub(crate) fn begin(&mut self) {
+        self.is_noted = true;
+    }
+
+    /// A step begins, with this store.
+    pub(crate) fn clear(&mut self, store: &Store) {
+        self.given.clear();
+        self.given_before = store.given().len();
+        self.steps.clear();
+        self.numbers.clear();
+        self.is_closing = false;
+        self.closing.clear();
+    }
+
+    // Adds the numbers of the steps.
+    fn add_steps(&mut self) -> Result<(), AllocError> {
+        for step in &self.steps {
+            self.numbers.push(step.id)?;
+        }
+        Ok(())
+    }
+
+    // Adds what the last conflict was resolved with, and last the nogood that was violated.
+    fn add_conflict(
+        &mut self,
+        learner: &Learner,
+        trail: &Trail,
+        id: NogoodId,
+    ) -> Result<(), AllocError>
+        requires { learner.now ≤ trail.now.vars }
+    {
+        learner.add_resolved(&mut self.steps, trail)?;
+        sort(&mut self.steps);
+        self.add_steps()?;
+        self.numbers.push(id)?;
+        Ok(())
+    }
+
+    // Adds by what all entries were implied.
+    fn add_entries(&mut self, trail: &Trail) -> Result<(), AllocError> {
+        add_trail(&mut self.steps, trail)?;
+        self.add_steps()
+    }
+
+    // Adds what propagators gave.
+    fn add_given(&mut self, store: &Store) -> Result<(), AllocError> {
+        let given = store.given();
+        for place in self.given_before..given.len() {
+            self.given.push(given[place] as usize)?;
+        }
+        Ok(())
+    }
+
+    /// Notes what propagators gave in the step so far.
+    pub(crate) fn note_given(&mut self, store: &Store) {
+        if self.is_noted {
+            let _ = self.add_given(store);
+        }
+    }
+
+    /// Notes what the last conflict was resolved with, and the nogood that was violated.
+    pub(crate) fn note_conflict(&mut self, learner: &Learner, trail: &Trail, id: NogoodId)
+        requires { learner.now ≤ trail.now.vars }
+    {
+        if self.is_noted {
+            let _ = self.add_conflict(learner, trail, id);
+        }
+    }
+
+    /// Notes by what an answer's values were implied.
+    pub(crate) fn note_answer(&mut self, trail: &Trail) {
+        if self.is_noted {
+            let _ = self.add_entries(trail);
+        }
+    }
+
+    /// Notes the nogood by which the path is closed.
+    pub(crate) fn note_closing(&mut self, lits: &[Lit]) {
+        if self.is_noted {
+            self.is_closing = self.closing.extend_from_slice(lits).is_ok();
+        }
+    }
+
+    /// The nogoods by which the step found something.
+    pub(crate) fn numbers(&self) -> &[NogoodId] {
+        self.numbers.as_slice()
+    }
+
+    /// The nogoods that propagators gave in the step.
+    pub(crate) fn given(&self) -> &[NogoodId] {
+        self.given.as_slice()
+    }
+
+    /// The nogood by which the step closed the path, if it did.
+    pub(crate) fn closing(&self) -> Option<&[Lit]> {
+        if self.is_closing {
+            Some(self.closing.as_slice())
+        } else {
+            None
+        }
+    }
+}
