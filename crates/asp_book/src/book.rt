@@ -109,6 +109,14 @@ impl Book {
         self.journal.as_slice()
     }
 
+    /// The board.
+    pub fn state(&self) -> &State
+        ensures { result.now ≡ board self.now }
+    {
+        let _journal = &self.journal;
+        &self.state
+    }
+
     // A leaf that is open is held from now on.
     fn hold(&mut self, by: u32, leaf: Leaf) -> Result<(), AllocError>
         requires { Guard (board self.old) (event.Take by leaf) }

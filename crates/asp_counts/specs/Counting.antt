@@ -19,7 +19,7 @@ one_more Decided c = record c { decisions = capped (c.decisions + 1) }
 one_more Learnt c = record c { conflicts = capped (c.conflicts + 1) }
 one_more Restarted c = record c { restarts = capped (c.restarts + 1) }
 one_more (Answer set) c = record c { answers = capped (c.answers + 1) }
-one_more Closed c = c
+one_more (Closed n) c = c
 one_more (NoFuel unpaid) c = c
 
 -- so many literals more were implied

@@ -48,7 +48,7 @@ impl Counts {
             Step::Learnt => self.conflicts = self.conflicts.saturating_add(1),
             Step::Restarted => self.restarts = self.restarts.saturating_add(1),
             Step::Answer(_) => self.answers = self.answers.saturating_add(1),
-            Step::Closed | Step::NoFuel(_) => {}
+            Step::Closed(_) | Step::NoFuel(_) => {}
         }
         self.propagated = self.propagated.saturating_add(implied);
         self.keep(kept);

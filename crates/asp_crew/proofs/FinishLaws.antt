@@ -1,13 +1,15 @@
 -- One leaf after another, and what is left when number 0 has given its units back.
-use Rattle.std.proofs.Common.{◌≡◌, ◌⊎◌, ℕ, ◌+◌, ◌-◌, ◌^◌, ◌<◌, min, Bool, true, false, cond, ◌||◌, eqb, is_some, List, [], ◌∷◌, length, Option, Some, None, refl, sym, ap, ◌∙◌, subst, inl, inr, arith}
+use Rattle.std.proofs.Common.{◌≡◌, ◌⊎◌, ℕ, ◌+◌, ◌-◌, ◌^◌, ◌<◌, min, Bool, true, false, cond, ◌||◌, eqb, List, [], ◌∷◌, length, Option, Some, None, refl, sym, ap, ◌∙◌, subst, inl, inr, arith}
 use Rattle.std.specs.List.{AllByRecursion}
 use Rattle.std.specs.Prelude.{ℤ, slice_get}
 use Rattle.std.specs.Option.{IfSome}
 use Rattle.std.proofs.lemmas.Bool.{false≢true, eqb-true, cases_eq}
 use Rattle.asp_model.specs.declared.results.Mode.{Mode}
 use Rattle.asp_model.specs.Sets.{Atoms}
+use Rattle.asp_vars.specs.Conflicts.{has_all}
 use Rattle.asp_vars.specs.Literals.{Literal}
 use Rattle.asp_vars.specs.Paid.{Clash, Units}
+use Rattle.asp_vars.specs.declared.nogood.Nogood.{Nogood}
 use Rattle.asp_path.specs.declared.status.Status.{Status}
 use Rattle.asp_path.specs.declared.status.Status.TheVariants as status
 use Rattle.asp_path.specs.Trees.{Node, all_closed, is_leaf, is_held, is_open, cube_of, status_of, with_status, open_from, held_count}
@@ -26,9 +28,10 @@ use Rattle.asp_search_laws.specs.Searching.{Searching}
 use Rattle.asp_crew_laws.specs.Reports.{IsIdle, IsMet, IsWorkedOff}
 use Rattle.asp_crew_laws.specs.Working.{IsAtWork, MayBegin}
 use Rattle.asp_crew_laws.proofs.WorkLaws.{sought-begins, out_of-leased}
-use Rattle.asp_crew.specs.Running.{HasNoQuery, IsReady, Adds, OnlyRecords, status_after, Ends, LeavesLeaf, IsAlone, IsThrough, LeavesAll}
+use Rattle.asp_crew.specs.declared.leaf.Left.TheVariants as left
+use Rattle.asp_crew.specs.Running.{QueryStands, IsReady, Adds, OnlyRecords, status_after, Ends, LeavesLeaf, IsAlone, IsThrough, LeavesAll}
 use Rattle.asp_crew.proofs.AddLaws.{adds-self, adds-events, adds-trans}
-use Rattle.asp_crew.proofs.BookLaws.{board-task, board-with, ready-with, cube-within}
+use Rattle.asp_crew.proofs.BookLaws.{board-task, board-with, ready-with}
 use Rattle.asp_crew.proofs.TreeLaws.{open-changed, taken-open, status-set, cube-set, held_by-le, closed-when}
 
 -- ---- one leaf
@@ -36,26 +39,31 @@ held-leaf : (nodes : List Node) (leaf : ℕ) → status_of nodes leaf ≡ status
 held-leaf nodes leaf held = ap is_leaf held
 
 -- from v to w the path was searched, and then the leaf was closed
-leaves-closed : (mode : Mode) (v w y : Booked) (leaf : ℕ) (q : List Literal) (s t : Searching) (g : Units) → Ends mode v w s t g None → is_enough (board w) ≡ false → Guard (board w) (event.Close 0 leaf q) → y ≡ with_events w (event.Close 0 leaf q ∷ [])
+leaves-closed : (mode : Mode) (v w y : Booked) (leaf : ℕ) (n : Nogood) (s t : Searching) (g : Units) → Ends mode v w s t g (left.Closed n) → is_enough (board w) ≡ false → Guard (board w) (event.Close 0 leaf n.lits) → y ≡ with_events w (event.Close 0 leaf n.lits ∷ [])
     → LeavesLeaf mode v y leaf t g None
-leaves-closed mode v w y leaf q s t g ends more guard now =
-    let b : board y ≡ happens (board w) (event.Close 0 leaf q) = ap board now ∙ board-with w (event.Close 0 leaf q) in
+leaves-closed mode v w y leaf n s t g ends more guard now =
+    let b : board y ≡ happens (board w) (event.Close 0 leaf n.lits) = ap board now ∙ board-with w (event.Close 0 leaf n.lits) in
     record {
-      ready = ready-with mode w y t g (event.Close 0 leaf q) ends.ready guard refl now;
+      ready = ready-with mode w y t g (event.Close 0 leaf n.lits) ends.ready guard refl now;
       task = ap (λ (x : Booked). x.task) now ∙ ends.only.task;
-      adds = adds-trans v w y ends.only.adds (adds-events w y (event.Close 0 leaf q ∷ []) now (refl, tt));
+      adds = adds-trans v w y ends.only.adds (adds-events w y (event.Close 0 leaf n.lits ∷ []) now (refl, tt));
       nodes =
-          ap (λ (c : Board). c.nodes) b ∙ ap (λ (n : List Node). with_status n leaf status.Closed) ends.only.nodes
+          ap (λ (c : Board). c.nodes) b ∙ ap (λ (xs : List Node). with_status xs leaf status.Closed) ends.only.nodes
           ∙ ap (λ x. with_status (board v).nodes leaf (status_after None x)) (sym (ap is_enough b ∙ more));
       out = ap (λ (c : Board). c.out) b ∙ ends.only.out;
       pool = ap (λ (c : Board). c.pool) b ∙ ends.only.pool;
       stopped = tt;
     }
 
-pub closes : (mode : Mode) (v w y : Booked) (leaf : ℕ) (q : List Literal) (s t : Searching) (g : Units) → Ends mode v w s t g None → is_enough (board w) ≡ false → status_of (board v).nodes leaf ≡ status.Held 0 → q ≡ cube_of (board v).nodes leaf → s.cube ≡ Some q
-    → y ≡ with_events w (event.Close 0 leaf q ∷ []) → LeavesLeaf mode v y leaf t g None
-closes mode v w y leaf q s t g ends more held is entered now =
-    leaves-closed mode v w y leaf q s t g ends more (ap (λ (n : List Node). status_of n leaf) ends.only.nodes ∙ held, cube-within v w leaf q ends.only.nodes is, ends.over more q entered) now
+-- the path is the leaf's still, and has the nogood's literals
+pub closing-within : (mode : Mode) (v w : Booked) (leaf : ℕ) (q : List Literal) (n : Nogood) (s t : Searching) (g : Units) → Ends mode v w s t g (left.Closed n) → q ≡ cube_of (board v).nodes leaf → s.cube ≡ Some q → IsTrue (has_all (cube_of (board w).nodes leaf) n.lits)
+closing-within mode v w leaf q n s t g ends is entered =
+    ap (λ (xs : List Node). has_all (cube_of xs leaf) n.lits) ends.only.nodes ∙ (ap (λ (k : List Literal). has_all k n.lits) (sym is) ∙ (ends.over.1 q entered).0)
+
+pub closes : (mode : Mode) (v w y : Booked) (leaf : ℕ) (q : List Literal) (n : Nogood) (s t : Searching) (g : Units) → Ends mode v w s t g (left.Closed n) → status_of (board v).nodes leaf ≡ status.Held 0 → q ≡ cube_of (board v).nodes leaf → s.cube ≡ Some q
+    → y ≡ with_events w (event.Close 0 leaf n.lits ∷ []) → LeavesLeaf mode v y leaf t g None
+closes mode v w y leaf q n s t g ends held is entered now =
+    leaves-closed mode v w y leaf n s t g ends ends.over.0 (ap (λ (xs : List Node). status_of xs leaf) ends.only.nodes ∙ held, closing-within mode v w leaf q n s t g ends is entered, (ends.over.1 q entered).1) now
 
 -- or it was opened again
 module _ (mode : Mode) (v w y : Booked) (leaf : ℕ) (q : List Literal) (s t : Searching) (g : Units) (held : status_of (board v).nodes leaf ≡ status.Held 0) (cube : q ≡ cube_of (board v).nodes leaf) (entered : s.cube ≡ Some q)
@@ -69,19 +77,21 @@ module _ (mode : Mode) (v w y : Booked) (leaf : ℕ) (q : List Literal) (s t : S
   opened : (board y).nodes ≡ with_status (board w).nodes leaf status.Open
   opened = ap (λ (c : Board). c.nodes) released
 
-  pub leaves-open : (o : Option Clash) → Ends mode v w s t g o → (is_some o || is_enough (board w)) ≡ true → LeavesLeaf mode v y leaf t g o
-  leaves-open None ends enough = record {
+  pub opens-enough : Ends mode v w s t g left.Enough → LeavesLeaf mode v y leaf t g None
+  opens-enough ends = record {
     ready = ready-with mode w y t g (event.Release 0 leaf) ends.ready (still ends.only) refl now;
     task = ap (λ (z : Booked). z.task) now ∙ ends.only.task;
     adds = adds-trans v w y ends.only.adds (adds-events w y (event.Release 0 leaf ∷ []) now (refl, tt));
     nodes =
         opened ∙ ap (λ (n : List Node). with_status n leaf status.Open) ends.only.nodes
-        ∙ ap (λ x. with_status (board v).nodes leaf (status_after None x)) (sym (ap is_enough released ∙ enough));
+        ∙ ap (λ x. with_status (board v).nodes leaf (status_after None x)) (sym (ap is_enough released ∙ ends.over));
     out = ap (λ (c : Board). c.out) released ∙ ends.only.out;
     pool = ap (λ (c : Board). c.pool) released ∙ ends.only.pool;
     stopped = tt;
   }
-  leaves-open (Some x) ends some =
+
+  pub opens-unpaid : (x : Clash) → Ends mode v w s t g (left.Unpaid x) → LeavesLeaf mode v y leaf t g (Some x)
+  opens-unpaid x ends =
       let held_now = held-leaf (board w).nodes leaf (still ends.only) in
       let is_q : x.cube ≡ q = (let f : Some x.cube ≡ Some q = sym ends.over.2 ∙ entered in let g : x.cube ≡ q = cc in g) in
       record {
@@ -101,10 +111,6 @@ module _ (mode : Mode) (v w y : Booked) (leaf : ℕ) (q : List Literal) (s t : S
           },
         );
       }
-
-pub is-none : (o : Option Clash) → is_some o ≡ false → o ≡ None
-is-none None h = refl
-is-none (Some x) h = absurd (false≢true (sym h))
 
 -- ---- all leaves
 -- what holds between two leaves, from v on
@@ -275,7 +281,7 @@ leased-works mode bound v w f may is units =
     subst (λ (u : Units). IsAtWork (board w) 0 mode [] bound u) (sym units) (sought-begins (board w) 0 mode bound (all_of (board v)) (subst (λ (t : Task). MayBegin mode bound t.goal) (sym now) may) back)
 
 -- the search begins with them
-pub ready-begins : (mode : Mode) (bound : Option (List ℤ)) (w : Booked) (s : Searching) (f : Units) → HasNoQuery w.task → IsAtWork (board w) 0 mode [] bound f → s.program ≡ w.task.program → s.mode ≡ mode → s.known ≡ [] → s.bound ≡ bound → IsReady mode w s f
+pub ready-begins : (mode : Mode) (bound : Option (List ℤ)) (w : Booked) (s : Searching) (f : Units) → QueryStands w.task → IsAtWork (board w) 0 mode [] bound f → s.program ≡ w.task.program → s.mode ≡ mode → s.known ≡ [] → s.bound ≡ bound → IsReady mode w s f
 ready-begins mode bound w s f run work program mode_is known under = record {
   task = run;
   program = program;

@@ -10,3 +10,4 @@ pub mod FinishLaws
 pub mod ReportLaws
 pub mod ProofLaws
 pub mod TieLaws
+pub mod CoreLaws

@@ -3,7 +3,6 @@ use Rattle.std.proofs.Common.{◌≡◌, ℕ, ◌+◌, ◌-◌, ◌^◌, ◌<◌
 use Rattle.std.specs.Prelude.{ℤ, IsTrue, not}
 use Rattle.std.specs.Option.{IsSome}
 use Rattle.std.specs.List.{list_any}
-use Rattle.std.proofs.lemmas.Bool.{false≢true}
 use Rattle.std.proofs.lemmas.List.Sums.{length-filter, count_by-le-length}
 use Rattle.asp_model.specs.declared.program.Program.{Program}
 use Rattle.asp_model.specs.declared.results.Mode.{Mode}
@@ -38,9 +37,10 @@ use Rattle.asp_crew_laws.proofs.AgreeLaws.{settled-excused}
 use Rattle.asp_crew_laws.proofs.WorkLaws.{may-list, may-optimise, may-tell, sought-is, work-burnt, work-delivered, work-improved, work-met, work-told, work-unimproved}
 use Rattle.asp_crew.specs.declared.leaf.Course.{Course}
 use Rattle.asp_crew.specs.declared.leaf.Course.TheVariants.{Open, Closed, Unpaid}
-use Rattle.asp_crew.specs.Running.{unfound, work, work_left, HasNoQuery, IsReady, IsEntered, IsUnderway, MayRecord, OnlyRecords, IsRecorded, Goes, Ends}
+use Rattle.asp_crew.specs.declared.leaf.Left.TheVariants as left
+use Rattle.asp_crew.specs.Running.{unfound, work, work_left, QueryStands, IsReady, IsEntered, IsUnderway, MayRecord, OnlyRecords, IsRecorded, Goes, Ends}
 use Rattle.asp_crew.proofs.AddLaws.{adds-self, adds-trans}
-use Rattle.asp_crew.proofs.BookLaws.{board-task, query-none}
+use Rattle.asp_crew.proofs.BookLaws.{board-task}
 use Rattle.asp_crew.proofs.BoundLaws.{fewer-lower, fewer-push, fewer-told}
 use Rattle.asp_crew.proofs.WorkLaws.{work-paid, work-found, work-restarted, work-decided}
 
@@ -141,18 +141,24 @@ module _ (gives : Nogood → Type 0) (silent : List (Option Bool) → Type 0) (m
             (unfound-le s.program (used s) s.bound) small);
       })
 
-  pub closed : r ≡ step.Closed → Goes mode v v s t f g Closed
-  closed e =
-      let d = at gives silent s t f g r step.Closed e h path.0 path.1 in
-      subst (λ (u : Units). Goes mode v v s t f u Closed) (sym d.fuel) (record {
+  pub closed : is_enough (board v) ≡ false → (n : Nogood) → r ≡ step.Closed n → Goes mode v v s t f g (Closed n)
+  closed more n e =
+      let d = at gives silent s t f g r (step.Closed n) e h path.0 path.1 in
+      subst (λ (u : Units). Goes mode v v s t f u (Closed n)) (sym d.fuel) (record {
         underway = underway-same mode v s t f f is d.same (subst (λ k. k < 2 ^ 64) (sym d.learnt) is.learnt) is.ready.work;
         only = unchanged v;
         cube = d.same.cube;
         shown = λ e. inl d.same.known;
-        course = λ q entered.
-            settled-excused (board v) s.known s.bound q is.ready.work.agrees
-            (subst (λ (p : Program). Settled p (used_up (sought (board v).task.goal) p s.known) s.bound q) (program-is mode v s f is.ready)
-            (subst (λ (k : Option Reasoning). Settled s.program (used_up k s.program s.known) s.bound q) (sym (seeks mode v s f is.ready)) (at gives silent s t f g r step.Closed e h q entered).settled));
+        course = (
+          more,
+          λ q entered.
+              let own = at gives silent s t f g r (step.Closed n) e h q entered in (
+                own.within,
+                settled-excused (board v) s.known s.bound n.lits is.ready.work.agrees
+                    (subst (λ (p : Program). Settled p (used_up (sought (board v).task.goal) p s.known) s.bound n.lits) (program-is mode v s f is.ready)
+                    (subst (λ (k : Option Reasoning). Settled s.program (used_up k s.program s.known) s.bound n.lits) (sym (seeks mode v s f is.ready)) own.settled)),
+              ),
+        );
       })
 
   pub unpaid : is_enough (board v) ≡ false → (x : Clash) → r ≡ step.NoFuel x → Goes mode v v s t f g (Unpaid x)
@@ -178,7 +184,7 @@ module _ (gives : Nogood → Type 0) (silent : List (Option Bool) → Type 0) (m
   pub is-answer : (S : Atoms) → r ≡ step.Answer S → IsTrue (is_answer v.task S)
   is-answer S e =
       let d = at gives silent s t f g r (step.Answer S) e h path.0 path.1 in
-      answer-in_cube v.task path.0 S (wanted-stand v.task (query-none v.task is.ready.task)) path.2
+      answer-in_cube v.task path.0 S (wanted-stand v.task is.ready.task) path.2
       (subst (λ (q : Program). IsTrue (is_stable q S)) is.ready.program d.stable) (subst (λ (q : Program). IsTrue (hits (values q S) path.0)) is.ready.program d.hit)
 
 -- It costs less than the bound, if there is one.
@@ -254,7 +260,7 @@ answered gives silent mode v w s t f g is r h S e only done =
     subst (λ (u : Units). IsAnswered mode v w s t f u) (sym d.fuel) (record {
       underway = record {
         ready = record {
-          task = subst HasNoQuery (sym only.task) is.ready.task;
+          task = subst QueryStands (sym only.task) is.ready.task;
           program = d.program ∙ is.ready.program ∙ ap (λ (x : Task). x.program) (sym only.task);
           mode_is = d.mode ∙ is.ready.mode_is;
           work = work-recorded mode (board v) (board w) s t path.0 f S (program-is mode v s f is.ready) is.ready.work new records done;
@@ -294,18 +300,18 @@ only-further u v w a b = record { task = b.task ∙ a.task; adds = adds-trans u 
 pub along-on : (mode : Mode) (u v w : Booked) (r s t : Searching) (f g : Units) (how : Course) → IsAlong mode u v r s f → Goes mode v w s t f g how → IsAlong mode u w r t g
 along-on mode u v w r s t f g how a go = record { underway = go.underway; only = only-further u v w a.only go.only; cube = go.cube ∙ a.cube }
 
-pub along-closed : (mode : Mode) (u v w : Booked) (r s t : Searching) (f g : Units) → IsAlong mode u v r s f → Goes mode v w s t f g Closed → Ends mode u w r t g None
-along-closed mode u v w r s t f g a go =
-    let b = along-on mode u v w r s t f g Closed a go in
-    record { ready = b.underway.ready; only = b.only; over = λ more q e. go.course q (a.cube ∙ e) }
+pub along-closed : (mode : Mode) (u v w : Booked) (r s t : Searching) (f g : Units) (n : Nogood) → IsAlong mode u v r s f → Goes mode v w s t f g (Closed n) → Ends mode u w r t g (left.Closed n)
+along-closed mode u v w r s t f g n a go =
+    let b = along-on mode u v w r s t f g (Closed n) a go in
+    record { ready = b.underway.ready; only = b.only; over = (go.course.0, λ q e. go.course.1 q (a.cube ∙ e)) }
 
-pub along-stopped : (mode : Mode) (u v w : Booked) (r s t : Searching) (f g : Units) (x : Clash) → IsAlong mode u v r s f → Goes mode v w s t f g (Unpaid x) → Ends mode u w r t g (Some x)
+pub along-stopped : (mode : Mode) (u v w : Booked) (r s t : Searching) (f g : Units) (x : Clash) → IsAlong mode u v r s f → Goes mode v w s t f g (Unpaid x) → Ends mode u w r t g (left.Unpaid x)
 along-stopped mode u v w r s t f g x a go =
     let b = along-on mode u v w r s t f g (Unpaid x) a go in
     record { ready = b.underway.ready; only = b.only; over = (go.course.0, go.course.1, (sym a.cube ∙ go.course.2), go.course.3) }
 
-pub along-enough : (mode : Mode) (u w : Booked) (r t : Searching) (g : Units) → IsAlong mode u w r t g → is_enough (board w) ≡ true → Ends mode u w r t g None
-along-enough mode u w r t g a enough = record { ready = a.underway.ready; only = a.only; over = λ more. absurd (false≢true (sym more ∙ enough)) }
+pub along-enough : (mode : Mode) (u w : Booked) (r t : Searching) (g : Units) → IsAlong mode u w r t g → is_enough (board w) ≡ true → Ends mode u w r t g left.Enough
+along-enough mode u w r t g a enough = record { ready = a.underway.ready; only = a.only; over = enough }
 
 -- ---- the path begins
 pub cube-entered : (s t : Searching) (q : List Literal) → Enters s t q → t.cube ≡ Some q

@@ -29,7 +29,7 @@ use Rattle.asp_crew_laws.proofs.FoundLaws.{answers-same}
 use Rattle.asp_crew_laws.proofs.PlayedLaws.{told-budget}
 use Rattle.asp_crew_laws.proofs.TieLaws.{best-listed}
 use Rattle.asp_crew_laws.proofs.TwiceLaws.{ties-report}
-use Rattle.asp_crew.specs.Running.{HasNoQuery}
+use Rattle.asp_crew.specs.Running.{QueryStands}
 use Rattle.asp_crew.specs.Twice.{IsSearched, IsSecond}
 
 -- ---- the book of the second search
@@ -57,8 +57,8 @@ pub opened-idle : (t : Task) (v w : Booked) (S : Atoms) (r : Bool) → v ≡ rec
 opened-idle t v w S true e now = subst (λ (z : Booked). IsIdle (board z)) (sym (now ∙ ap (λ (x : Booked). with_events x (event.Deliver 0 S ∷ [])) e)) (record { free = refl; home = λ s. refl })
 opened-idle t v w S false e now = subst (λ (z : Booked). IsIdle (board z)) (sym (now ∙ e)) (record { free = refl; home = λ s. refl })
 
-pub ties-query : (p : Program) (ask : Ask) (c : List ℤ) (budget : ℕ) (t : Task) → t ≡ ties_of p ask c budget → HasNoQuery t
-ties-query p ask c budget t e = subst HasNoQuery (sym e) refl
+pub ties-query : (p : Program) (ask : Ask) (c : List ℤ) (budget : ℕ) (t : Task) → t ≡ ties_of p ask c budget → QueryStands t
+ties-query p ask c budget t e = subst QueryStands (sym e) tt
 
 pub ties-may : (p : Program) (ask : Ask) (c : List ℤ) (budget : ℕ) (t : Task) (o : Option (List ℤ)) → t ≡ ties_of p ask c budget → o ≡ just_above c → MayBegin Enum o t.goal
 ties-may p ask c budget t o e above = inr (refl, ap (λ (x : Task). x.goal) e ∙ ap (λ (d : Option (List ℤ)). let g : Goal = goal.Ties d in g) (sym above))

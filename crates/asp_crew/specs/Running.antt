@@ -9,6 +9,7 @@ use Rattle.asp_model.specs.declared.results.Ask.{Ask}
 use Rattle.asp_model.specs.Sets.{Atoms}
 use Rattle.asp_model.specs.Models.{models}
 use Rattle.asp_model.specs.Costs.{cost, betters}
+use Rattle.asp_vars.specs.Conflicts.{has_all}
 use Rattle.asp_vars.specs.Entailment.{is_done, HitsOnly}
 use Rattle.asp_vars.specs.Literals.{Literal}
 use Rattle.asp_vars.specs.Numbering.{var_count}
@@ -21,7 +22,7 @@ use Rattle.asp_core.specs.declared.event.Event.{Event}
 use Rattle.asp_core.specs.declared.event.Event.TheVariants as event
 use Rattle.asp_core.specs.declared.task.Task.{Task}
 use Rattle.asp_core.specs.Units.{out_of}
-use Rattle.asp_core.specs.Boards.{Board, is_enough, is_excused, known_of, lists, optimises}
+use Rattle.asp_core.specs.Boards.{Board, IsQuery, is_enough, is_excused, known_of, lists, optimises}
 use Rattle.asp_core.specs.Events.{Guard, happens, maker}
 use Rattle.asp_core.specs.Invariant.{IsCube}
 use Rattle.asp_book.specs.Books.{Booked, board}
@@ -32,6 +33,8 @@ use Rattle.asp_crew_laws.specs.Reports.{IsIdle, IsMet, IsUnpaidAt, IsWorkedOff}
 use Rattle.asp_crew_laws.specs.Working.{IsAtWork}
 use Rattle.asp_crew.specs.declared.leaf.Course.{Course}
 use Rattle.asp_crew.specs.declared.leaf.Course.TheVariants.{Open, Closed, Unpaid}
+use Rattle.asp_crew.specs.declared.leaf.Left.{Left}
+use Rattle.asp_crew.specs.declared.leaf.Left.TheVariants as left
 
 -- how many stable models are neither used up nor too dear
 abbrev pub unfound : Program → List Atoms → Option (List ℤ) → ℕ
@@ -49,13 +52,13 @@ work_left s f = work f.left (length (models s.program)) (unfound s.program (used
 abbrev pub IsRunFor : Ask → Task → Type 0
 IsRunFor ask t = t ≡ task_of t.program ask t.budget
 
--- Every answer of the program is an answer of the task.
-abbrev pub HasNoQuery : Task → Type 0
-HasNoQuery t = t.query ≡ []
+-- The query's atoms stand in the program.
+abbrev pub QueryStands : Task → Type 0
+QueryStands t = IsQuery t.program t.query
 
 -- Number 0's search and its units go with the book's board.
 pub record IsReady (mode : Mode) (v : Booked) (s : Searching) (f : Units) : Type 0 where
-  pub task : HasNoQuery v.task
+  pub task : QueryStands v.task
   pub program : s.program ≡ v.task.program
   pub mode_is : s.mode ≡ mode
   pub work : IsAtWork (board v) 0 mode s.known s.bound f
@@ -130,9 +133,9 @@ ShowsAll None s = Unit {0}
 ShowsAll (Some k) s = is_fewer (count_unshown k.reasoning k.program k.sets) (left_to_show s) ≡ false
 
 -- ---- one step
--- Each stable model below the path is excused.
-abbrev pub IsSettled : Board → Searching → Type 0
-IsSettled b s = (q : List Literal) → s.cube ≡ Some q → HitsOnly b.task.program (is_excused b) q
+-- The path has all of these literals, and each stable model that has them is excused.
+abbrev pub IsClosing : Board → Searching → List Literal → Type 0
+IsClosing b s n = (q : List Literal) → s.cube ≡ Some q → IsTrue (has_all q n) × HitsOnly b.task.program (is_excused b) n
 
 -- A conflict was met below the path when no unit was left, and more answers are wanted.
 abbrev pub IsStopped : Board → Searching → Units → Clash → Type 0
@@ -141,7 +144,7 @@ IsStopped b s f x = (is_enough b ≡ false) × (f.left ≡ 0) × (s.cube ≡ Som
 -- what is known of the way in which a step left the path
 abbrev pub IsCourse : Board → Searching → Searching → Units → Units → Course → Type 0
 IsCourse b s t f g Open = work_left t g < work_left s f
-IsCourse b s t f g Closed = IsSettled b s
+IsCourse b s t f g (Closed n) = (is_enough b ≡ false) × IsClosing b s n.lits
 IsCourse b s t f g (Unpaid x) = IsStopped b s g x
 
 -- one step on a path
@@ -154,14 +157,15 @@ pub record Goes (mode : Mode) (v w : Booked) (s t : Searching) (f g : Units) (ho
   pub shown : left_to_show s ≡ None → (t.known ≡ s.known) ⊎ ShowsAll (known_of (board w)) t
 
 -- how the steps on a path ended
-abbrev pub IsOver : Board → Searching → Units → Option Clash → Type 0
-IsOver b s f None = (is_enough b ≡ false) → IsSettled b s
-IsOver b s f (Some x) = IsStopped b s f x
+abbrev pub IsOver : Board → Searching → Units → Left → Type 0
+IsOver b s f left.Enough = is_enough b ≡ true
+IsOver b s f (left.Closed n) = (is_enough b ≡ false) × IsClosing b s n.lits
+IsOver b s f (left.Unpaid x) = IsStopped b s f x
 
-pub record Ends (mode : Mode) (v w : Booked) (s t : Searching) (g : Units) (unpaid : Option Clash) : Type 0 where
+pub record Ends (mode : Mode) (v w : Booked) (s t : Searching) (g : Units) (how : Left) : Type 0 where
   pub ready : IsReady mode w t g
   pub only : OnlyRecords v w
-  pub over : IsOver (board w) s g unpaid
+  pub over : IsOver (board w) s g how
 
 -- what a leaf is when it was worked on: open again where it was enough, or a conflict was met when no unit was left
 abbrev pub status_after : Option Clash → Bool → Status

@@ -4,6 +4,7 @@ ghost use Rattle.asp_model.specs.Asked.{reasoning_of};
 ghost use Rattle.asp_crew_laws.specs.Reports.{IsReport};
 ghost use Rattle.asp_crew_laws.specs.Runs.{asks};
 ghost use Rattle.asp_crew_laws.specs.Proofs.{HasProof};
+ghost use Rattle.asp_crew.specs.Refuting.{HasCore};
 
 use crate::finish::finish_program;
 use crate::proofs::with_proof;
@@ -36,6 +37,7 @@ fn first<W: Watch>(
     ensures log { IfOk result (λ r. r.log ≡ 0) }
     ensures short { IfOk result (λ r. r.short ≡ false) }
     ensures proof { IfOk result (λ r. r.proof ≡ None) }
+    ensures core { IfOk result (HasCore compiled.now) }
     ensures heard { W.IsAfter watch.old watch.new }
 {
     let state = State::start(
@@ -50,7 +52,7 @@ fn first<W: Watch>(
     match finish_program(
         alloc, compiled, ask.mode, None, &mut book, counts, watch, recorder,
     ) {
-        Ok(unpaid) => Ok(reported(ask, book, unpaid, 0, false)),
+        Ok(unpaid) => reported(alloc, compiled, ask, book, unpaid, 0, false),
         Err(error) => {
             mem::drop(book);
             Err(error)
@@ -71,6 +73,7 @@ fn solve<W: Watch>(
     ensures log { IfOk result (λ r. r.log ≡ 0) }
     ensures short { IfOk result (λ r. r.short ≡ false) }
     ensures proof { IfOk result (λ r. r.proof ≡ None) }
+    ensures core { IfOk result (HasCore compiled.now) }
     ensures heard { W.IsAfter watch.old watch.new }
 {
     let report = first(alloc, compiled, ask, budget, counts, watch, None)?;
@@ -91,6 +94,7 @@ fn solve_recorded<W: Watch>(
     ensures log { IfOk result (λ r. r.log ≡ 0) }
     ensures short { IfOk result (λ r. r.short ≡ false) }
     ensures proof { IfOk result (HasProof true) }
+    ensures core { IfOk result (HasCore compiled.now) }
     ensures heard { W.IsAfter watch.old watch.new }
 {
     let recorder = Recorder::new(alloc);
@@ -125,6 +129,7 @@ pub fn solve_alone<W: Watch>(
     ensures log { IfOk result (λ r. r.log ≡ 0) }
     ensures short { IfOk result (λ r. r.short ≡ false) }
     ensures proof { IfOk result (HasProof proof) }
+    ensures core { IfOk result (HasCore compiled.now) }
     ensures heard { W.IsAfter watch.old watch.new }
 {
     if proof {

@@ -5,7 +5,7 @@ ghost use Rattle.asp_book.specs.Books.{board};
 ghost use Rattle.asp_search_laws.specs.Searching.{Searching};
 ghost use Rattle.asp_crew_laws.specs.Reports.{IsIdle};
 ghost use Rattle.asp_crew_laws.specs.Working.{IsAtWork, MayBegin};
-ghost use Rattle.asp_crew.specs.Running.{HasNoQuery, IsReady, IsAlone, LeavesAll, Finishes};
+ghost use Rattle.asp_crew.specs.Running.{QueryStands, IsReady, IsAlone, LeavesAll, Finishes};
 
 use crate::leaf::work_off;
 use asp_book::book::Book;
@@ -142,7 +142,7 @@ fn search_all<P: Propagator, W: Watch>(
     watch: &mut W,
     recorder: Option<&Recorder>,
 ) -> Result<Option<Conflict>, AllocError>
-    requires task { HasNoQuery book.old.task }
+    requires task { QueryStands book.old.task }
     requires of { book.old.task.program ≡ aim.compiled.now }
     requires work { IsAtWork (board book.old) 0 aim.mode [] aim.bound fuel.old }
     requires alone { IsAlone (board book.old) }
@@ -191,7 +191,7 @@ pub fn finish<P: Propagator, W: Watch>(
     watch: &mut W,
     recorder: Option<&Recorder>,
 ) -> Result<Option<Conflict>, AllocError>
-    requires task { HasNoQuery book.old.task }
+    requires task { QueryStands book.old.task }
     requires goal { MayBegin mode bound book.old.task.goal }
     requires of { book.old.task.program ≡ compiled.now }
     requires fits { book.old.task.budget < 2 ^ 64 }
@@ -228,7 +228,7 @@ pub fn finish_program<'a, W: Watch>(
     watch: &mut W,
     recorder: Option<&'a Recorder>,
 ) -> Result<Option<Conflict>, AllocError>
-    requires task { HasNoQuery book.old.task }
+    requires task { QueryStands book.old.task }
     requires goal { MayBegin mode bound book.old.task.goal }
     requires of { book.old.task.program ≡ compiled.now }
     requires fits { book.old.task.budget < 2 ^ 64 }

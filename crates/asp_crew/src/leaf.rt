@@ -14,7 +14,7 @@ ghost use Rattle.asp_core.specs.Boards.{is_answer, is_enough};
 ghost use Rattle.asp_core.specs.Invariant.{IsCube};
 ghost use Rattle.asp_book.specs.Books.{board};
 ghost use Rattle.asp_search_laws.specs.Steps.{IsStep};
-ghost use Rattle.asp_crew.specs.Running.{HasNoQuery, IsReady, IsUnderway, MayRecord, OnlyRecords, IsRecorded, Goes, Ends, LeavesLeaf};
+ghost use Rattle.asp_crew.specs.Running.{QueryStands, IsReady, IsUnderway, MayRecord, OnlyRecords, IsRecorded, Goes, Ends, LeavesLeaf};
 
 use crate::known::take_known;
 use asp_book::book::Book;
@@ -29,6 +29,7 @@ use asp_search::search::Search;
 use asp_search_laws::step::Step;
 use asp_vars::fuel::{Conflict, Fuel};
 use asp_vars::lit::Lit;
+use asp_vars::nogood::Nogood;
 use std::alloc::AllocError;
 
 /// How a step left the path.
@@ -36,8 +37,19 @@ use std::alloc::AllocError;
 pub(crate) enum Course {
     /// The search goes on.
     Open,
-    /// Nothing else is to be found below the path.
-    Closed,
+    /// Nothing else is to be found below the path, by this nogood.
+    Closed(Nogood),
+    /// A conflict was met, and no unit is left for it.
+    Unpaid(Conflict),
+}
+
+/// How a search left the path.
+#[derive(Drop)]
+pub(crate) enum Left {
+    /// As many answers as asked for were found.
+    Enough,
+    /// Nothing else is to be found below the path, by this nogood.
+    Closed(Nogood),
     /// A conflict was met, and no unit is left for it.
     Unpaid(Conflict),
 }
@@ -122,7 +134,7 @@ fn advance<P: Propagator>(
             take_known(book, search, knew)?;
             Ok(Course::Open)
         }
-        Step::Closed => Ok(Course::Closed),
+        Step::Closed(nogood) => Ok(Course::Closed(nogood)),
         Step::NoFuel(conflict) => Ok(Course::Unpaid(conflict)),
     }
 }
@@ -147,28 +159,28 @@ fn run<P: Propagator, W: Watch>(
     counts: &mut Counts,
     watch: &mut W,
     recorder: Option<&Recorder>,
-) -> Result<Option<Conflict>, AllocError>
+) -> Result<Left, AllocError>
     requires { IsUnderway mode book.old search.old fuel.old }
     ensures ends { IfOk result (Ends mode book.old book.new search.old search.new fuel.new) }
     ensures heard { W.IsAfter watch.old watch.new }
 {
     'steps: loop {
         if book.enough() {
-            return Ok(None);
+            return Ok(Left::Enough);
         }
         let course = advance(book, mode, search, fuel, counts, recorder)?;
         tell(mode, search, counts, watch);
         match course {
             Course::Open => {}
-            Course::Closed => return Ok(None),
-            Course::Unpaid(conflict) => return Ok(Some(conflict)),
+            Course::Closed(nogood) => return Ok(Left::Closed(nogood)),
+            Course::Unpaid(conflict) => return Ok(Left::Unpaid(conflict)),
         }
     }
 }
 
 // The literals of a leaf that number 0 holds.
 fn cube_of(book: &Book, leaf: Leaf) -> Result<Vec<Lit>, AllocError>
-    requires task { HasNoQuery book.now.task }
+    requires task { QueryStands book.now.task }
     requires held { status_of (board book.now).nodes leaf ≡ status.Held 0 }
     ensures value { IfOk result (λ cube. cube.items ≡ cube_of (board book.now).nodes leaf) }
     ensures cube { IfOk result (λ cube. IsCube book.now.task cube.items) }
@@ -198,11 +210,18 @@ pub(crate) fn work_off<P: Propagator, W: Watch>(
 {
     let cube = cube_of(book, leaf)?;
     search.enter(cube.as_slice())?;
-    let unpaid = run(book, mode, search, fuel, counts, watch, recorder)?;
-    if unpaid.is_some() || book.enough() {
-        book.release(0, leaf);
-        return Ok(unpaid);
+    match run(book, mode, search, fuel, counts, watch, recorder)? {
+        Left::Closed(nogood) => {
+            book.close(0, leaf, nogood.lits.as_slice())?;
+            Ok(None)
+        }
+        Left::Enough => {
+            book.release(0, leaf);
+            Ok(None)
+        }
+        Left::Unpaid(conflict) => {
+            book.release(0, leaf);
+            Ok(Some(conflict))
+        }
     }
-    book.close(0, leaf, cube.as_slice())?;
-    Ok(None)
 }

@@ -7,6 +7,7 @@ ghost use Rattle.asp_model.specs.Costs.{cost, just_above, IsOptimum};
 ghost use Rattle.asp_book.specs.Books.{board};
 ghost use Rattle.asp_crew_laws.specs.Reports.{joined, IsIdle, IsReport, IsWhole};
 ghost use Rattle.asp_crew_laws.specs.Runs.{asks, ties_of};
+ghost use Rattle.asp_crew.specs.Refuting.{HasCore};
 ghost use Rattle.asp_crew.specs.Twice.{IsSearched, IsSecond};
 
 use crate::finish::finish_program;
@@ -149,6 +150,7 @@ fn joined(first: Report, ties: Report) -> Report
         unpaid: _,
         mut paid,
         proof: _,
+        core: _,
     } = first;
     let Report {
         results: found,
@@ -161,6 +163,7 @@ fn joined(first: Report, ties: Report) -> Report
         unpaid,
         paid: rest,
         proof: _,
+        core: _,
     } = ties;
     let left = paid.left();
     let _given = paid.part(left);
@@ -182,6 +185,7 @@ fn joined(first: Report, ties: Report) -> Report
         unpaid,
         paid,
         proof: None,
+        core: None,
     }
 }
 
@@ -205,6 +209,7 @@ pub fn with_ties<W: Watch>(
     ensures short { IfOk result (λ r. r.short ≡ report.short) }
     ensures same { IfOk result (λ r. (r.journal ≡ report.journal) × (r.short ≡ report.short)) }
     ensures proof { IfOk result (λ r. r.proof ≡ None) }
+    ensures core { IfOk result (λ r. HasCore compiled.now report → HasCore compiled.now r) }
     ensures heard { W.IsAfter watch.old watch.new }
 {
     match second(alloc, compiled, ask, &report, counts, watch) {

@@ -23,7 +23,7 @@ use Rattle.asp_model.proofs.ListedLaws.{contains_from_test, test_from_contains}
 use Rattle.asp_core.specs.declared.event.Event.{Event}
 use Rattle.asp_core.specs.declared.goal.Goal.TheVariants as goal
 use Rattle.asp_core.specs.declared.task.Task.{Task}
-use Rattle.asp_core.specs.Boards.{Board, common_by, goal_of, listed_by, showing, showing_by, start, lists, lists_by, optimises, is_answer, IsQuery}
+use Rattle.asp_core.specs.Boards.{Board, common_by, goal_of, listed_by, showing, showing_by, start, lists, lists_by, optimises, is_answer}
 use Rattle.asp_core.specs.Events.{IsLawful, replay}
 use Rattle.asp_core.specs.Invariant.{IsOptimum}
 use Rattle.asp_core.specs.Sorting.{sorted_once, answers_of}
@@ -65,9 +65,6 @@ best-by p n budget (Some S) h = record {
 
 pub sorted-nil : (A : List Atoms) → A ≡ [] → sorted_once A ≡ []
 sorted-nil A e = ap sorted_once e
-
-query-none : (p : Program) (ask : Ask) (budget : ℕ) → IsQuery (task_of p ask budget).program (task_of p ask budget).query
-query-none p ask budget = tt
 
 -- No best stands where none is sought.
 pub none-best : (t : Task) (best : Option Atoms) → optimises t.goal ≡ false → IfSome best (λ S. IsTrue (optimises t.goal) × IsTrue (is_answer t S)) → best ≡ None

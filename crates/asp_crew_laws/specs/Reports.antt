@@ -137,6 +137,7 @@ joined first ties = record {
   unpaid = ties.unpaid;
   paid = summed first.paid ties.paid;
   proof = None;
+  core = None;
 }
 
 -- A first search was finished and had found a best answer; a second one went over the answers that cost no more, with the units

@@ -28,7 +28,7 @@ use Rattle.asp_analyze.specs.declared.learn.Learned.TheVariants as learned
 use Rattle.asp_trail_laws.specs.Settling.{AreSettled}
 use Rattle.asp_trail_laws.proofs.LitLaws.{all_has}
 use Rattle.asp_trail_laws.proofs.PlaceLaws.{level_in_top}
-use Rattle.asp_trail_laws.proofs.ViolatedLaws.{way_settled, cube_settled, within_cube}
+use Rattle.asp_trail_laws.proofs.ViolatedLaws.{way_settled, within_cube}
 use Rattle.asp_trail_laws.proofs.ConflictLaws.{conflict}
 use Rattle.asp_order.specs.Pacing.{Paced}
 use Rattle.asp_propagate.specs.Useful.{IsUseful}
@@ -75,10 +75,8 @@ module _ (gives : Nogood → Type 0) (md : Mode) (t : SearchView) (c : Paced) (k
   met_within n m =
       within_cube (var_count t.program) q t.decisions t.entries n.lits m.ordered m.starts m.explains.contained m.explains.learned.1 m.explains.assumed
 
-  pub met_settled : (n : Nogood) → IsMet gives (view_of md t c known last) q id (learned.InCube n) → Settled t.program U t.bound q
-  met_settled n m =
-      cube_settled t.program U t.bound (var_count t.program) q t.decisions t.entries m.explains.from.lits m.ordered m.reasons m.starts
-      (from_settled (learned.InCube n) m) m.explains.violated m.explains.learned.0
+  pub met_settled : (n : Nogood) → IsMet gives (view_of md t c known last) q id (learned.InCube n) → Settled t.program U t.bound n.lits
+  met_settled n m = useful_settles t.program U t.bound n (met_useful (learned.InCube n) m)
 
   -- ---- a jump
   has_value : (o : Option Bool) (l : Literal) → agrees o l ≡ true → IsSome o

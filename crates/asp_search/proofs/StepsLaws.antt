@@ -5,7 +5,7 @@ use Rattle.std.specs.List.{All}
 use Rattle.std.specs.Option.{unwrap_or, option_map}
 use Rattle.std.specs.Result.{OnErr}
 use Rattle.std.proofs.lemmas.Bool.{false≢true}
-use Rattle.std.proofs.lemmas.Bool.{and_parts, or_cases}
+use Rattle.std.proofs.lemmas.Bool.{and_parts, or_cases, or_left}
 use Rattle.std.proofs.lemmas.Bool.Decides.{nat_tests}
 use Rattle.std.proofs.lemmas.List.{length-append, get_or_push}
 use Rattle.std.proofs.lemmas.List.Elements.{filter_passes}
@@ -36,7 +36,7 @@ use Rattle.asp_order.specs.Pacing.{Paced}
 use Rattle.asp_order.specs.Waiting.{IsNext}
 use Rattle.asp_propagate.specs.Propagating.{IsFixpoint, IsReduced}
 use Rattle.asp_trail_laws.proofs.HitLaws.{clash_settled}
-use Rattle.asp_trail_laws.proofs.LitLaws.{only_one}
+use Rattle.asp_trail_laws.proofs.LitLaws.{all_pass, eq_itself, has_later, has_more, only_one}
 use Rattle.asp_trail_laws.proofs.PlaceLaws.{level_last}
 use Rattle.asp_search_laws.specs.Axioms.{IsAxiom, AreDerived, IsDerived}
 use Rattle.asp_search_laws.specs.Keeping.{Grows, GrowsUnlessGiven}
@@ -48,10 +48,10 @@ use Rattle.asp_search_laws.proofs.JumpLaws.{before_newest, jump_beside}
 use Rattle.asp_store.proofs.KeepLaws.{added_stays}
 use Rattle.asp_search_laws.proofs.SlotLaws.{nogood_kept, added_newest, reduced_none, grows_none}
 use Rattle.asp_search_laws.proofs.StepLaws.{Continues}
-use Rattle.asp_state.specs.SearchStates.{SearchView, values_of, Clashes}
+use Rattle.asp_state.specs.SearchStates.{SearchView, values_of, HasBoth}
 use Rattle.asp_search.specs.Blocking.{Blocks}
 use Rattle.asp_search.specs.Invariants.{view_of}
-use Rattle.asp_search.specs.Meeting.{IsMet, ShowsConflict, IsClashOf}
+use Rattle.asp_search.specs.Meeting.{IsMet, ShowsConflict, IsClashOf, opposed}
 use Rattle.asp_search.specs.Stepping.{IsFound}
 use Rattle.asp_search.proofs.MeetLaws.{met_within, met_settled, met_derived, met_jump}
 
@@ -71,17 +71,27 @@ module _ (gives : Nogood → Type 0) (md : Mode) (t : SearchView) (c : Paced) (k
     derived = derived_same t.program gives t.bound t.slots;
   }
 
+  -- but for the number of the nogood that the step before kept
+  pub fails_cleared : (q : List Literal) (f : Units) → Fails gives (view_of md t c known last) (view_of md t c known None) q f f
+  fails_cleared q f = record {
+    program = refl;
+    mode = refl;
+    known = refl;
+    bound = refl;
+    fuel = inl refl;
+    derived = derived_same t.program gives t.bound t.slots;
+  }
+
   same_task : HasSameTask (view_of md t c known last) (view_of md t c known last)
   same_task = record { program = refl; mode = refl; cube = refl; known = refl; bound = refl }
 
   -- ---- closed
   pub met_closes : (q : List Literal) (f : Units) (id : ℕ) (n : Nogood) → IsMet gives (view_of md t c known last) q id (learned.InCube n) →
-      Closes gives (view_of md t c known last) (view_of md t c known last) q f f
+      Closes gives (view_of md t c known last) (view_of md t c known last) q f f n
   met_closes q f id n m = record {
     same = same_task;
     fuel = refl;
-    closing = n;
-    within = met_within gives md t c known last q id n m;
+    within = all_pass (has_literal q) n.lits (met_within gives md t c known last q id n m);
     why = met_derived gives md t c known last q id (learned.InCube n) m;
     settled = met_settled gives md t c known last q id n m;
     decisions = refl;
@@ -92,14 +102,14 @@ module _ (gives : Nogood → Type 0) (md : Mode) (t : SearchView) (c : Paced) (k
   }
 
   -- a cube with a literal and its complement
-  pub clash_closes : (q : List Literal) (f : Units) → Clashes q → Closes gives (view_of md t c known last) (view_of md t c known None) q f f
-  clash_closes q f x = record {
+  pub clash_closes : (q : List Literal) (f : Units) (l : Literal) → HasBoth q l → Closes gives (view_of md t c known last) (view_of md t c known None) q f f (opposed l)
+  clash_closes q f l x = record {
     same = record { program = refl; mode = refl; cube = refl; known = refl; bound = refl };
     fuel = refl;
-    closing = record { lits = x.lit ∷ complement x.lit ∷ []; base = base.Pure };
-    within = λ k h. pair_within k (or_cases (literal_eq x.lit k) (has_literal (complement x.lit ∷ []) k) h);
-    why = IsDerived.given (IsAxiom.pair x.lit) tt;
-    settled = clash_settled t.program (is_done t.program U t.bound) q x.lit x.has x.opposite;
+    within = all_pass (has_literal q) (opposed l).lits (λ k h. pair_within k (or_cases (literal_eq l k) (has_literal (complement l ∷ []) k) h));
+    why = IsDerived.given (IsAxiom.pair l) tt;
+    settled =
+        clash_settled t.program (is_done t.program U t.bound) (opposed l).lits l (has_more (l ∷ []) (complement l ∷ []) l (one_has l)) (has_later (l ∷ []) (complement l ∷ []) (complement l) (one_has (complement l)));
     decisions = refl;
     derived = derived_same t.program gives t.bound t.slots;
     learnt = refl;
@@ -107,9 +117,12 @@ module _ (gives : Nogood → Type 0) (md : Mode) (t : SearchView) (c : Paced) (k
     last = refl;
   }
     where
-      pair_within : (k : Literal) → (literal_eq x.lit k ≡ true) ⊎ (has_literal (complement x.lit ∷ []) k ≡ true) → has_literal q k ≡ true
-      pair_within k (inl e) = subst (λ (l : Literal). has_literal q l ≡ true) (same_literal x.lit k e) x.has
-      pair_within k (inr h) = subst (λ (l : Literal). has_literal q l ≡ true) (only_one (complement x.lit) k h) x.opposite
+      one_has : (k : Literal) → has_literal (k ∷ []) k ≡ true
+      one_has k = or_left (literal_eq k k) false (eq_itself k)
+
+      pair_within : (k : Literal) → (literal_eq l k ≡ true) ⊎ (has_literal (complement l ∷ []) k ≡ true) → has_literal q k ≡ true
+      pair_within k (inl e) = subst (λ (m : Literal). has_literal q m ≡ true) (same_literal l k e) x.0
+      pair_within k (inr h) = subst (λ (m : Literal). has_literal q m ≡ true) (only_one (complement l) k h) x.1
 
   -- ---- a conflict
   pub conflict_of : (q : List Literal) (id : ℕ) (lit : Literal) (x : Clash) → t.cube ≡ Some q → ShowsConflict t.program U t.bound t id lit → IsClashOf t.program (reasoning_of md) known t.bound t id lit x →
@@ -412,14 +425,13 @@ improved gives m t u c known last q S f opt none found e =
     (improves gives t u c known last q S f none u.ranking (subst (λ (x : Mode). IsFound (view_of x t c known last) q S) opt found) e)
 
 -- ---- closed, where nogoods were dropped after that
-pub closes_thinned : (gives : Nogood → Type 0) (s t u : Searching) (q : List Literal) (f g : Units) (es : List Entry) → Closes gives s t q f g → u ≡ record t { slots = u.slots } → IsReduced es t.slots u.slots →
-    Closes gives s u q f g
-closes_thinned gives s t u q f g es d same r =
-    subst (λ (y : Searching). Closes gives s y q f g) (sym same)
+pub closes_thinned : (gives : Nogood → Type 0) (s t u : Searching) (q : List Literal) (f g : Units) (n : Nogood) (es : List Entry) → Closes gives s t q f g n → u ≡ record t { slots = u.slots } → IsReduced es t.slots u.slots →
+    Closes gives s u q f g n
+closes_thinned gives s t u q f g n es d same r =
+    subst (λ (y : Searching). Closes gives s y q f g n) (sym same)
     (record {
       same = record { program = d.same.program; mode = d.same.mode; cube = d.same.cube; known = d.same.known; bound = d.same.bound };
       fuel = d.fuel;
-      closing = d.closing;
       within = d.within;
       why = d.why;
       settled = d.settled;

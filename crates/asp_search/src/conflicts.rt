@@ -11,7 +11,7 @@ ghost use Rattle.asp_analyze.specs.Learning.{AreContained, IsJump};
 ghost use Rattle.asp_search_laws.specs.Explaining.{Explains};
 ghost use Rattle.asp_state.specs.SearchStates.{IsUnder};
 ghost use Rattle.asp_search.specs.Invariants.{answers_known, used_in};
-ghost use Rattle.asp_search.specs.Meeting.{ShowsConflict, IsClashOf};
+ghost use Rattle.asp_search.specs.Meeting.{ShowsConflict, IsClashOf, opposed};
 
 use crate::covering::known_count;
 use crate::spread::{Spread, note_used};
@@ -27,7 +27,7 @@ use asp_vars::compiled::Compiled;
 use asp_vars::fuel::Conflict;
 use asp_vars::known::Known;
 use asp_vars::lit::Lit;
-use asp_vars::nogood::Nogood;
+use asp_vars::nogood::{Base, Lits, Nogood};
 use asp_vars::snapshot::Snapshot;
 use std::alloc::{AllocError, Global};
 
@@ -128,6 +128,17 @@ pub(crate) fn conflict<P: Propagator>(
         known_count(known, seen),
         bound,
     ))
+}
+
+/// The nogood of a literal and its complement.
+pub(crate) fn opposed(alloc: Global, lit: Lit) -> Result<Nogood, AllocError>
+    ensures { IfOk result (λ nogood. nogood ≡ opposed lit) }
+{
+    let lits = Lits::with_first(alloc, lit, &[lit.complement()])?;
+    Ok(Nogood {
+        lits,
+        base: Base::Pure,
+    })
 }
 
 /// Keeps what was learnt, and goes back to where it implies the literal.

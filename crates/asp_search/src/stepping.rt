@@ -4,7 +4,7 @@
 //! turn: a reason whose other literals are hit can't be hit whole. So it hits a violated nogood, and there is none: a
 //! conflict is settled. On a whole trail it is the set of the true atoms. A known answer hits a kept nogood, and none is
 //! violated when an answer is found: that is another set.
-ghost use Rattle.std.specs.Prelude.{◌≡◌, ◌+◌, ◌-◌, ◌^◌, ◌≤◌, List, [], None, Some, length, min, IfOk, OnOk, OnErr, IsSome, IsTrue};
+ghost use Rattle.std.specs.Prelude.{◌≡◌, ◌+◌, ◌-◌, ◌^◌, ◌≤◌, List, [], None, Some, true, length, min, IfOk, OnOk, OnErr, IsSome, IsTrue};
 ghost use Rattle.asp_model.specs.Asked.{reasoning_of};
 ghost use Rattle.asp_model.specs.declared.results.Mode.TheVariants as mode;
 ghost use Rattle.asp_vars.specs.Literals.{Literal};
@@ -18,12 +18,12 @@ ghost use Rattle.asp_search_laws.specs.Searching.{values_now};
 ghost use Rattle.asp_search_laws.specs.Keeping.{GrowsUnlessGiven};
 ghost use Rattle.asp_search_laws.specs.Steps.{Answers, IsDue, IsStep, IsFailure};
 ghost use Rattle.asp_analyze.specs.declared.learn.Learned.TheVariants as learned;
-ghost use Rattle.asp_search.specs.Meeting.{IsMet};
+ghost use Rattle.asp_search.specs.Meeting.{IsClashed, IsMet};
 ghost use Rattle.asp_search.specs.Stepping.{IsEntered, IsFound};
 
 use crate::aim::Aim;
 use crate::blocking::block;
-use crate::conflicts::{conflict, jump, learn};
+use crate::conflicts::{conflict, jump, learn, opposed};
 use crate::covering::cover;
 use crate::faults::{fault, true_atoms};
 use crate::litter::Litter;
@@ -219,9 +219,8 @@ impl<'a, P: Propagator> Search<'a, P> {
             Learned::InCube(nogood) => {
                 self.uses
                     .note_conflict(&self.learner, self.state.trail(), id);
-                self.uses.note_closing(nogood.lits.as_slice());
                 self.make_room();
-                Ok(Step::Closed)
+                Ok(Step::Closed(nogood))
             }
             Learned::Jump { nogood, level, lit } => self.pay(id, nogood, level, lit, fuel),
         }
@@ -419,6 +418,20 @@ impl<'a, P: Propagator> Search<'a, P> {
         self.decide(fuel)
     }
 
+    // The cube has a literal and its complement.
+    fn clashed(&self) -> Result<Step, AllocError>
+        requires { self.now.clashing ≡ true }
+        ensures { IfOk result (IsClashed self.now.cube) }
+    {
+        match self.state.clash() {
+            Some(lit) => {
+                let nogood = opposed(self.alloc, lit)?;
+                Ok(Step::Closed(nogood))
+            }
+            None => unreachable!(),
+        }
+    }
+
     fn advance(&mut self, fuel: &mut Fuel) -> Result<Step, AllocError>
         requires entered { IsSome self.old.cube }
         requires program { fuel.old.program ≡ self.old.program }
@@ -430,7 +443,7 @@ impl<'a, P: Propagator> Search<'a, P> {
         self.implied = 0;
         self.uses.clear(self.state.store());
         if self.state.is_clashing() {
-            return Ok(Step::Closed);
+            return self.clashed();
         }
         let before = self.state.trail().len();
         let met = self.state.propagate()?;

@@ -89,13 +89,12 @@ module _ (gives : Nogood → Type 0) (silent : List (Option Bool) → Type 0) (s
     last = h.last;
   }
 
-  closes : (q : List Literal) (f g : Units) → Closes gives (mid s es slots ranking last) t q f g → Closes gives s t q f g
-  closes q f g h = record {
+  closes : (q : List Literal) (f g : Units) (n : Nogood) → Closes gives (mid s es slots ranking last) t q f g n → Closes gives s t q f g n
+  closes q f g n h = record {
     same = task h.same;
     fuel = h.fuel;
-    closing = h.closing;
     within = h.within;
-    why = derived_more s.program gives s.bound (nogood_at s.slots) (nogood_at slots) h.closing derived h.why;
+    why = derived_more s.program gives s.bound (nogood_at s.slots) (nogood_at slots) n derived h.why;
     settled = h.settled;
     decisions = h.decisions;
     derived = derives h.derived;
@@ -157,7 +156,7 @@ module _ (gives : Nogood → Type 0) (silent : List (Option Bool) → Type 0) (s
   steps_mid q f g step.Decided h = decides f g h
   steps_mid q f g step.Learnt h = learns q f g h
   steps_mid q f g (step.Answer S) h = answers q f g S h
-  steps_mid q f g step.Closed h = closes q f g h
+  steps_mid q f g (step.Closed n) h = closes q f g n h
   steps_mid q f g (step.NoFuel x) h = stops q f g x h
   steps_mid q f g step.Restarted h = restarted f g h
 

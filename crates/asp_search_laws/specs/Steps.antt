@@ -15,9 +15,9 @@ use Rattle.asp_model.specs.Costs.{cost}
 use Rattle.asp_vars.specs.Literals.{Literal, T, F, complement, has_literal, hits, holds_in}
 use Rattle.asp_vars.specs.Numbering.{values, var_count, var_of_atom}
 use Rattle.asp_vars.specs.Entailment.{Settled}
-use Rattle.asp_vars.specs.Conflicts.{IsConflict}
+use Rattle.asp_vars.specs.Conflicts.{IsConflict, has_all}
 use Rattle.asp_vars.specs.Paid.{Clash, Units, least_of}
-use Rattle.asp_vars.specs.Resolution.{IsWithin, is_bound_within}
+use Rattle.asp_vars.specs.Resolution.{is_bound_within}
 use Rattle.asp_vars.specs.declared.nogood.Base.{Base}
 use Rattle.asp_vars.specs.declared.nogood.Base.TheVariants as base
 use Rattle.asp_vars.specs.declared.nogood.Nogood.{Nogood}
@@ -129,14 +129,13 @@ pub record Stops (gives : Nogood → Type 0) (s t : Searching) (q : List Literal
   pub restarts : t.restarts ≡ s.restarts
   pub last : t.last ≡ None
 
--- ---- Closed: a derived nogood lies in the cube, so that the cube is settled.
-pub record Closes (gives : Nogood → Type 0) (s t : Searching) (q : List Literal) (f g : Units) : Type 0 where
+-- ---- Closed: a derived nogood lies in the cube, and is settled; so the cube is settled too.
+pub record Closes (gives : Nogood → Type 0) (s t : Searching) (q : List Literal) (f g : Units) (closing : Nogood) : Type 0 where
   pub same : HasSameTask s t
   pub fuel : g ≡ f
-  pub closing : Nogood
-  pub within : IsWithin closing.lits q
+  pub within : IsTrue (has_all q closing.lits)
   pub why : IsDerived s.program gives s.bound (nogood_at s.slots) closing
-  pub settled : Settled s.program (used s) s.bound q
+  pub settled : Settled s.program (used s) s.bound closing.lits
   pub decisions : t.decisions ≡ s.decisions
   pub derived : Derives gives s t
   pub learnt : t.learnt ≡ s.learnt
@@ -213,7 +212,7 @@ abbrev pub Steps : (Nogood → Type 0) → (List (Option Bool) → Type 0) → S
 Steps gives silent s t q f g step.Decided = Decides gives silent s t f g
 Steps gives silent s t q f g step.Learnt = Learns gives s t q f g
 Steps gives silent s t q f g (step.Answer S) = Answers gives s t q f g S
-Steps gives silent s t q f g step.Closed = Closes gives s t q f g
+Steps gives silent s t q f g (step.Closed n) = Closes gives s t q f g n
 Steps gives silent s t q f g (step.NoFuel x) = Stops gives s t q f g x
 Steps gives silent s t q f g step.Restarted = Restarts gives s t f g
 

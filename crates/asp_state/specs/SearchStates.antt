@@ -46,6 +46,16 @@ pub record Clashes (cube : List Literal) : Type 0 where
   pub has : IsTrue (has_literal cube lit)
   pub opposite : IsTrue (has_literal cube (complement lit))
 
+-- It has this literal and its complement.
+abbrev pub HasBoth : List Literal → Literal → Type 0
+HasBoth cube l = IsTrue (has_literal cube l) × IsTrue (has_literal cube (complement l))
+
+-- If there is a cube and a literal, the cube has it and its complement.
+abbrev pub HasClash : Option (List Literal) → Option Literal → Type 0
+HasClash (Some cube) (Some l) = HasBoth cube l
+HasClash (Some cube) None = Unit {0}
+HasClash None l = Unit {0}
+
 -- A path was entered whose cube doesn't clash.
 pub record IsUnder (t : SearchView) (cube : List Literal) : Type 0 where
   pub cube_is : t.cube ≡ Some cube

@@ -1,11 +1,11 @@
 //! How the literals of a cube are assumed.
-ghost use Rattle.std.specs.Prelude.{◌≡◌, ◌++◌, ◌∷◌, [], List, false, IsTrue};
+ghost use Rattle.std.specs.Prelude.{◌≡◌, ◌++◌, ◌∷◌, [], List, None, false, IfSome, IsTrue};
 ghost use Rattle.asp_vars.specs.Literals.{Literal, complement, has_literal};
 ghost use Rattle.asp_vars.specs.Numbering.{var_count};
 ghost use Rattle.asp_trail.specs.Entries.{level};
 ghost use Rattle.asp_trail.specs.Trails.{IsVar};
 ghost use Rattle.asp_trail_laws.specs.Starts.{AreAssumed, AreAtZero};
-ghost use Rattle.asp_state.specs.SearchStates.{AreOf, Clashes};
+ghost use Rattle.asp_state.specs.SearchStates.{AreOf, HasBoth};
 
 use asp_propagate::engine::Engine;
 use asp_propagate::propagator::Propagator;
@@ -31,19 +31,19 @@ fn assume<P: Propagator>(engine: &mut Engine<P>, lit: Lit) -> bool
     }
 }
 
-/// Makes the literals hold, one after the other. Stops where the complement of one holds, and says whether none did.
-pub fn assume_all<P: Propagator>(engine: &mut Engine<P>, cube: &[Lit]) -> bool
+/// Makes the literals hold, one after the other. Stops at one whose complement holds, and gives that one.
+pub fn assume_all<P: Propagator>(engine: &mut Engine<P>, cube: &[Lit]) -> Option<Lit>
     requires vars { AreOf engine.old.program cube.now }
     requires none { engine.old.entries ≡ [] }
     ensures same { engine.new ≡ record engine.old { entries = engine.new.entries } }
     ensures assumed { AreAssumed cube.now engine.new.entries }
-    ensures stand { IsTrue result → AreAtZero cube.now engine.new.entries }
-    ensures clash { result ≡ false → Clashes cube.now }
+    ensures stand { result ≡ None → AreAtZero cube.now engine.new.entries }
+    ensures clash { IfSome result (HasBoth cube.now) }
 {
     for lit in cube {
         if !assume(engine, *lit) {
-            return false;
+            return Some(*lit);
         }
     }
-    true
+    None
 }

@@ -4,7 +4,7 @@
 //! - the cube and the decisions are what begins the trail's levels;
 //! - no nogood of the completion was unit or violated before a decision, and all of them are kept;
 //! - each variable without a value waits to be decided.
-ghost use Rattle.std.specs.Prelude.{◌≡◌, ◌<◌, ◌≤◌, ◌^◌, ◌+◌, ◌∷◌, ◌++◌, [], ℕ, List, false, Some, None, IfOk, OnOk, OnErr, IfSome, IfNone, IsTrue, take, length, replicate, slice_set, slice_index_or, if◌then◌else◌};
+ghost use Rattle.std.specs.Prelude.{◌≡◌, ◌<◌, ◌≤◌, ◌^◌, ◌+◌, ◌∷◌, ◌++◌, [], ℕ, List, false, Some, None, IfOk, OnOk, OnErr, IfSome, IfNone, IsTrue, is_some, take, length, replicate, slice_set, slice_index_or, if◌then◌else◌};
 ghost use Rattle.std.specs.List.{All};
 ghost use Rattle.asp_model.specs.Sound.{IsSound};
 ghost use Rattle.asp_vars.specs.Literals.{Literal, value_of};
@@ -22,7 +22,7 @@ ghost use Rattle.asp_order.specs.Waiting.{learnt, AreAssigned, IsFuller, IsNext}
 ghost use Rattle.asp_propagate.specs.Late.{CanAsk, IsSaid, IsAtHand};
 ghost use Rattle.asp_propagate.specs.Useful.{IsSmaller};
 ghost use Rattle.asp_propagate.specs.Propagating.{is_named, Adds, AreAtFixpoint, Implies, IsImplied, IsFixpoint, IsReduced};
-ghost use Rattle.asp_state.specs.SearchStates.{first_ranking, path_of, values_of, AreOf, Clashes, IsBegun, IsUnder, KeepsCompletion, KeepsCompletionAlone};
+ghost use Rattle.asp_state.specs.SearchStates.{first_ranking, path_of, values_of, AreOf, Clashes, HasBoth, IsBegun, IsUnder, KeepsCompletion, KeepsCompletionAlone};
 
 use crate::assume::assume_all;
 use crate::completed::keep_completion;
@@ -58,15 +58,15 @@ pub struct SearchState<P: Propagator> {
     order: Order,
     // the literals that are to hold, and none before a path is entered
     cube: Option<Vec<Lit>>,
-    // whether the cube has a literal and its complement: then nothing is decided under it
-    clashing: bool,
+    // a literal of the cube whose complement is there too, if there is one: then nothing is decided under it
+    clash: Option<Lit>,
     // the literals that were chosen, that of level 1 first
     decisions: Vec<Lit>,
 }
 
 impl<P: Propagator> Model for SearchState<P> {
-    ghost use Rattle.std.specs.Prelude.{option_map};
-    ghost use Rattle.asp_state.specs.SearchStates.{SearchView, IsSearchState};
+    ghost use Rattle.std.specs.Prelude.{is_some, option_map};
+    ghost use Rattle.asp_state.specs.SearchStates.{SearchView, IsSearchState, HasClash};
 
     ghost Value = { SearchView };
 
@@ -74,14 +74,14 @@ impl<P: Propagator> Model for SearchState<P> {
       program = t.engine.program;
       bound = t.engine.bound;
       cube = option_map (λ q. q.items) t.cube;
-      clashing = t.clashing;
+      clashing = is_some t.clash;
       decisions = t.decisions.items;
       entries = t.engine.entries;
       slots = t.engine.slots;
       ranking = t.order;
     } };
 
-    ghost invariant = { λ t. IsSearchState t.engine.program (option_map (λ q. q.items) t.cube) t.clashing t.decisions.items t.engine.entries t.engine.slots t.order };
+    ghost invariant = { λ t. IsSearchState t.engine.program (option_map (λ q. q.items) t.cube) (is_some t.clash) t.decisions.items t.engine.entries t.engine.slots t.order × HasClash (option_map (λ q. q.items) t.cube) t.clash };
 }
 
 // Adds the literals at the end.
@@ -130,7 +130,7 @@ impl<P: Propagator> SearchState<P> {
                     engine,
                     order,
                     cube: None,
-                    clashing: false,
+                    clash: None,
                     decisions: Vec::new(alloc),
                 })
             }
@@ -151,7 +151,7 @@ impl<P: Propagator> SearchState<P> {
         self.engine.clear();
         self.decisions.clear();
         self.cube = None;
-        self.clashing = false;
+        self.clash = None;
     }
 
     /// Begins a path: the literals of the cube are to hold. Where one of them has its complement there, nothing is
@@ -168,7 +168,7 @@ impl<P: Propagator> SearchState<P> {
     {
         self.leave();
         let copy = cube.to_vec(alloc)?;
-        self.clashing = !assume_all(&mut self.engine, cube);
+        self.clash = assume_all(&mut self.engine, cube);
         self.cube = Some(copy);
         Ok(())
     }
@@ -179,7 +179,15 @@ impl<P: Propagator> SearchState<P> {
         ensures clashes { (q : List Literal) → self.now.cube ≡ Some q → IsTrue result → Clashes q }
         ensures idle { IsTrue result → self.now.decisions ≡ [] }
     {
-        self.clashing
+        self.clash.is_some()
+    }
+
+    /// A literal of the cube whose complement is there too, if there is one.
+    pub fn clash(&self) -> Option<Lit>
+        ensures same { is_some result ≡ self.now.clashing }
+        ensures has { (q : List Literal) → self.now.cube ≡ Some q → IfSome result (HasBoth q) }
+    {
+        self.clash
     }
 
     /// The trail.

@@ -18,7 +18,7 @@ use Rattle.asp_crew_laws.specs.Reports.{IsPlayed, IsPlayedBy, IsReport}
 use Rattle.asp_crew_laws.specs.Runs.{asks, task_of}
 use Rattle.asp_crew_laws.specs.Working.{MayBegin}
 use Rattle.asp_crew_laws.proofs.SharedLaws.{shared-when}
-use Rattle.asp_crew.specs.Running.{HasNoQuery, IsRunFor}
+use Rattle.asp_crew.specs.Running.{QueryStands, IsRunFor}
 use Rattle.asp_worker.specs.declared.worker.Worker.{Worker}
 use Rattle.asp_worker.specs.declared.worker.Shared.{Shared}
 use Rattle.asp_team.specs.declared.lead.Lead.{Lead}
@@ -41,8 +41,8 @@ book-task p ask budget b v w is same about = let e : Some b.task ≡ Some (task_
 pub run-in : (p : Program) (ask : Ask) (budget : ℕ) (t : Task) → t ≡ task_of p ask budget → IsRunFor ask t
 run-in p ask budget t e = subst (IsRunFor ask) (sym e) refl
 
-pub run-query : (p : Program) (ask : Ask) (budget : ℕ) (t : Task) → t ≡ task_of p ask budget → HasNoQuery t
-run-query p ask budget t e = subst HasNoQuery (sym e) refl
+pub run-query : (p : Program) (ask : Ask) (budget : ℕ) (t : Task) → t ≡ task_of p ask budget → QueryStands t
+run-query p ask budget t e = subst QueryStands (sym e) tt
 
 pub run-begins : (p : Program) (ask : Ask) (budget : ℕ) (t : Task) → t ≡ task_of p ask budget → MayBegin ask.mode None t.goal
 run-begins p ask budget t e = subst (λ (x : Task). MayBegin ask.mode None x.goal) (sym e) (inl ((ask.by_name, refl), refl))

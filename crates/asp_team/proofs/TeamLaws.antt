@@ -35,7 +35,7 @@ use Rattle.asp_team.proofs.JoinLaws.{place-kept, place-last}
 -- ---- the first seat at a new book
 pub opened-idle : (p : Program) (ask : Ask) (budget : ℕ) (v : Knows) → budget < 2 ^ 64 → v ≡ opened (runs.task_of p ask budget) [] → IsIdle v
 opened-idle p ask budget v fits is = subst IsIdle (sym is) (record {
-  settled = record { seated = record { about = refl; rests = refl; lawful = tt }; run = record { query = refl; budget = fits } };
+  settled = record { seated = record { about = refl; rests = refl; lawful = tt }; run = record { query = tt; budget = fits } };
   free = refl;
   home = refl;
 })

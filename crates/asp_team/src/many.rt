@@ -11,7 +11,8 @@ ghost use Rattle.asp_crew_laws.specs.Proofs.{HasProof};
 ghost use Rattle.asp_crew_laws.specs.Reports.{IsReport, IsIdle as IsIdleBoard};
 ghost use Rattle.asp_crew_laws.specs.Runs.{asks, task_of};
 ghost use Rattle.asp_crew_laws.specs.Working.{MayBegin};
-ghost use Rattle.asp_crew.specs.Running.{Finishes, HasNoQuery};
+ghost use Rattle.asp_crew.specs.Refuting.{HasCore};
+ghost use Rattle.asp_crew.specs.Running.{Finishes, QueryStands};
 ghost use Rattle.asp_slots.specs.Shelves.{HasAllBack};
 ghost use Rattle.asp_worker.specs.Seats.{IsIdle};
 ghost use Rattle.asp_team.specs.Joined.{IsHome, IsLead};
@@ -130,7 +131,7 @@ fn work_off<'a, W: Watch>(
     watch: &mut W,
     recorder: &'a Recorder,
 ) -> Result<Option<Conflict>, AllocError>
-    requires task { HasNoQuery book.old.task }
+    requires task { QueryStands book.old.task }
     requires goal { MayBegin plan.ask.mode None book.old.task.goal }
     requires of { book.old.task.program ≡ compiled.now }
     requires fits { book.old.task.budget < 2 ^ 64 }
@@ -170,6 +171,7 @@ fn ended<W: Watch>(
     ensures report { IfOk result (λ r. IsReport compiled.now (asks plan.ask.mode plan.ask.models plan.ask.by_name) plan.budget r.0) }
     ensures second { IfOk result (λ r. r.0.second ≡ None) }
     ensures proof { IfOk result (λ r. r.0.proof ≡ None) }
+    ensures core { IfOk result (λ r. HasCore compiled.now r.0) }
     ensures shared { IfOk result (λ r. (never : Bool) (begun : List Event) → HaveLeft lead never begun → IsShared (task_of compiled.now plan.ask plan.budget) r.0.short never r.0.journal) }
     ensures workers { AreNumbered (count_of shared.tallies) deeds.new.workers.items }
     ensures heard { W.IsAfter watch.old watch.new }
@@ -187,7 +189,13 @@ fn ended<W: Watch>(
         watch,
         &recorder,
     ) {
-        Ok(unpaid) => Ok((reported(plan.ask, book, unpaid, log, short), recorder)),
+        Ok(unpaid) => match reported(alloc, compiled, plan.ask, book, unpaid, log, short) {
+            Ok(report) => Ok((report, recorder)),
+            Err(error) => {
+                mem::drop(recorder);
+                Err(error)
+            }
+        },
         Err(error) => {
             mem::drop(book);
             mem::drop(recorder);
@@ -215,6 +223,7 @@ fn finished<W: Watch>(
     requires apart { plan.proof ≡ true → plan.ask.all_optima ≡ false }
     ensures report { IfOk result (IsReport compiled.now plan.ask plan.budget) }
     ensures proof { IfOk result (HasProof plan.proof) }
+    ensures core { IfOk result (HasCore compiled.now) }
     ensures shared { IfOk result (λ r. (never : Bool) (begun : List Event) → HaveLeft lead never begun → IsShared (task_of compiled.now plan.ask plan.budget) r.short never r.journal) }
     ensures workers { AreNumbered (count_of shared.tallies) deeds.new.workers.items }
     ensures heard { W.IsAfter watch.old watch.new }
@@ -244,6 +253,7 @@ fn worked<R: Threads + Wait + Sync, G: Gate + Sync, H: Halt + Sync, W: Watch + D
     requires apart { plan.proof ≡ true → plan.ask.all_optima ≡ false }
     ensures report { IfOk result.0 (IsReport compiled.now plan.ask plan.budget) }
     ensures proof { IfOk result.0 (HasProof plan.proof) }
+    ensures core { IfOk result.0 (HasCore compiled.now) }
     ensures shared { IfOk result.0 (λ r. (never : Bool) → (never ≡ true → H.never halt.now) → IsShared (task_of compiled.now plan.ask plan.budget) r.short never r.journal) }
     ensures workers { AreNumbered (count_of team.shared.tallies) deeds.new.workers.items }
     ensures heard { W.IsAfter watch result.1 }
@@ -282,6 +292,7 @@ pub fn solve_with<R: Threads + Wait + Sync, G: Gate + Sync, H: Halt + Sync, W: W
     requires apart { plan.proof ≡ true → plan.ask.all_optima ≡ false }
     ensures report { IfOk result.0 (IsReport compiled.now plan.ask plan.budget) }
     ensures proof { IfOk result.0 (HasProof plan.proof) }
+    ensures core { IfOk result.0 (HasCore compiled.now) }
     ensures shared { IfOk result.0 (λ r. (never : Bool) → (never ≡ true → H.never halt.now) → IsShared (task_of compiled.now plan.ask plan.budget) r.short never r.journal) }
     ensures workers { OnOk result.0 (AreNumbered plan.workers deeds.new.workers.items) }
     ensures heard { W.IsAfter watch result.1 }
@@ -314,6 +325,7 @@ pub fn solve<R: Threads + Wait + Sync, G: Gate + Sync, W: Watch + Drop>(
     requires apart { plan.proof ≡ true → plan.ask.all_optima ≡ false }
     ensures report { IfOk result.0 (IsReport compiled.now plan.ask plan.budget) }
     ensures proof { IfOk result.0 (HasProof plan.proof) }
+    ensures core { IfOk result.0 (HasCore compiled.now) }
     ensures shared { IfOk result.0 (λ r. IsShared (task_of compiled.now plan.ask plan.budget) r.short true r.journal) }
     ensures workers { OnOk result.0 (AreNumbered plan.workers deeds.new.workers.items) }
     ensures heard { W.IsAfter watch result.1 }

@@ -13,7 +13,7 @@ use Rattle.asp_model.specs.Sets.{Atoms, same_set}
 use Rattle.asp_model.specs.Costs.{cost}
 use Rattle.asp_rows.specs.declared.row.Row.{Row}
 use Rattle.asp_rows.specs.Listed.{IsRowFor}
-use Rattle.asp_vars.specs.Entailment.{Settled, costs_bound}
+use Rattle.asp_vars.specs.Entailment.{costs_bound}
 use Rattle.asp_vars.specs.Literals.{Literal, hits}
 use Rattle.asp_vars.specs.Numbering.{values}
 use Rattle.asp_vars.specs.Paid.{Units, Clash}
@@ -42,10 +42,11 @@ use Rattle.asp_search_laws.specs.declared.step.Step.{Step}
 use Rattle.asp_search_laws.specs.declared.step.Step.TheVariants as step
 use Rattle.asp_crew_laws.specs.Working.{IsAtWork, IsSought}
 use Rattle.asp_crew_laws.proofs.WorkLaws.{work-on, work-delivered, may-list}
+use Rattle.asp_worker.proofs.StepLaws.{settled-same}
 use Rattle.asp_worker.specs.Seats.{IsRun, IsSettled, IsTidy, Idles}
 use Rattle.asp_worker.specs.Working.{GoesOn, IsOn, Finds, IsNew, AreNew, Gathers}
 use Rattle.asp_worker.proofs.OwnLaws.{By, behaves-call}
-use Rattle.asp_worker.proofs.SeatLaws.{board-task, query-none, settled-board, holds-idles, cube-idles}
+use Rattle.asp_worker.proofs.SeatLaws.{board-task, settled-board, holds-idles, cube-idles}
 use Rattle.asp_worker.proofs.RecordLaws.{not-dear}
 
 abbrev pub sets_of : List Listing → List Atoms
@@ -117,8 +118,8 @@ module _ (s x t : Searching) (q : List Literal) (found : List Listing) (g : Gath
     pub gathers-restarted : r ≡ step.Restarted → Gathers s t q found
     gathers-restarted e = gathers-same (at step.Restarted e).same
 
-    pub gathers-closed : r ≡ step.Closed → Gathers s t q found
-    gathers-closed e = gathers-same (at step.Closed e).same
+    pub gathers-closed : (n : Nogood) → r ≡ step.Closed n → Gathers s t q found
+    gathers-closed n e = gathers-same (at (step.Closed n) e).same
 
     pub gathers-stopped : (y : Clash) → r ≡ step.NoFuel y → Gathers s t q found
     gathers-stopped y e = gathers-same (at (step.NoFuel y) e).same
@@ -126,18 +127,11 @@ module _ (s x t : Searching) (q : List Literal) (found : List Listing) (g : Gath
     pub gathers-answer : (S : Atoms) (row : Row) → r ≡ step.Answer S → IsRowFor (atoms_of t.program) S row → Gathers s t q (found ++ record { row = row; set = S } ∷ [])
     gathers-answer S row e for = let d = at (step.Answer S) e in gathers-more S row d.program d.mode d.cube d.stable d.hit d.new d.cheaper d.records for
 
-    settled-same : HasSameTask x t → (p : List Literal) → Settled x.program (used x) x.bound p → Settled t.program (used t) t.bound p
-    settled-same same p settled =
-        subst (λ (a : Program). Settled a (used_up (reasoning_of t.mode) a t.known) t.bound p) (sym same.program)
-        (subst (λ (m : Mode). Settled x.program (used_up (reasoning_of m) x.program t.known) t.bound p) (sym same.mode)
-        (subst (λ (k : List Atoms). Settled x.program (used_up (reasoning_of x.mode) x.program k) t.bound p) (sym same.known)
-        (subst (λ (b : Option (List ℤ)). Settled x.program (used x) b p) (sym same.bound) settled)))
-
-    pub closed-settled : (p : List Literal) → r ≡ step.Closed → t.cube ≡ Some p → Settled t.program (used t) t.bound p
-    closed-settled p e on =
-        let same : HasSameTask x t = (at step.Closed e).same in
-        let d : Steps gives silent x t p f h step.Closed = subst (λ (z : Step). Steps gives silent x t p f h z) e (is p (sym same.cube ∙ on)) in
-        settled-same same p d.settled
+    pub closed-done : (n : Nogood) (p : List Literal) → r ≡ step.Closed n → t.cube ≡ Some p → IsDone t p n
+    closed-done n p e on =
+        let same : HasSameTask x t = (at (step.Closed n) e).same in
+        let d : Steps gives silent x t p f h (step.Closed n) = subst (λ (z : Step). Steps gives silent x t p f h z) e (is p (sym same.cube ∙ on)) in
+        (d.within, settled-same x t same n.lits d.settled)
 
 -- the first one
 gathers-first : (m : Mode) (v : Knows) (s t : Searching) (u : Units) (leaf : ℕ) (S : Atoms) (row : Row) → m ≡ Enum → Finds m v s t u leaf S → IsRowFor (atoms_of t.program) S row → Gathers s t (cube_of (seen_board v).nodes leaf) (record { row = row; set = S } ∷ [])
@@ -181,7 +175,7 @@ module _ (m : Mode) (v : Knows) (s t : Searching) (u : Units) (leaf : ℕ) (foun
         let run : IsRun b.task = subst IsRun (sym (board-task v)) set.run in
         record {
           listed = may-list b.task s.bound x.set sought-all (subst (λ (p : Program). costs_bound p s.bound x.set ≡ false) same-program (not-dear s.program s.bound x.set n.cheaper));
-          answer = answer-in_cube b.task (cube_of b.nodes leaf) x.set (wanted-stand b.task (query-none b.task run))
+          answer = answer-in_cube b.task (cube_of b.nodes leaf) x.set (wanted-stand b.task run.query)
               (cube-at b.task b.nodes leaf (leaf-within b.nodes leaf (ap is_leaf on.works.held)) (settled-board v set).cubes)
               (subst (λ (p : Program). IsTrue (is_stable p x.set)) same-program n.stable)
               (subst (λ (p : Program). IsTrue (hits (values p x.set) (cube_of b.nodes leaf))) same-program n.hit);

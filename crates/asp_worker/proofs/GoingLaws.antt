@@ -16,7 +16,7 @@ use Rattle.asp_model.specs.Costs.{cost}
 use Rattle.asp_vars.specs.Entailment.{HitsOnly, Settled}
 use Rattle.asp_vars.specs.Literals.{Literal}
 use Rattle.asp_vars.specs.Paid.{Units}
-use Rattle.asp_vars.proofs.ResolutionLaws.{betters_itself, HitsOnly-weaker}
+use Rattle.asp_vars.proofs.ResolutionLaws.{betters_itself}
 use Rattle.asp_vault.specs.Moments.{Stays}
 use Rattle.asp_path.specs.declared.status.Status.TheVariants as status
 use Rattle.asp_core.specs.declared.task.Task.{Task}
@@ -240,7 +240,3 @@ pub best-seen : (v w : Knows) (before : List Event) → Stays v w → IsCall v w
 best-seen v w before stays call r e = e ∙ ap (λ (b : Board). option_map (cost b.task.program) b.best) (sym (seen-after v w before [] stays call))
 
 -- ---- a cube that is settled stays so
-pub done-idles : (v w : Knows) (q : List Literal) → Idles v w → HitsOnly (task_of v).program (is_excused (seen_board v)) q → HitsOnly (seen_board w).task.program (is_excused (seen_board w)) q
-done-idles v w q i h =
-    subst (λ (t : Task). HitsOnly t.program (is_excused (seen_board w)) q) (sym (task-stays v w i.stays) ∙ sym (board-task w))
-    (HitsOnly-weaker (task_of v).program (is_excused (seen_board v)) (is_excused (seen_board w)) q i.grows.excused h)

@@ -1,4 +1,3 @@
-pub mod Cubes
 pub mod EndLaws
 pub mod GatherLaws
 pub mod GoingLaws

@@ -45,7 +45,7 @@ use Rattle.asp_worker.specs.Seats.{IsRun, IsSettled, Idles, Leases, WasEmpty}
 use Rattle.asp_worker.specs.Sharing.{lowered}
 use Rattle.asp_worker.specs.Working.{GoesOn, Finds}
 use Rattle.asp_worker.proofs.OwnLaws.{was-call}
-use Rattle.asp_worker.proofs.SeatLaws.{board-task, query-none, settled-board, settled-leases, guard-was, board-now, idles-call, idles-now, leases-now, idles-leases}
+use Rattle.asp_worker.proofs.SeatLaws.{board-task, settled-board, settled-leases, guard-was, board-now, idles-call, idles-now, leases-now, idles-leases}
 use Rattle.asp_worker.proofs.GoingLaws.{lowered-goes}
 
 -- ---- what is found is an answer
@@ -68,7 +68,7 @@ is-answer m v s t u leaf S set f =
     let b : Board = seen_board v in
     let same : s.program ≡ b.task.program = f.on.going.program ∙ ap (λ (x : Task). x.program) (sym (board-task v)) in
     let run : IsRun b.task = subst IsRun (sym (board-task v)) set.run in
-    answer-in_cube b.task (cube_of b.nodes leaf) S (wanted-stand b.task (query-none b.task run))
+    answer-in_cube b.task (cube_of b.nodes leaf) S (wanted-stand b.task run.query)
     (cube-at b.task b.nodes leaf (leaf-within b.nodes leaf (ap is_leaf f.on.works.held)) (settled-board v set).cubes)
     (subst (λ (p : Program). IsTrue (is_stable p S)) same f.stable)
     (subst (λ (p : Program). IsTrue (hits (values p S) (cube_of b.nodes leaf))) same f.hit)

@@ -1,6 +1,6 @@
 -- What a call at the desk tells of the seat that made it.
 use Rattle.std.proofs.Common.{◌≡◌, ℕ, ◌+◌, ◌<◌, ◌≤◌, Bool, true, false, cond, List, [], ◌∷◌, ◌++◌, length, Option, Some, None, Result, Ok, Err, refl, sym, ap, ◌∙◌, subst, arith}
-use Rattle.std.specs.Prelude.{slice_index_or, is_some, ℤ}
+use Rattle.std.specs.Prelude.{slice_index_or, is_some}
 use Rattle.std.specs.Option.{IfSome}
 use Rattle.std.specs.Result.{OnOk, OnErr, IsErr}
 use Rattle.std.specs.declared.alloc.AllocError.{AllocError}
@@ -20,7 +20,7 @@ use Rattle.asp_core.specs.declared.event.Event.{Event}
 use Rattle.asp_core.specs.declared.event.Event.TheVariants as event
 use Rattle.asp_core.specs.declared.task.Task.{Task}
 use Rattle.asp_core.specs.Units.{out_of}
-use Rattle.asp_core.specs.Boards.{Board, start, IsQuery}
+use Rattle.asp_core.specs.Boards.{Board, start}
 use Rattle.asp_core.specs.Events.{Guard, happens, held_by, run, IsLawful, replay}
 use Rattle.asp_core.specs.Growth.{Grows, Spares}
 use Rattle.asp_core.specs.Invariant.{IsBoard}
@@ -128,11 +128,8 @@ cube-idles v w leaf held i = cube-leases v w leaf held (idles-leases v w i)
 pub board-task : (v : Knows) → (seen_board v).task ≡ task_of v
 board-task v = task-run (start (task_of v)) v.seen
 
-pub query-none : (t : Task) → IsRun t → IsQuery t.program t.query
-query-none t run = subst (λ (q : List ℤ). IsQuery t.program q) (sym run.query) tt
-
 pub settled-board : (v : Knows) → IsSettled v → IsBoard (seen_board v)
-settled-board v s = IsBoard-replay (task_of v) v.seen (query-none (task_of v) s.run) s.seated.lawful
+settled-board v s = IsBoard-replay (task_of v) v.seen s.run.query s.seated.lawful
 
 -- ---- one call
 lawful-first : (b : Board) (xs ys : List Event) → IsLawful b (xs ++ ys) → IsLawful b xs
@@ -157,7 +154,7 @@ module _ (v w : Knows) (before : List Event) (stays : Stays v w) where
     guard-was = (lawful-rest (start (task_of v)) before (e ∷ []) call.moment.keeps).0
 
     pub board-then : IsRun (task_of v) → IsBoard (replay (task_of v) before)
-    board-then run = IsBoard-replay (task_of v) before (query-none (task_of v) run) (lawful-first (start (task_of v)) before (e ∷ []) call.moment.keeps)
+    board-then run = IsBoard-replay (task_of v) before run.query (lawful-first (start (task_of v)) before (e ∷ []) call.moment.keeps)
 
     pub board-now : seen_board w ≡ happens (replay (task_of v) before) e
     board-now = seen-after v w before (e ∷ []) stays call

@@ -17,8 +17,16 @@ use Rattle.asp_search_laws.specs.Steps.{HasSameTask, Burns, IsStep, IsFailure, S
 use Rattle.asp_search_laws.specs.declared.step.Step.{Step}
 use Rattle.asp_search_laws.specs.declared.step.Step.TheVariants as step
 use Rattle.asp_crew_laws.proofs.WorkLaws.{work-burnt}
-use Rattle.asp_worker.specs.Working.{GoesOn, IsOn, IsOff, Finds, Pays}
+use Rattle.asp_worker.specs.Working.{GoesOn, IsDone, IsOn, IsOff, Finds, Pays}
 use Rattle.asp_worker.proofs.GoingLaws.{owes-of, goes-same}
+
+-- what is settled for a search is settled for one of the same task
+pub settled-same : (s t : Searching) → HasSameTask s t → (p : List Literal) → Settled s.program (used s) s.bound p → Settled t.program (used t) t.bound p
+settled-same s t same p settled =
+    subst (λ (a : Program). Settled a (used_up (reasoning_of t.mode) a t.known) t.bound p) (sym same.program)
+    (subst (λ (m : Mode). Settled s.program (used_up (reasoning_of m) s.program t.known) t.bound p) (sym same.mode)
+    (subst (λ (k : List Atoms). Settled s.program (used_up (reasoning_of s.mode) s.program k) t.bound p) (sym same.known)
+    (subst (λ (b : Option (List ℤ)). Settled s.program (used s) b p) (sym same.bound) settled)))
 
 module _ (m : Mode) (v : Knows) (s t : Searching) (f : Units) (leaf : ℕ) (on : IsOn m v s f leaf) where
   -- the same task, and the same units
@@ -62,16 +70,11 @@ module _ (m : Mode) (v : Knows) (s t : Searching) (f : Units) (leaf : ℕ) (on :
     pub none-left : (x : Clash) → r ≡ step.NoFuel x → g.left ≡ 0
     none-left x e = let d = at (step.NoFuel x) e in ap (λ (u : Units). u.left) d.fuel ∙ d.none
 
-    pub on-closed : r ≡ step.Closed → IsOn m v t g leaf
-    on-closed e = let d = at step.Closed e in subst (λ (u : Units). IsOn m v t u leaf) (sym d.fuel) (on-same d.same)
+    pub on-closed : (n : Nogood) → r ≡ step.Closed n → IsOn m v t g leaf
+    on-closed n e = let d = at (step.Closed n) e in subst (λ (u : Units). IsOn m v t u leaf) (sym d.fuel) (on-same d.same)
 
-    pub settled-closed : r ≡ step.Closed → Settled t.program (used t) t.bound (cube_of (seen_board v).nodes leaf)
-    settled-closed e =
-        let d = at step.Closed e in
-        subst (λ (p : Program). Settled p (used_up (reasoning_of t.mode) p t.known) t.bound (cube_of (seen_board v).nodes leaf)) (sym d.same.program)
-        (subst (λ (k : Mode). Settled s.program (used_up (reasoning_of k) s.program t.known) t.bound (cube_of (seen_board v).nodes leaf)) (sym d.same.mode)
-        (subst (λ (k : List Atoms). Settled s.program (used_up (reasoning_of s.mode) s.program k) t.bound (cube_of (seen_board v).nodes leaf)) (sym d.same.known)
-        (subst (λ (b : Option (List ℤ)). Settled s.program (used s) b (cube_of (seen_board v).nodes leaf)) (sym d.same.bound) d.settled)))
+    pub done-closed : (n : Nogood) → r ≡ step.Closed n → IsDone t (cube_of (seen_board v).nodes leaf) n
+    done-closed n e = let d = at (step.Closed n) e in (d.within, settled-same s t d.same n.lits d.settled)
 
     pub finds-answer : (S : Atoms) → r ≡ step.Answer S → Finds m v s t g leaf S
     finds-answer S e =
@@ -104,7 +107,7 @@ step-pays gives silent s t f g r h q e = here r (h q e)
     here step.Decided d = inl d.fuel
     here step.Learnt d = inr d.burns
     here (step.Answer S) d = inl d.fuel
-    here step.Closed d = inl d.fuel
+    here (step.Closed n) d = inl d.fuel
     here (step.NoFuel x) d = inl d.fuel
     here step.Restarted d = inl d.fuel
 

@@ -15,7 +15,7 @@ use Rattle.asp_path.specs.Trees.{nowhere, cube_of, status_of}
 use Rattle.asp_core.specs.declared.event.Event.{Event}
 use Rattle.asp_core.specs.declared.task.Task.{Task}
 use Rattle.asp_core.specs.Units.{out_of}
-use Rattle.asp_core.specs.Boards.{Board, goal_of, is_enough}
+use Rattle.asp_core.specs.Boards.{Board, IsQuery, goal_of, is_enough}
 use Rattle.asp_core.specs.Events.{held_by, maker, replay}
 use Rattle.asp_core.specs.Growth.{Grows, Spares}
 use Rattle.asp_book.specs.Books.{signed, IsJournalOf}
@@ -31,9 +31,9 @@ use Rattle.asp_worker.specs.declared.find.Sight.TheVariants.{Nothing, Others, Ta
 use Rattle.asp_worker.specs.declared.worker.Worker.{Worker}
 use Rattle.asp_worker.specs.declared.worker.Shared.{Shared}
 
--- The run has no query, and no more units than a word counts.
+-- The query's atoms stand in the program, and the units are no more than a word counts.
 pub record IsRun (t : Task) : Type 0 where
-  pub query : t.query ≡ []
+  pub query : IsQuery t.program t.query
   pub budget : t.budget < 2 ^ 64
 
 -- ---- who did what

@@ -6,10 +6,12 @@ use Rattle.asp_model.specs.declared.results.Mode.TheVariants.{Enum}
 use Rattle.asp_model.specs.Costs.{cost}
 use Rattle.asp_model.specs.Models.{atoms_of, is_stable}
 use Rattle.asp_model.specs.Sets.{Atoms, same_set}
+use Rattle.asp_vars.specs.Conflicts.{has_all}
 use Rattle.asp_vars.specs.Entailment.{Settled}
 use Rattle.asp_vars.specs.Literals.{Literal, hits}
 use Rattle.asp_vars.specs.Numbering.{values}
 use Rattle.asp_vars.specs.Paid.{Units}
+use Rattle.asp_vars.specs.declared.nogood.Nogood.{Nogood}
 use Rattle.asp_path.specs.Trees.{cube_of}
 use Rattle.asp_rows.specs.Listed.{IsRowFor}
 use Rattle.asp_book.specs.declared.listing.Listing.{Listing}
@@ -18,6 +20,8 @@ use Rattle.asp_crew_laws.specs.Working.{IsAtWork, Works}
 use Rattle.asp_propagate.specs.Useful.{IsSmaller}
 use Rattle.asp_search_laws.specs.Searching.{Searching, used}
 use Rattle.asp_search_laws.specs.Steps.{Burns, Records}
+use Rattle.asp_worker.specs.declared.gather.Pause.{Pause}
+use Rattle.asp_worker.specs.declared.gather.Pause.TheVariants as pause
 use Rattle.asp_worker.specs.declared.path.Course.{Course}
 use Rattle.asp_worker.specs.declared.path.Course.TheVariants.{Open, Done, Spent}
 use Rattle.asp_worker.specs.declared.path.Way.{Way}
@@ -85,11 +89,21 @@ pub record Gathers (s t : Searching) (q : List Literal) (found : List Listing) :
   pub new : AreNew s q s.known found
 
 -- ---- how a step left the path
+-- The path has all of the nogood's literals, and nothing is left to be found by it.
+abbrev pub IsDone : Searching → List Literal → Nogood → Type 0
+IsDone s q n = IsTrue (has_all q n.lits) × Settled s.program (used s) s.bound n.lits
+
 -- what is known by how a step left the path
 abbrev pub IsCourse : Knows → Searching → ℕ → Course → Type 0
 IsCourse v s leaf Open = Unit {0}
-IsCourse v s leaf Done = Settled s.program (used s) s.bound (cube_of (seen_board v).nodes leaf)
+IsCourse v s leaf (Done n) = IsDone s (cube_of (seen_board v).nodes leaf) n
 IsCourse v s leaf Spent = WasEmpty v
+
+-- what is known by why no more answers are gathered
+abbrev pub IsPause : Searching → Pause → Type 0
+IsPause s pause.Due = Unit {0}
+IsPause s pause.Restarted = Unit {0}
+IsPause s (pause.Closed n) = (q : List Literal) → s.cube ≡ Some q → IsDone s q n
 
 -- what is known where a path is given up
 abbrev pub IsStop : Knows → Stop → Type 0

@@ -1,10 +1,9 @@
 //! How a worker gathers answers, and delivers several in one turn of the book's lock.
-ghost use Rattle.std.specs.Prelude.{◌≡◌, ◌≤◌, ◌++◌, ◌∷◌, ℕ, List, [], Some, IsTrue, OnOk, OnErr, IfOk, IfErr};
+ghost use Rattle.std.specs.Prelude.{◌≡◌, ◌≤◌, ◌++◌, ◌∷◌, ℕ, List, [], IsTrue, OnOk, OnErr, IfOk, IfErr, IfSome};
 ghost use Rattle.asp_model.specs.declared.results.Mode.TheVariants as mode;
 ghost use Rattle.asp_model.specs.Models.{atoms_of};
 ghost use Rattle.asp_rows.specs.Listed.{IsRowFor};
 ghost use Rattle.asp_rows.specs.declared.row.Row.{Row as RowOf};
-ghost use Rattle.asp_vars.specs.Entailment.{Settled};
 ghost use Rattle.asp_vars.specs.Literals.{Literal};
 ghost use Rattle.asp_vars.specs.Paid.{Units};
 ghost use Rattle.asp_vault.specs.Seats.{view, IsOf, IsBeside};
@@ -12,11 +11,10 @@ ghost use Rattle.asp_core.specs.declared.event.Event.{Event};
 ghost use Rattle.asp_path.specs.Trees.{cube_of};
 ghost use Rattle.asp_book.specs.Calls.{seen_board, IsCall};
 ghost use Rattle.asp_book.specs.Replies.{deliveries};
-ghost use Rattle.asp_search_laws.specs.Searching.{Searching, used};
+ghost use Rattle.asp_search_laws.specs.Searching.{Searching};
 ghost use Rattle.asp_slots.specs.Shelves.{seen_count};
-ghost use Rattle.asp_worker.specs.declared.gather.Pause.TheVariants as pause;
 ghost use Rattle.asp_worker.specs.Seats.{IsReady, IsSettled, Idles, Keeps};
-ghost use Rattle.asp_worker.specs.Working.{IsOn, IsOff, IsCourse, IsStop, Finds, Gathers};
+ghost use Rattle.asp_worker.specs.Working.{IsOn, IsOff, IsCourse, IsPause, IsStop, Finds, Gathers};
 
 use crate::engine::Engine;
 use crate::path::{Course, step};
@@ -33,6 +31,7 @@ use asp_path::tree::Leaf;
 use asp_propagate::propagator::Propagator;
 use asp_search::search::Search;
 use asp_search_laws::step::Step;
+use asp_vars::nogood::Nogood;
 use asp_vault::Seat;
 use std::alloc::{AllocError, Global};
 use std::sync::Wait;
@@ -44,14 +43,14 @@ const TOGETHER: usize = 8;
 const STEPS: u32 = 16;
 
 /// Why no more answers are gathered.
-#[derive(Clone, Copy)]
+#[derive(Drop)]
 pub(crate) enum Pause {
     /// Enough were gathered for one turn, or a conflict is to be paid for, or it is time to share.
     Due,
     /// The search has begun again, and may take over what others found.
     Restarted,
-    /// Nothing is left to be found.
-    Closed,
+    /// Nothing is left to be found, by this nogood.
+    Closed(Nogood),
 }
 
 // Whether answers may wait for others: all are asked for.
@@ -87,7 +86,7 @@ fn turn<R: Wait, P: Propagator>(
     requires gathers { (s : Searching) × (q : List Literal) × Gathers s engine.old.search q found.old.items }
     ensures engine { (engine.new.fuel ≡ engine.old.fuel) × (engine.new.read ≡ engine.old.read) }
     ensures gathers { OnOk result ((s : Searching) (q : List Literal) → Gathers s engine.old.search q found.old.items → Gathers s engine.new.search q found.new.items) }
-    ensures closed { IfOk result (λ r. r ≡ Some pause.Closed → (q : List Literal) → engine.new.search.cube ≡ Some q → Settled engine.new.search.program (used engine.new.search) engine.new.search.bound q) }
+    ensures pause { IfOk result (λ r. IfSome r (IsPause engine.new.search)) }
 {
     let mut none = engine.fuel.part(0);
     match step(
@@ -104,7 +103,7 @@ fn turn<R: Wait, P: Propagator>(
             Ok(None)
         }
         Step::Restarted => Ok(Some(Pause::Restarted)),
-        Step::Closed => Ok(Some(Pause::Closed)),
+        Step::Closed(nogood) => Ok(Some(Pause::Closed(nogood))),
         Step::Learnt => Ok(Some(Pause::Due)),
         Step::NoFuel(_) => Ok(Some(Pause::Due)),
     }
@@ -126,7 +125,7 @@ fn gather<R: Wait, P: Propagator>(
     requires gathers { (s : Searching) × (q : List Literal) × Gathers s engine.old.search q found.old.items }
     ensures engine { (engine.new.fuel ≡ engine.old.fuel) × (engine.new.read ≡ engine.old.read) }
     ensures gathers { OnOk result ((s : Searching) (q : List Literal) → Gathers s engine.old.search q found.old.items → Gathers s engine.new.search q found.new.items) }
-    ensures closed { IfOk result (λ r. r ≡ pause.Closed → (q : List Literal) → engine.new.search.cube ≡ Some q → Settled engine.new.search.program (used engine.new.search) engine.new.search.bound q) }
+    ensures pause { IfOk result (IsPause engine.new.search) }
 {
     'steps: for _ in 0..STEPS {
         if is_due(engine, found) {
@@ -191,7 +190,7 @@ fn answers<R: Wait, P: Propagator>(
             refresh(rt, shared, worker, engine)?;
             Ok(Course::Open)
         }
-        Pause::Closed => Ok(Course::Done),
+        Pause::Closed(nogood) => Ok(Course::Done(nogood)),
     }
 }
 

@@ -1,5 +1,6 @@
 //! How a worker searches a path.
-ghost use Rattle.std.specs.Prelude.{◌≡◌, ◌<◌, ◌≤◌, IfOk, IfErr, IsSome, OnOk, OnErr};
+ghost use Rattle.std.specs.Prelude.{◌≡◌, ◌<◌, ◌≤◌, IfOk, IfErr, IsSome, IsTrue, OnOk, OnErr};
+ghost use Rattle.asp_vars.specs.Conflicts.{has_all};
 ghost use Rattle.asp_vars.specs.Entailment.{HitsOnly};
 ghost use Rattle.asp_vault.specs.Seats.{view, IsOf, IsBeside};
 ghost use Rattle.asp_path.specs.Trees.{cube_of};
@@ -28,6 +29,7 @@ use asp_recorder::recorder::Recorder;
 use asp_search::search::Search;
 use asp_search_laws::step::Step;
 use asp_vars::fuel::Fuel;
+use asp_vars::nogood::Nogood;
 use asp_vault::Seat;
 use std::alloc::AllocError;
 use std::sync::Wait;
@@ -44,34 +46,35 @@ pub(crate) enum Way {
 }
 
 /// How a step left the path.
-#[derive(Clone, Copy)]
+#[derive(Drop)]
 pub(crate) enum Course {
     /// There is more to search.
     Open,
-    /// Nothing is left to be found.
-    Done,
+    /// Nothing is left to be found, by this nogood.
+    Done(Nogood),
     /// No unit was left for a conflict.
     Spent,
 }
 
-// Closes a path of which nothing is left to be found.
+// Closes a path of which nothing is left to be found, by this nogood.
 fn close<R: Wait>(
     rt: &R,
     shared: &Shared,
     seat: &mut Seat<Book>,
     leaf: Leaf,
+    nogood: &Nogood,
 ) -> Result<(), AllocError>
     requires of { IsOf shared.now.book seat.old }
     requires settled { IsSettled (view seat.old) }
     requires held { Holds (view seat.old) leaf }
-    requires done { HitsOnly (task_of (view seat.old)).program (is_excused (seen_board (view seat.old))) (cube_of (seen_board (view seat.old)).nodes leaf) }
+    requires within { IsTrue (has_all (cube_of (seen_board (view seat.old)).nodes leaf) nogood.now.lits) }
+    requires done { HitsOnly (task_of (view seat.old)).program (is_excused (seen_board (view seat.old))) nogood.now.lits }
     ensures of { IsBeside seat.old seat.new }
     ensures passes { Passes (view seat.old) (view seat.new) }
     ensures ok { OnOk result (IsFree (view seat.new)) }
     ensures err { OnErr result (Holds (view seat.new) leaf) }
 {
-    let cube = desk::cube(rt, &shared.book, seat, leaf)?;
-    desk::close(rt, &shared.book, seat, leaf, cube.as_slice())
+    desk::close(rt, &shared.book, seat, leaf, nogood.lits.as_slice())
 }
 
 /// One step of the search, which is counted and written down.
@@ -140,7 +143,7 @@ fn advance<R: Wait, P: Propagator>(
                 Ok(Course::Spent)
             }
         }
-        Step::Closed => Ok(Course::Done),
+        Step::Closed(nogood) => Ok(Course::Done(nogood)),
     }
 }
 
@@ -195,8 +198,8 @@ fn search_path<R: Wait, P: Propagator, H: Halt, W: Watch>(
         match course {
             Course::Open => share(rt, shared, worker, engine, leaf)?,
             Course::Spent => return Ok(Way::Left),
-            Course::Done => {
-                close(rt, shared, &mut worker.seat, *leaf)?;
+            Course::Done(nogood) => {
+                close(rt, shared, &mut worker.seat, *leaf, &nogood)?;
                 return Ok(Way::Closed);
             }
         }

@@ -1,7 +1,8 @@
-use Rattle.std.proofs.Common.{◌≡◌, false, ap, ◌∙◌}
+use Rattle.std.proofs.Common.{◌≡◌, false, ap, ◌∙◌, subst, sym}
 use Rattle.std.proofs.lemmas.Result.{IfOk-weaker}
 use Rattle.asp_crew_laws.specs.declared.report.Report.{Report}
 use Rattle.asp_crew_laws.specs.Reports.{IsReport}
+use Rattle.asp_crew.specs.Refuting.{HasCore}
 use Rattle.asp_crew.proofs.ProofLaws.{first-whole, report_with}
 use Rattle.asp_crew.proofs.alone.solve_recorded.Goals as goal
 
@@ -24,3 +25,9 @@ returns-in-Ok-clause-short g c =
     let first : Report = c.in-Ok.report in
     IfOk-weaker c.with_proof.result (λ (r : Report). r ≡ record first { proof = r.proof }) (λ (r : Report). r.short ≡ false)
     (λ r same. ap (λ (x : Report). x.short) same ∙ c.in-Ok.ensures.short) c.with_proof.ensures.same
+
+pub returns-in-Ok-clause-core : goal.returns-in-Ok-clause-core
+returns-in-Ok-clause-core g c =
+    let first : Report = c.in-Ok.report in
+    IfOk-weaker c.with_proof.result (λ (r : Report). r ≡ record first { proof = r.proof }) (HasCore c.args.compiled.now)
+    (λ r same. subst (HasCore c.args.compiled.now) (sym same) c.in-Ok.ensures.core) c.with_proof.ensures.same

@@ -3,7 +3,7 @@ use Rattle.asp_vars.specs.Paid.{Units}
 use Rattle.asp_core.specs.declared.task.Task.{Task}
 use Rattle.asp_book.specs.Books.{with_events}
 use Rattle.asp_book.specs.Replies.{leased_out}
-use Rattle.asp_crew.specs.Running.{HasNoQuery}
+use Rattle.asp_crew.specs.Running.{QueryStands}
 use Rattle.asp_crew.proofs.AddLaws.{adds-trans}
 use Rattle.asp_crew.proofs.BookLaws.{pool-fits}
 use Rattle.asp_crew.proofs.FinishLaws.{IsLeased, leased-is, leased-works, idle-after, task-after, adds-after, finished}
@@ -14,7 +14,7 @@ search_all-requires-clause-task g c =
     let leased : IsLeased c.args.book.now c.lease.new.self =
     leased-is c.args.book.now c.lease.new.self c.requires.idle (pool-fits c.args.book.now c.requires.task c.journal-lawful.ensures.lawful c.requires.fits)
     (c.in_ok-fuel.ensures.journal ∙ ap (λ (u : Units). with_events c.args.book.now (leased_out 0 u)) c.in_ok-fuel.ensures.fuel) in
-    subst (λ (t : Task). HasNoQuery t) (sym leased.task) c.requires.task
+    subst (λ (t : Task). QueryStands t) (sym leased.task) c.requires.task
 
 pub search_all-requires-clause-of : goal.search_all-requires-clause-of
 search_all-requires-clause-of g c =

@@ -37,7 +37,7 @@ returns-in_ok-take_known-in-Answer g c =
     c.unshown_atoms-knew.ensures c.in_ok-take_known-in-Answer.ensures
 
 pub returns-in-Closed : goal.returns-in-Closed
-returns-in-Closed g c = closed _ _ c.args.mode c.args.book.now c.args.search.now c.step.new.search c.args.fuel.now c.step.new.fuel c.requires.underway _ c.in_ok-step.ensures.ok c.in-Closed.is
+returns-in-Closed g c = closed _ _ c.args.mode c.args.book.now c.args.search.now c.step.new.search c.args.fuel.now c.step.new.fuel c.requires.underway _ c.in_ok-step.ensures.ok c.requires.wanted c.in-Closed.nogood c.in-Closed.is
 
 pub returns-in-NoFuel : goal.returns-in-NoFuel
 returns-in-NoFuel g c = unpaid _ _ c.args.mode c.args.book.now c.args.search.now c.step.new.search c.args.fuel.now c.step.new.fuel c.requires.underway _ c.in_ok-step.ensures.ok c.requires.wanted c.in-NoFuel.conflict c.in-NoFuel.is

@@ -22,7 +22,7 @@ steps-smaller g c =
 
 pub returns-in-Closed-clause-ends : goal.returns-in-Closed-clause-ends
 returns-in-Closed-clause-ends g c =
-    along-closed c.args.mode c.args.book.now c.steps.book c.advance.new.book c.args.search.now c.steps.search c.advance.new.search c.steps.fuel c.advance.new.fuel c.steps.invariant.along
+    along-closed c.args.mode c.args.book.now c.steps.book c.advance.new.book c.args.search.now c.steps.search c.advance.new.search c.steps.fuel c.advance.new.fuel c.in-Closed.nogood c.steps.invariant.along
     (subst (λ (how : Course). Goes c.args.mode c.steps.book c.advance.new.book c.steps.search c.advance.new.search c.steps.fuel c.advance.new.fuel how) c.in-Closed.is c.in_ok-course.ensures)
 
 pub returns-in-Closed-clause-heard : goal.returns-in-Closed-clause-heard

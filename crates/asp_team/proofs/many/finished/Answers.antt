@@ -5,6 +5,7 @@ use Rattle.asp_crew_laws.specs.declared.report.Report.{Report}
 use Rattle.asp_crew_laws.specs.Proofs.{HasProof}
 use Rattle.asp_crew_laws.specs.Reports.{IsReport}
 use Rattle.asp_crew_laws.specs.Runs.{asks}
+use Rattle.asp_crew.specs.Refuting.{HasCore}
 use Rattle.asp_crew.proofs.ProofLaws.{first-whole, none_has, report_with}
 use Rattle.asp_core.specs.declared.event.Event.{Event}
 use Rattle.asp_crew_laws.specs.Gone.{IsShared}
@@ -49,3 +50,14 @@ returns-else-plan-clause-shared g c =
     IfOk-weaker c.with_ties.result (λ (r : Report). (r.journal ≡ first.journal) × (r.short ≡ first.short)) (λ (r : Report). (never : Bool) (begun : List Event) → HaveLeft c.args.lead never begun → IsShared (task_of c.args.compiled.now c.args.plan.ask c.args.plan.budget) r.short never r.journal)
     (λ r same never begun left.
     subst (λ (s : Bool). IsShared (task_of c.args.compiled.now c.args.plan.ask c.args.plan.budget) s never r.journal) (sym same.1) (subst (IsShared (task_of c.args.compiled.now c.args.plan.ask c.args.plan.budget) first.short never) (sym same.0) (c.in_ok-report.ensures.shared never begun left))) c.with_ties.ensures.same
+
+pub returns-then-plan-clause-core : goal.returns-then-plan-clause-core
+returns-then-plan-clause-core g c =
+    let first : Report = c.in_ok-report.report in
+    IfOk-weaker c.with_proof.result (λ (r : Report). r ≡ record first { proof = r.proof }) (HasCore c.args.compiled.now)
+    (λ r same. subst (HasCore c.args.compiled.now) (sym same) c.in_ok-report.ensures.core) c.with_proof.ensures.same
+
+pub returns-else-plan-clause-core : goal.returns-else-plan-clause-core
+returns-else-plan-clause-core g c =
+    let first : Report = c.in_ok-report.report in
+    IfOk-weaker c.with_ties.result (λ (r : Report). HasCore c.args.compiled.now first → HasCore c.args.compiled.now r) (HasCore c.args.compiled.now) (λ r h. h c.in_ok-report.ensures.core) c.with_ties.ensures.core

@@ -5,7 +5,8 @@ use Rattle.asp_path.specs.Trees.{cube_of}
 use Rattle.asp_book.specs.Calls.{Knows, seen_board}
 use Rattle.asp_slots.specs.Shelves.{seen_count}
 use Rattle.asp_worker.specs.declared.worker.Worker.{Worker}
-use Rattle.asp_worker.specs.Working.{IsOn}
+use Rattle.asp_worker.specs.declared.gather.Pause.{Pause}
+use Rattle.asp_worker.specs.Working.{IsOn, IsPause}
 use Rattle.asp_worker.proofs.GatherLaws.{gathers-begun, gathered-on}
 use Rattle.asp_worker.proofs.PathLaws.{refreshed-on}
 use Rattle.asp_worker.proofs.RecordLaws.{found-program}
@@ -76,7 +77,7 @@ returns-in-Closed-clause-course g c =
     let l = c.in_ok-list_all.ensures.ok in
     let on : IsOn c.args.shared.now.mode w c.gather.new.engine.search c.gather.new.engine.fuel c.args.leaf =
     gathered-on v w l.0 c.list_all.ensures.idles.stays c.gather.new.found.items l.1 c.args.shared.now.mode f.0 c.gather.new.engine.search c.args.engine.now.fuel c.args.leaf f.1.on G c.gather.new.engine.fuel c.gather.ensures.engine.0 in
-    c.in_ok-pause.ensures.closed c.in-Closed.is (cube_of (seen_board w).nodes c.args.leaf) on.works.entered
+    subst (λ (x : Pause). IsPause c.gather.new.engine.search x) c.in-Closed.is c.in_ok-pause.ensures.pause (cube_of (seen_board w).nodes c.args.leaf) on.works.entered
 
 pub returns-in_ok-refresh-in-Restarted-clause-ok : goal.returns-in_ok-refresh-in-Restarted-clause-ok
 returns-in_ok-refresh-in-Restarted-clause-ok g c =

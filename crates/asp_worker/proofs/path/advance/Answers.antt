@@ -5,7 +5,7 @@ use Rattle.asp_core.specs.declared.task.Task.{Task}
 use Rattle.asp_book.specs.Calls.{Knows}
 use Rattle.asp_worker.specs.declared.worker.Worker.{Worker}
 use Rattle.asp_worker.proofs.SeatLaws.{board-task, keeps-self, keeps-seat, keeps-pages, ready-seat}
-use Rattle.asp_worker.proofs.StepLaws.{on-decided, on-restarted, on-learnt, on-stopped, none-left, on-closed, settled-closed, finds-answer, off-paid}
+use Rattle.asp_worker.proofs.StepLaws.{on-decided, on-restarted, on-learnt, on-stopped, none-left, on-closed, done-closed, finds-answer, off-paid}
 use Rattle.asp_worker.specs.Working.{IsOn, IsOff}
 use Rattle.asp_worker.proofs.Replies.{always-err, memory-stop}
 use Rattle.asp_slots.proofs.ShelfLaws.{still-seen}
@@ -83,11 +83,11 @@ returns-clause-keeps g c = keeps-self c.args.shared.now c.args.worker.now c.requ
 
 pub returns-clause-ok : goal.returns-clause-ok
 returns-clause-ok g c =
-    on-closed c.args.shared.now.mode (view c.args.worker.now.seat) c.args.engine.now.search c.step.new.search c.args.engine.now.fuel c.args.leaf c.requires.on _ _ c.step.new.fuel _ c.in_ok-step.ensures.ok c.in-Closed.is
+    on-closed c.args.shared.now.mode (view c.args.worker.now.seat) c.args.engine.now.search c.step.new.search c.args.engine.now.fuel c.args.leaf c.requires.on _ _ c.step.new.fuel _ c.in_ok-step.ensures.ok c.in-Closed.nogood c.in-Closed.is
 
 pub returns-clause-course : goal.returns-clause-course
 returns-clause-course g c =
-    settled-closed c.args.shared.now.mode (view c.args.worker.now.seat) c.args.engine.now.search c.step.new.search c.args.engine.now.fuel c.args.leaf c.requires.on _ _ c.step.new.fuel _ c.in_ok-step.ensures.ok c.in-Closed.is
+    done-closed c.args.shared.now.mode (view c.args.worker.now.seat) c.args.engine.now.search c.step.new.search c.args.engine.now.fuel c.args.leaf c.requires.on _ _ c.step.new.fuel _ c.in_ok-step.ensures.ok c.in-Closed.nogood c.in-Closed.is
 
 pub returns-then-leased-clause-keeps : goal.returns-then-leased-clause-keeps
 returns-then-leased-clause-keeps g c =

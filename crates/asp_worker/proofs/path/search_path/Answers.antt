@@ -53,8 +53,11 @@ returns-in-Spent-clause-ok g c = (
 pub close-requires-clause-done : goal.close-requires-clause-done
 close-requires-clause-done g c =
     let w : Knows = view c.advance.new.worker.seat in
-    done-excused c.args.shared.now.mode w c.advance.new.engine.search c.advance.new.engine.fuel _ c.in_ok-course.ensures.ok.going
-    (subst (λ (x : Course). IsCourse w c.advance.new.engine.search c.steps.leaf x) c.in-Done.is c.in_ok-course.ensures.course)
+    done-excused c.args.shared.now.mode w c.advance.new.engine.search c.advance.new.engine.fuel c.in-Done.nogood.lits c.in_ok-course.ensures.ok.going
+    (subst (λ (x : Course). IsCourse w c.advance.new.engine.search c.steps.leaf x) c.in-Done.is c.in_ok-course.ensures.course).1
+
+pub close-requires-clause-within : goal.close-requires-clause-within
+close-requires-clause-within g c = (subst (λ (x : Course). IsCourse (view c.advance.new.worker.seat) c.advance.new.engine.search c.steps.leaf x) c.in-Done.is c.in_ok-course.ensures.course).0
 
 pub returns-in-Done-clause-keeps : goal.returns-in-Done-clause-keeps
 returns-in-Done-clause-keeps g c =

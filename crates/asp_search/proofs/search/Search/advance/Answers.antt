@@ -4,23 +4,41 @@ use Rattle.asp_model.specs.Sound.{IsSound}
 use Rattle.asp_vars.specs.declared.nogood.Nogood.{Nogood}
 use Rattle.asp_propagate.specs.Useful.{Counts}
 use Rattle.asp_search_laws.specs.Searching.{Searching}
-use Rattle.asp_search_laws.specs.Steps.{Closes, Fails, IsStep, IsFailure}
+use Rattle.asp_search_laws.specs.Steps.{Closes, Fails, IsStep, IsFailure, Steps}
+use Rattle.asp_search_laws.specs.declared.step.Step.{Step}
 use Rattle.asp_search_laws.proofs.StepLaws.{Continues, steps_on, fails_on}
 use Rattle.asp_state.specs.SearchStates.{SearchView}
 use Rattle.asp_search.specs.Invariants.{answers_known, used_in, view_of}
+use Rattle.asp_search.specs.Meeting.{IsClashed, opposed}
 use Rattle.asp_search.proofs.BelowLaws.{adds_continue, adds_fail}
 use Rattle.asp_search.proofs.SearchLaws.{search_told}
-use Rattle.asp_search.proofs.StepsLaws.{always_err, clash_closes, some_of}
+use Rattle.asp_search.proofs.StepsLaws.{always_err, clash_closes, fails_cleared, some_of}
 use Rattle.asp_search.proofs.search.Search.advance.Goals as goal
 
 pub returns-then-is_clashing-clause-ok : goal.returns-then-is_clashing-clause-ok
-returns-then-is_clashing-clause-ok g c = λ q e.
+returns-then-is_clashing-clause-ok g c =
     let i = c.self.inside in
+    let s = c.args.self.now in
     let f = c.args.fuel.now in
     let new : Searching = view_of i.mode i.state i.pace (answers_known i.known.items i.seen) None in
-    let clashes = c.is_clashing.ensures.clashes q (ap (λ (x : Searching). x.cube) c.self.view_is ∙ e) c.if-is_clashing.true in
-    subst (λ (z : Searching). Closes (g.P.Propagator.gives z.program z.bound) z new q f f) c.self.view_is
-    (clash_closes (g.P.Propagator.gives i.state.program i.state.bound) i.mode i.state i.pace (answers_known i.known.items i.seen) i.last q f clashes)
+    IfOk-weaker c.clashed.result (IsClashed i.state.cube) (IsStep (g.P.Propagator.gives s.program s.bound) (g.P.Propagator.silent s.program s.bound) s new f f)
+    (λ r h q e.
+    let x = h q (ap (λ (y : Searching). y.cube) c.self.view_is ∙ e) in
+    subst (λ (z : Step). Steps (g.P.Propagator.gives s.program s.bound) (g.P.Propagator.silent s.program s.bound) s new q f f z) (sym x.1)
+    (subst (λ (z : Searching). Closes (g.P.Propagator.gives z.program z.bound) z new q f f (opposed x.0)) c.self.view_is
+    (clash_closes (g.P.Propagator.gives i.state.program i.state.bound) i.mode i.state i.pace (answers_known i.known.items i.seen) i.last q f x.0 x.2)))
+    c.clashed.ensures
+
+pub returns-then-is_clashing-clause-err : goal.returns-then-is_clashing-clause-err
+returns-then-is_clashing-clause-err g c =
+    let i = c.self.inside in
+    let s = c.args.self.now in
+    let f = c.args.fuel.now in
+    let new : Searching = view_of i.mode i.state i.pace (answers_known i.known.items i.seen) None in
+    always_err c.clashed.result (IsFailure (g.P.Propagator.gives s.program s.bound) s new f f)
+    (λ q e.
+    subst (λ (z : Searching). Fails (g.P.Propagator.gives z.program z.bound) z new q f f) c.self.view_is
+    (fails_cleared (g.P.Propagator.gives i.state.program i.state.bound) i.mode i.state i.pace (answers_known i.known.items i.seen) i.last q f))
 
 pub invariant_of-self-in_err-met : goal.invariant_of-self-in_err-met
 invariant_of-self-in_err-met g c =

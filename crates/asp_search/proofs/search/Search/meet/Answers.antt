@@ -29,7 +29,7 @@ pay-requires-clause-met g c =
     let q = c.requires.entered.0 in
     let e = subst (λ (s : Searching). IsEntered s q) (sym c.self.view_is) c.requires.entered.1 in
     let l : Learned = learned.Jump c.in-Jump.nogood c.in-Jump.level c.in-Jump.lit in
-    let x = subst (λ (y : Learned). Explains (g.P.Propagator.gives i.state.program i.state.bound) (var_count i.state.program) i.state.slots i.state.entries c.args.id y) c.in-Jump.is c.in_ok-learn.ensures.explains in
+    let x = subst (λ (y : Learned). Explains (g.P.Propagator.gives i.state.program i.state.bound) (var_count i.state.program) i.state.slots i.state.entries c.args.id y) c.in-Jump.is c.in_ok-nogood.ensures.explains in
     let U = used_up (reasoning_of i.mode) i.state.program (answers_known i.known.items i.seen) in
     let sound : IsSound i.state.program = subst IsSound c.self.invariant.0.program c.program-program.ensures.sound in
     let useful = all_useful_for i.compiled.now i.state i.mode (answers_known i.known.items i.seen) c.self.invariant.0.program c.self.invariant.0.useful in
@@ -43,8 +43,8 @@ note_conflict-requires g c = omega (arith, c.self.invariant.0.counted, c.trail.e
 pub make_room-requires : goal.make_room-requires
 make_room-requires g c = record { last = (subst (λ (s : Searching). IsEntered s c.requires.entered.0) (sym c.self.view_is) c.requires.entered.1).last }
 
-pub returns-in_err-learn-clause-err : goal.returns-in_err-learn-clause-err
-returns-in_err-learn-clause-err g c =
+pub returns-in_err-nogood-clause-err : goal.returns-in_err-nogood-clause-err
+returns-in_err-nogood-clause-err g c =
     let i = c.self.inside in
     let s = c.args.self.now in
     let G = g.P.Propagator.gives s.program s.bound in
@@ -59,7 +59,7 @@ returns-in-InCube-clause-ok g c = λ r h.
     let f = c.args.fuel.now in
     let e = subst (λ (s : Searching). IsEntered s q) (sym c.self.view_is) c.requires.entered.1 in
     let n = c.in-InCube.nogood in
-    let x = subst (λ (y : Learned). Explains (g.P.Propagator.gives i.state.program i.state.bound) (var_count i.state.program) i.state.slots i.state.entries c.args.id y) c.in-InCube.is c.in_ok-learn.ensures.explains in
+    let x = subst (λ (y : Learned). Explains (g.P.Propagator.gives i.state.program i.state.bound) (var_count i.state.program) i.state.slots i.state.entries c.args.id y) c.in-InCube.is c.in_ok-nogood.ensures.explains in
     let U = used_up (reasoning_of i.mode) i.state.program (answers_known i.known.items i.seen) in
     let sound : IsSound i.state.program = subst IsSound c.self.invariant.0.program c.program-program.ensures.sound in
     let useful = all_useful_for i.compiled.now i.state i.mode (answers_known i.known.items i.seen) c.self.invariant.0.program c.self.invariant.0.useful in
@@ -70,10 +70,10 @@ returns-in-InCube-clause-ok g c = λ r h.
     let G = g.P.Propagator.gives i.state.program i.state.bound in
     let closes = met_closes G i.mode i.state i.pace (answers_known i.known.items i.seen) i.last q f c.args.id n m in
     let end = c.make_room.new.self in
-    let thinned = closes_thinned G new new end q f f i.state.entries closes c.make_room.ensures.same c.make_room.ensures.reduced in
-    subst (λ (y : List Literal). Closes (g.P.Propagator.gives s.program s.bound) s end y f f) (same_cube s.cube q r c.requires.entered.1.cube h)
-    (subst (λ (z : Searching). Closes (g.P.Propagator.gives z.program z.bound) z end q f f) c.self.view_is thinned)
+    let thinned = closes_thinned G new new end q f f n i.state.entries closes c.make_room.ensures.same c.make_room.ensures.reduced in
+    subst (λ (y : List Literal). Closes (g.P.Propagator.gives s.program s.bound) s end y f f n) (same_cube s.cube q r c.requires.entered.1.cube h)
+    (subst (λ (z : Searching). Closes (g.P.Propagator.gives z.program z.bound) z end q f f n) c.self.view_is thinned)
 
-pub returns-clause-err : goal.returns-clause-err
-returns-clause-err g c =
+pub returns-in-Jump-clause-err : goal.returns-in-Jump-clause-err
+returns-in-Jump-clause-err g c =
     subst (λ (z : Searching). OnErr c.pay.result (IsFailure (g.P.Propagator.gives z.program z.bound) z c.pay.new.self c.args.fuel.now c.pay.new.fuel)) c.self.view_is c.pay.ensures.err

@@ -1,5 +1,5 @@
 use Rattle.std.proofs.Common.{◌≡◌, ap, subst}
-use Rattle.std.specs.Prelude.{option_map}
+use Rattle.std.specs.Prelude.{is_some, option_map}
 use Rattle.std.proofs.lemmas.Result.{IfOk-weaker}
 use Rattle.asp_store.specs.Keeping.{IsAddedAt}
 use Rattle.asp_propagate.specs.Propagating.{Propagating, Keeps}
@@ -10,7 +10,7 @@ use Rattle.asp_state.proofs.state.SearchState.keep.Goals as goal
 pub invariant_of-self : goal.invariant_of-self
 invariant_of-self g c =
     let i = c.self.inside in
-    kept_either c.keep.result i.engine c.keep.new.self (option_map (λ q. q.items) i.cube) i.clashing i.decisions.items i.order c.args.nogood c.args.kind c.keep.ensures.ok c.keep.ensures.err c.self.invariant
+    (kept_either c.keep.result i.engine c.keep.new.self (option_map (λ q. q.items) i.cube) (is_some i.clash) i.decisions.items i.order c.args.nogood c.args.kind c.keep.ensures.ok c.keep.ensures.err c.self.invariant.0, c.self.invariant.1)
 
 pub returns-clause-same : goal.returns-clause-same
 returns-clause-same g c =
@@ -20,7 +20,7 @@ returns-clause-same g c =
       program = f.program;
       bound = f.bound;
       cube = option_map (λ q. q.items) i.cube;
-      clashing = i.clashing;
+      clashing = is_some i.clash;
       decisions = i.decisions.items;
       entries = f.entries;
       slots = f.slots;

@@ -34,14 +34,16 @@ invariant_of-result g c =
     c.keep_completion.ensures.same
     ∙ ap (λ (f : Propagating). let e : Propagating = record f { slots = slots } in e) c.in_ok-engine.ensures
     ∙ ap (λ (x : Program). let e : Propagating = record { program = x; entries = []; slots = slots; bound = b } in e) c.requires.program in
-    let adds = subst (λ (xs : List (Option StoredNogood)). AddsForever (map pure (completion p)) xs slots) (ap (λ (f : Propagating). f.slots) c.in_ok-engine.ensures) c.in-Ok.ensures.adds in
-    subst (λ (f : Propagating). IsSearchView f None false c.new-in-Ok.result.items c.prefer_first.new.order) (sym same) (record {
-      few = c.vars-vars.ensures.few;
-      entered = (refl, c.new-in-Ok.ensures.items, refl);
-      ranked = first.vars;
-      waiting = λ v iv none. first.all v iv;
-      completed = (completed_alone p slots adds).each;
-    })
+    let adds = subst (λ (xs : List (Option StoredNogood)). AddsForever (map pure (completion p)) xs slots) (ap (λ (f : Propagating). f.slots) c.in_ok-engine.ensures) c.in-Ok.ensures.adds in (
+      subst (λ (f : Propagating). IsSearchView f None false c.new-in-Ok.result.items c.prefer_first.new.order) (sym same) (record {
+        few = c.vars-vars.ensures.few;
+        entered = (refl, c.new-in-Ok.ensures.items, refl);
+        ranked = first.vars;
+        waiting = λ v iv none. first.all v iv;
+        completed = (completed_alone p slots adds).each;
+      }),
+      tt,
+    )
 
 pub returns-in-Ok-clause-same : goal.returns-in-Ok-clause-same
 returns-in-Ok-clause-same g c =

@@ -26,4 +26,4 @@ returns-clause-small g c =
     (subst (λ (n : ℕ). AreSmall n c.self.inside.engine.slots) c.store.ensures.vars (subst (λ (xs : List (Option StoredNogood)). AreSmall c.store.result.now.vars xs) c.store.ensures.slots c.extra-extra.ensures.small))
 
 pub returns-clause-completed : goal.returns-clause-completed
-returns-clause-completed g c = subst (λ (t : SearchView). KeepsCompletion t.program t.slots) c.self.view_is c.self.invariant.completed
+returns-clause-completed g c = subst (λ (t : SearchView). KeepsCompletion t.program t.slots) c.self.view_is c.self.invariant.0.completed
