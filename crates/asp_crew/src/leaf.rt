@@ -74,10 +74,11 @@ fn record(book: &mut Book, mode: Mode, set: Interp) -> Result<(), AllocError>
     }
 }
 
-// Writes down the nogood that the last step kept, if it kept one and somebody wants it.
+// Writes down the nogood that a step kept or by which it closed the path, if there is one and somebody wants it.
 fn note<P: Propagator>(
     recorder: Option<&Recorder>,
     search: &Search<'_, P>,
+    step: &Step,
 ) -> Result<(), AllocError> {
     if let Some(recorder) = recorder {
         recorder.place_given(search.given())?;
@@ -85,8 +86,8 @@ fn note<P: Propagator>(
             let id = search.kept_number();
             recorder.add_learned(id, nogood, search.uses())?;
         }
-        if let Some(nogood) = search.closing() {
-            recorder.add_learned(None, nogood, search.uses())?;
+        if let Step::Closed(nogood) = step {
+            recorder.add_learned(None, nogood.lits.as_slice(), search.uses())?;
         }
     }
     Ok(())
@@ -106,7 +107,7 @@ fn step<P: Propagator>(
 {
     let step = search.step(fuel)?;
     counts.count(&step, search.implied() as u64, search.extra() as u64);
-    note(recorder, search)?;
+    note(recorder, search, &step)?;
     Ok(step)
 }
 

@@ -7,7 +7,6 @@ use asp_analyze::steps::{Step, add_trail, sort};
 use asp_store::store::Store;
 use asp_trail::reasons::NogoodId;
 use asp_trail::trail::Trail;
-use asp_vars::lit::Lit;
 use std::alloc::{AllocError, Global};
 
 /// What is noted of a step.
@@ -22,9 +21,6 @@ pub struct Uses {
     // the nogoods that propagators gave in the step, and how many they had given before
     given: Vec<NogoodId>,
     given_before: usize,
-    // whether the step closed the path by a nogood, and that nogood
-    is_closing: bool,
-    closing: Vec<Lit>,
 }
 
 impl Uses {
@@ -36,8 +32,6 @@ impl Uses {
             numbers: Vec::new(alloc),
             given: Vec::new(alloc),
             given_before: 0,
-            is_closing: false,
-            closing: Vec::new(alloc),
         }
     }
 
@@ -52,8 +46,6 @@ impl Uses {
         self.given_before = store.given().len();
         self.steps.clear();
         self.numbers.clear();
-        self.is_closing = false;
-        self.closing.clear();
     }
 
     // Adds the numbers of the steps.
@@ -118,13 +110,6 @@ impl Uses {
         }
     }
 
-    /// Notes the nogood by which the path is closed.
-    pub(crate) fn note_closing(&mut self, lits: &[Lit]) {
-        if self.is_noted {
-            self.is_closing = self.closing.extend_from_slice(lits).is_ok();
-        }
-    }
-
     /// The nogoods by which the step found something.
     pub(crate) fn numbers(&self) -> &[NogoodId] {
         self.numbers.as_slice()
@@ -133,14 +118,5 @@ impl Uses {
     /// The nogoods that propagators gave in the step.
     pub(crate) fn given(&self) -> &[NogoodId] {
         self.given.as_slice()
-    }
-
-    /// The nogood by which the step closed the path, if it did.
-    pub(crate) fn closing(&self) -> Option<&[Lit]> {
-        if self.is_closing {
-            Some(self.closing.as_slice())
-        } else {
-            None
-        }
     }
 }

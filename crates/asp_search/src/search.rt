@@ -430,11 +430,6 @@ impl<'a, P: Propagator> Search<'a, P> {
         self.uses.given()
     }
 
-    /// The nogood by which the last step closed the path, if that is noted. No clause says it.
-    pub fn closing(&self) -> Option<&[Lit]> {
-        self.uses.closing()
-    }
-
     /// The number of the nogood that the last step learnt, or by which it blocks an answer.
     pub fn kept_number(&self) -> Option<NogoodId> {
         self.last
