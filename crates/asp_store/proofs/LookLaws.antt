@@ -65,6 +65,10 @@ false_level vars es l o h =
     let f = stands_found vars es (complement l) o h in
     (f.0, level_in es l.var, omega arith, f.1)
 
+-- one that is false at some level is so at its variable's
+pub false_there : (vars : ℕ) (es : List Entry) (l : Literal) (b : ℕ) → IsOrdered vars es → IsFalseBy es l b → IsFalseBy es l (level_in es l.var)
+false_there vars es l b o f = (f.0, f.1, omega (arith, stands_level vars es (complement l) f.0 f.1 o f.3), f.3)
+
 -- where no entry is of a greater level
 pub false_top : (vars : ℕ) (es : List Entry) (l : Literal) (b : ℕ) → IsOrdered vars es → All (λ e. e.level ≤ b) es → holds_in (assignment vars es) (complement l) ≡ true → IsFalseBy es l b
 false_top vars es l b o top h =

@@ -26,13 +26,13 @@ use Rattle.asp_store.specs.Pairs.{pair_of, pair_at, IsOneOf, IsBeside}
 use Rattle.asp_store.specs.Parted.{Parted, IsFrom, Adds}
 use Rattle.asp_store.specs.Fitting.{IsFalseBy, HasFalse, Watches as Watching}
 use Rattle.asp_store.specs.Sounding.{IsListed, IsPlace, IsSound}
-use Rattle.asp_store.specs.Looking.{AreTrueBeside, LeadsWith}
-use Rattle.asp_store.specs.Walking.{IsWalking, IsVisit, MayWatch, Steps}
+use Rattle.asp_store.specs.Looking.{AreTrueBeside, IsLast, LeadsWith}
+use Rattle.asp_store.specs.Walking.{back, IsWalking, IsVisit, MayWatch, Passed, Steps}
 use Rattle.asp_store.proofs.GetLaws.{list_within, length-swap, at_set, at_set_other}
 use Rattle.asp_store.proofs.PlaceLaws.{code_injective, code_within, place_else, size_here, listed_set, places_set, listed_push, listed_new, places_push, listed_take, places_take, listed_next, listed_later}
 use Rattle.asp_store.proofs.WatchLaws.{has_false_grow, stands_grow}
-use Rattle.asp_store.proofs.LookLaws.{all_same, watches_open, eq_itself, one_of_two}
-use Rattle.asp_store.proofs.ShortLaws.{place_long}
+use Rattle.asp_store.proofs.LookLaws.{all_has, all_same, watches_open, eq_itself, one_of_two}
+use Rattle.asp_store.proofs.ShortLaws.{place_long, second_of_two, short_here}
 use Rattle.asp_store.proofs.SoundLaws.{Suits, sound_lists, sound_row, settled_row, pair_cases, sound_push, sound_grow, settled_grow}
 
 -- ---- of a pair
@@ -345,10 +345,10 @@ walking_grow slots w t f i fs le k = record {
   stands = stands_grow t.entries fs f.lit t.seen f.level k.stands;
 }
 
-pub visit_grow : (slots : List (Option StoredNogood)) (w : Watches) (t : Trailed) (f : Front) (i id : ℕ) (other : Literal) (fs : List Entry) → t.seen ≤ length t.entries →
-    IsVisit slots w t f i id other → IsVisit slots w (record t { entries = t.entries ++ fs }) f i id other
-visit_grow slots w t f i id other fs le v = record {
-  walking = walking_grow slots w t f i fs le v.walking;
+pub visit_stays : (slots : List (Option StoredNogood)) (w : Watches) (t n : Trailed) (f : Front) (i id : ℕ) (other : Literal) → IsVisit slots w t f i id other → IsWalking slots w n f i →
+    IsVisit slots w n f i id other
+visit_stays slots w t n f i id other v k = record {
+  walking = k;
   watch = v.watch;
   at = v.at;
   id_is = v.id_is;
@@ -426,6 +426,36 @@ told_beside t f other o s k h ne =
       | inr e ↦ absurd (false≢true (sym ne ∙ (ap (λ (x : Literal). literal_eq x other) (sym e) ∙ eq_itself other)))
     ]
 
+pub last_told : (slots : List (Option StoredNogood)) (w : Watches) (t : Trailed) (f : Front) (i id : ℕ) (x : Watch) (b : Literal) → IsOrdered t.vars t.entries → IsWalking slots w t f i →
+    place w.lists (code_of f.lit) i ≡ Some x → x.is_short ≡ true → id ≡ x.id → b ≡ x.blocker → IsLast slots t id (f.lit ∷ b ∷ []) b
+last_told slots w t f i id x b o k at short e q =
+    let here = short_here slots f x ((k.sound.net.places (code_of f.lit) i x at).short short) in
+    let l : Literal = x.blocker in
+    let last : IsLast slots t x.id (f.lit ∷ l ∷ []) l = record {
+      nogood = here.0;
+      kept = here.1;
+      same = here.2;
+      has = second_of_two f.lit l;
+      var = all_has (λ m. IsVar t.vars m.var) here.0.lits l (k.sound.net.small x.id here.0 here.1) (here.2 l ∙ second_of_two f.lit l);
+      others = told_beside t f l o k.stands;
+    } in
+    subst (λ (m : Literal). IsLast slots t id (f.lit ∷ m ∷ []) m) (sym q) (subst (λ (j : ℕ). IsLast slots t j (f.lit ∷ l ∷ []) l) (sym e) last)
+
+-- of one that is visited, all literals of its row but the other watch are true
+pub last_visited : (slots : List (Option StoredNogood)) (w : Watches) (t : Trailed) (f : Front) (i id : ℕ) (other : Literal) → AreTrueBeside t.vars t.entries (row_at w.rows id) other →
+    IsVisit slots w t f i id other → IsLast slots t id (row_at w.rows id) other
+last_visited slots w t f i id other o v =
+    let k = v.walking.sound.net.kept id v.pair v.pair_is in
+    let has : has_literal k.0.lits other ≡ true = visit_has slots w t f i id other k.0 v k.1 in
+    record {
+      nogood = k.0;
+      kept = k.1;
+      same = k.2;
+      has = sym (k.2 other) ∙ has;
+      var = all_has (λ l. IsVar t.vars l.var) k.0.lits other (v.walking.sound.net.small id k.0 k.1) has;
+      others = o;
+    }
+
 -- the next place, where the one before is of a nogood whose blocker is false now
 pub walking_told : (slots : List (Option StoredNogood)) (w : Watches) (t : Trailed) (f : Front) (i : ℕ) (x : Watch) → place w.lists (code_of f.lit) i ≡ Some x → IsFalseBy t.entries x.blocker f.level →
     IsWalking slots w t f i → IsWalking slots w t f (i + 1)
@@ -433,3 +463,13 @@ walking_told slots w t f i x g is_false k =
     walking_later slots w t f i (i + 1)
     (λ j y from to at. let e : x ≡ y = same_Some x y (sym g ∙ (ap (place w.lists (code_of f.lit)) (let q : i ≡ j = omega arith in q) ∙ at)) in
     subst (λ (z : Watch). IsFalseBy t.entries z.blocker f.level) e is_false) k
+
+pub passed_told : (slots : List (Option StoredNogood)) (w : Watches) (l : List Watch) (n : Trailed) (f : Front) (i d : ℕ) (x : Watch) (b : Literal) (r : Option ℕ) →
+    place (back w (code_of f.lit) l).lists (code_of f.lit) i ≡ Some x → b ≡ x.blocker → d ≡ f.level → IfNone r (IsFalseBy n.entries b d) → IsWalking slots (back w (code_of f.lit) l) n f i →
+    Passed slots w l l n f i r
+passed_told slots w l n f i d x b (Some id) g e q is_false k = k
+passed_told slots w l n f i d x b None g e q is_false k = (
+  walking_told slots (back w (code_of f.lit) l) n f i x g
+      (subst (λ (m : Literal). IsFalseBy n.entries m f.level) e (subst (λ (c : ℕ). IsFalseBy n.entries b c) q is_false)) k,
+  refl,
+)

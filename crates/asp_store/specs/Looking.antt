@@ -1,11 +1,15 @@
 -- What a look at one nogood finds.
-use Rattle.std.specs.Prelude.{◌≡◌, ℕ, ◌⊎◌, true, false, List, [], ◌∷◌, ◌++◌, length, Some, IsTrue}
+use Rattle.std.specs.Prelude.{◌≡◌, ℕ, ◌⊎◌, true, false, List, [], ◌∷◌, ◌++◌, length, Option, Some, IsTrue}
 use Rattle.asp_vars.specs.Literals.{Literal, has_literal, literal_eq, holds_in}
+use Rattle.asp_vars.specs.declared.nogood.Nogood.{Nogood}
 use Rattle.asp_trail.specs.declared.trail.Entry.{Entry}
 use Rattle.asp_trail.specs.Entries.{level, assignment}
+use Rattle.asp_trail.specs.Trails.{Trailed, IsVar}
 use Rattle.asp_trail.specs.Reasons.{IsReason}
 use Rattle.asp_trail.specs.Fixpoint.{is_violated}
+use Rattle.asp_store.specs.declared.stored_nogood.StoredNogood.{StoredNogood}
 use Rattle.asp_store.specs.declared.watch.Pair.{Pair}
+use Rattle.asp_store.specs.Keeping.{nogood_at}
 use Rattle.asp_store.specs.Pairs.{pair_of, IsBeside}
 use Rattle.asp_store.specs.Fitting.{HasFalse, IsWatched}
 use Rattle.asp_store.specs.declared.looks.Look.{Look}
@@ -30,6 +34,15 @@ pub record LeadsWith (old new : List Literal) (l k : Literal) : Type 0 where
 -- All literals but this one are true.
 abbrev pub AreTrueBeside : ℕ → List Entry → List Literal → Literal → Type 0
 AreTrueBeside vars entries n other = (k : Literal) → IsTrue (has_literal n k) → literal_eq k other ≡ false → holds_in (assignment vars entries) k ≡ true
+
+-- The kept nogood under this number has these literals, of which all are true but this one.
+pub record IsLast (slots : List (Option StoredNogood)) (t : Trailed) (id : ℕ) (n : List Literal) (other : Literal) : Type 0 where
+  pub nogood : Nogood
+  pub kept : nogood_at slots id ≡ Some nogood
+  pub same : HaveSame nogood.lits n
+  pub has : IsTrue (has_literal n other)
+  pub var : IsVar t.vars other.var
+  pub others : AreTrueBeside t.vars t.entries n other
 
 -- A look finds the nogood violated, or two literals that watch it wherever they stand, or one that is false.
 abbrev pub Found : ℕ → List Literal → List Entry → List Entry → Look → Type 0

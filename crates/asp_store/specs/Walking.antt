@@ -1,5 +1,5 @@
 -- What a walk along one literal's list keeps.
-use Rattle.std.specs.Prelude.{◌≡◌, ◌≢◌, ℕ, ◌+◌, ◌≤◌, ◌⊎◌, false, List, length, slice_get, slice_set, Option, Some, None, IsTrue}
+use Rattle.std.specs.Prelude.{◌≡◌, ◌≢◌, ℕ, ◌+◌, ◌≤◌, ◌⊎◌, false, List, length, slice_get, slice_set, Option, Some, None, IfSome, IsTrue}
 use Rattle.asp_vars.specs.Literals.{Literal, has_literal, holds_in}
 use Rattle.asp_vars.specs.Codes.{code_of}
 use Rattle.asp_vars.specs.declared.nogood.Nogood.{Nogood}
@@ -23,7 +23,7 @@ use Rattle.asp_arena.specs.Rows.{row_at}
 use Rattle.asp_store.specs.Keeping.{nogood_at}
 use Rattle.asp_store.specs.Lists.{place, size}
 use Rattle.asp_store.specs.Pairs.{pair_at, IsOneOf, IsBeside}
-use Rattle.asp_store.specs.Fitting.{HasFalse}
+use Rattle.asp_store.specs.Fitting.{HasFalse, Extends}
 use Rattle.asp_store.specs.Looking.{AreTrueBeside}
 use Rattle.asp_store.specs.Sounding.{IsListed, IsSound, AreSettled}
 
@@ -61,6 +61,13 @@ pub record MayWatch (slots : List (Option StoredNogood)) (t : Trailed) (id : ℕ
 abbrev pub IsViolated : ℕ → List (Option StoredNogood) → List Entry → ℕ → Type 0
 IsViolated vars slots entries id = (n : Nogood) × (nogood_at slots id ≡ Some n) × IsTrue (is_violated (assignment vars entries) n.lits)
 
+-- The trail grows by what kept nogoods imply, where a walk stays, or a nogood is violated.
+pub record Ends (slots : List (Option StoredNogood)) (old new : Trailed) (found : Option ℕ) : Type 0 where
+  pub same : new ≡ record old { entries = new.entries }
+  pub extends : Extends slots old.entries new.entries
+  pub walking : (w : Watches) (f : Front) (i : ℕ) → IsWalking slots w old f i → IsWalking slots w new f i
+  pub violated : IfSome found (IsViolated new.vars slots new.entries)
+
 -- A step goes on to the next place, or the place is gone, or a nogood is violated.
 abbrev pub Steps : List (Option StoredNogood) → Watches → Watches → Trailed → Front → ℕ → Step → Type 0
 Steps slots old new t f i step.Stays = IsWalking slots new t f (i + 1) × (size new.lists (code_of f.lit) ≡ size old.lists (code_of f.lit))
@@ -79,6 +86,11 @@ Passes slots w old new t f i pass.Goes = IsWalking slots (back w (code_of f.lit)
 Passes slots w old new t f i pass.Told = IsWalking slots (back w (code_of f.lit) new) t f i × (length new ≡ length old) × (x : Watch) × (slice_get new i ≡ Some x) × IsTrue x.is_short
 Passes slots w old new t f i (pass.Last id other) = IsVisit slots (back w (code_of f.lit) new) t f i id other × (length new ≡ length old) × AreTrueBeside t.vars t.entries (row_at w.rows id) other
 Passes slots w old new t f i pass.Full = IsWalking slots (back w (code_of f.lit) new) t f i × (length new ≡ length old)
+
+-- It goes on to the next place, or ends where it is.
+abbrev pub Passed : List (Option StoredNogood) → Watches → List Watch → List Watch → Trailed → Front → ℕ → Option ℕ → Type 0
+Passed slots w old new t f i None = Passes slots w old new t f i pass.Stays
+Passed slots w old new t f i (Some id) = IsWalking slots (back w (code_of f.lit) new) t f i
 
 -- No kept nogood is unit or violated, or this one is violated.
 abbrev pub Propagates : ℕ → List (Option StoredNogood) → List Entry → Propagated → Type 0

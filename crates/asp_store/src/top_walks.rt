@@ -3,7 +3,7 @@
 //! At this level a literal is false by its value alone, and what is made false is so at the front's level: a place needs
 //! nothing but the list, the rows and the values. So the list is taken out of the others, and all places are passed in one
 //! loop. Only where all literals of a nogood but one hold the trail changes.
-ghost use Rattle.std.specs.Prelude.{◌≡◌, ℕ, ◌<◌, ◌≤◌, ◌+◌, Some, IfOk, IfNone, IfSome, IsTrue, length, slice_get, slice_index_or, true};
+ghost use Rattle.std.specs.Prelude.{◌≡◌, ℕ, ◌<◌, ◌≤◌, ◌+◌, Some, IfOk, IsTrue, length, slice_get, slice_index_or, true};
 ghost use Rattle.std.specs.List.{All};
 ghost use Rattle.asp_vars.specs.Codes.{code_of};
 ghost use Rattle.asp_vars.specs.Literals.{complement, holds_in};
@@ -17,10 +17,10 @@ ghost use Rattle.asp_store.specs.Looking.{AreTrueBeside};
 ghost use Rattle.asp_store.specs.Pairs.{pair_at, IsOneOf};
 ghost use Rattle.asp_store.specs.Fitting.{Extends, IsFalseBy};
 ghost use Rattle.asp_store.specs.Sounding.{IsSound};
-ghost use Rattle.asp_store.specs.Walking.{back, IsViolated, IsWalking, IsVisit, Passes, Walked};
+ghost use Rattle.asp_store.specs.Walking.{back, IsWalking, IsVisit, Ends, Passes, Passed, Walked};
 
 use crate::front::Front;
-use crate::looks::{beside_from, make_false};
+use crate::looks::{beside_from, end_nogood};
 use crate::rows::{rewatch, watched_beside};
 use crate::stored_nogood::StoredNogood;
 use crate::watch::Watch;
@@ -213,29 +213,20 @@ fn end_told(
     requires told { (x : Watch) × (slice_get list.now i ≡ Some x) × IsTrue x.is_short }
     requires level { level trail.old.entries ≡ front.now.level }
     requires room { trail.old.vars ≤ trail.old.room }
-    ensures same { trail.new ≡ record trail.old { entries = trail.new.entries } }
-    ensures extends { Extends slots.now trail.old.entries trail.new.entries }
-    ensures violated { IfSome result (IsViolated trail.new.vars slots.now trail.new.entries) }
-    ensures walking { IsWalking slots.now (back watches.now (code_of front.now.lit) list.now) trail.new front.now i }
-    ensures past { IfNone result (IsWalking slots.now (back watches.now (code_of front.now.lit) list.now) trail.new front.now (i + 1)) }
+    ensures ends { Ends slots.now trail.old trail.new result }
+    ensures passed { Passed slots.now watches.now list.now list.now trail.new front.now i result }
 {
     let _len = trail.len();
-    let _level = trail.level();
     let watch = list[i];
     let id = watch.id();
     let blocker = watch.blocker();
-    if trail.assignment().holds(blocker) {
-        return Some(id as usize);
-    }
-    make_false(&[front.lit, blocker], blocker, id as usize, trail);
-    let _new_len = trail.len();
-    None
+    end_nogood(&[front.lit, blocker], slots, id as usize, blocker, trail)
 }
 
-// Makes the last literal of a nogood false, or names this nogood as violated.
+// Makes the last literal of a nogood false, which blocks the place then, or names this nogood as violated.
 #[inline(always)]
 fn end_last(
-    list: &[Watch],
+    list: &mut Vec<Watch>,
     watches: &Watches,
     slots: &[Option<StoredNogood>],
     i: usize,
@@ -244,24 +235,21 @@ fn end_last(
     front: &Front,
     trail: &mut Trail,
 ) -> Option<NogoodId>
-    requires visit { IsVisit slots.now (back watches.now (code_of front.now.lit) list.now) trail.old front.now i id other }
+    requires visit { IsVisit slots.now (back watches.now (code_of front.now.lit) list.old.items) trail.old front.now i id other }
     requires others { AreTrueBeside trail.old.vars trail.old.entries (row_at watches.now.rows id) other }
     requires level { level trail.old.entries ≡ front.now.level }
     requires room { trail.old.vars ≤ trail.old.room }
-    ensures same { trail.new ≡ record trail.old { entries = trail.new.entries } }
-    ensures extends { Extends slots.now trail.old.entries trail.new.entries }
-    ensures violated { IfSome result (IsViolated trail.new.vars slots.now trail.new.entries) }
-    ensures visit { IsVisit slots.now (back watches.now (code_of front.now.lit) list.now) trail.new front.now i id other }
-    ensures is_false { IfNone result (IsFalseBy trail.new.entries other front.now.level) }
+    ensures ends { Ends slots.now trail.old trail.new result }
+    ensures passed { Passed slots.now watches.now list.old.items list.new.items trail.new front.now i result }
 {
-    let _len = trail.len();
-    let _level = trail.level();
-    if trail.assignment().holds(other) {
-        return Some(id as usize);
+    let row = watches.rows.row(id as usize);
+    match end_nogood(row, slots, id as usize, other, trail) {
+        Some(violated) => Some(violated),
+        None => {
+            block(list, watches, slots, i, id, other, front, trail);
+            None
+        }
     }
-    make_false(watches.rows.row(id as usize), other, id as usize, trail);
-    let _new_len = trail.len();
-    None
 }
 
 // Visits all places of the front's list, which is taken out of the others, until a nogood is violated.
@@ -298,10 +286,9 @@ fn walk_list(
                 }
             }
             Pass::Last(id, other) => {
-                match end_last(list.as_slice(), watches, slots, i, id, other, front, trail) {
+                match end_last(list, watches, slots, i, id, other, front, trail) {
                     Some(id) => return Ok(Some(id)),
                     None => {
-                        block(list, watches, slots, i, id, other, front, trail);
                         i = past_blocked(list.as_slice(), watches, slots, i + 1, front, trail);
                     }
                 }

@@ -22,7 +22,7 @@ ghost use Rattle.asp_store.specs.Sounding.{IsSound};
 ghost use Rattle.asp_store.specs.Walking.{IsWalking, IsVisit, MayWatch, Steps};
 
 use crate::front::{Front, Step};
-use crate::looks::{Spot, beside_from, falsify};
+use crate::looks::{Spot, beside_from, end_nogood};
 use crate::rows::{rewatch, watched_beside};
 use crate::stored_nogood::StoredNogood;
 use crate::watch::Watch;
@@ -165,18 +165,19 @@ fn visit_last(
     ensures sound { IsSound slots.now watches.new trail.new }
     ensures steps { IfOk result (Steps slots.now watches.old watches.new trail.new front.now i) }
 {
-    let _len = trail.len();
-    if trail.assignment().holds(other) {
-        return Ok(Step::Violated(id as usize));
+    let row = watches.rows.row(id as usize);
+    match end_nogood(row, slots, id as usize, other, trail) {
+        Some(violated) => Ok(Step::Violated(violated)),
+        None => {
+            let _len = trail.len();
+            if trail.level_of(other.var()) <= front.level {
+                block(watches, slots, i, id, other, front, trail);
+                return Ok(Step::Stays);
+            }
+            set_apart(watches, slots, i, id, other, front, trail)?;
+            Ok(Step::Goes)
+        }
     }
-    let level = falsify(watches.rows.row(id as usize), other, id as usize, trail);
-    let _new_len = trail.len();
-    if level <= front.level {
-        block(watches, slots, i, id, other, front, trail);
-        return Ok(Step::Stays);
-    }
-    set_apart(watches, slots, i, id, other, front, trail)?;
-    Ok(Step::Goes)
 }
 
 // Looks at the nogood's row, as its other watch isn't seen to be false.

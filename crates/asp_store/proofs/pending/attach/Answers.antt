@@ -57,8 +57,8 @@ put_row-requires-clause-second c =
 pub put_row-requires-clause-differ : goal.put_row-requires-clause-differ
 put_row-requires-clause-differ c = (c.requires.watched c.requires.kept.0 c.requires.kept.1).differ
 
-pub leave-requires-clause-looking : goal.leave-requires-clause-looking
-leave-requires-clause-looking c =
+pub leave-requires : goal.leave-requires
+leave-requires c =
     let w = c.args.watches.now in
     let p = c.args.pair in
     let k = c.requires.kept in
@@ -70,28 +70,14 @@ leave-requires-clause-looking c =
     let o = c.in_ok-put_row.ensures.ok in
     let b = o.1 in
     let e : record w { lists = c.push-2.new.self; rows = c.put_row.new.rows } ≡ attached w p c.args.id d o.0 = λ j. record w { lists = a j; rows = b j } in
-    subst (λ (x : Watches). IsLooking c.args.slots.now x c.args.trail.now c.args.i) (sym e)
-    (attached_looking c.args.slots.now w c.args.trail.now c.args.i c.args.id p k.0 d o.0 k.1 (c.requires.watched k.0 k.1) c.is_lasting_at-is_short.ensures o.2
-    (λ x. ap (λ (xs : List Literal). has_literal xs x) k.2 ∙ o.3 x) c.requires.waiting)
-
-pub leave-requires-clause-none : goal.leave-requires-clause-none
-leave-requires-clause-none c =
-    let w = c.args.watches.now in
-    let p = c.args.pair in
-    let k = c.requires.kept in
-    let d = c.is_lasting_at-is_short.result in
-    let one = c.in_ok-push.ensures.ok ∙ ap (λ (x : Watch). set w.lists (code_of p.first) (list_at w.lists (code_of p.first) ++ x ∷ [])) c.new.ensures in
-    let a = c.in_ok-push-2.ensures.ok
-    ∙ (ap (λ (ls : List (List Watch)). set ls (code_of p.second) (list_at ls (code_of p.second) ++ c.new-2.result ∷ [])) one
-    ∙ ap (λ (x : Watch). set (with_first w p c.args.id d).lists (code_of p.second) (list_at (with_first w p c.args.id d).lists (code_of p.second) ++ x ∷ [])) c.new-2.ensures) in
-    let o = c.in_ok-put_row.ensures.ok in
-    let b = o.1 in
-    let e : record w { lists = c.push-2.new.self; rows = c.put_row.new.rows } ≡ attached w p c.args.id d o.0 = λ j. record w { lists = a j; rows = b j } in
-    subst (λ (x : Watches). HasNone c.args.slots.now x c.args.i) (sym e)
-    (attached_none c.args.slots.now w c.args.trail.now c.args.i c.args.id p k.0 d o.0 k.1 o.2 c.requires.waiting)
-
-pub leave-requires-clause-within : goal.leave-requires-clause-within
-leave-requires-clause-within c = c.requires.waiting.within
+    record {
+      looking = subst (λ (x : Watches). IsLooking c.args.slots.now x c.args.trail.now c.args.i) (sym e)
+          (attached_looking c.args.slots.now w c.args.trail.now c.args.i c.args.id p k.0 d o.0 k.1 (c.requires.watched k.0 k.1) c.is_lasting_at-is_short.ensures o.2
+          (λ x. ap (λ (xs : List Literal). has_literal xs x) k.2 ∙ o.3 x) c.requires.waiting);
+      none = subst (λ (x : Watches). HasNone c.args.slots.now x c.args.i) (sym e)
+          (attached_none c.args.slots.now w c.args.trail.now c.args.i c.args.id p k.0 d o.0 k.1 o.2 c.requires.waiting);
+      within = c.requires.waiting.within;
+    }
 
 pub returns-in_err-push-clause-sound : goal.returns-in_err-push-clause-sound
 returns-in_err-push-clause-sound c = subst (λ (ls : List (List Watch)). IsSound c.args.slots.now (record c.args.watches.now { lists = ls }) c.args.trail.now) (sym c.in_err-push.ensures.err) c.requires.waiting.looking.sound

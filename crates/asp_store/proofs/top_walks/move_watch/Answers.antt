@@ -78,8 +78,8 @@ rewatch-requires-clause-is_new c =
     (subst (λ (a : List (Option Bool)). holds_in a l ≡ false) c.assignment.ensures.values c.in-Some.ensures.some.2) in
     (may_differ slots t f id other l c.len-len.ensures.ordered c.requires.walking.stands may, may.differ)
 
-pub leave-requires-clause-walking : goal.leave-requires-clause-walking
-leave-requires-clause-walking c =
+pub leave-requires : goal.leave-requires
+leave-requires c =
     let slots : List (Option StoredNogood) = c.args.slots.now in
     let w : Watches = c.args.watches.now in
     let t : Trailed = c.args.trail.now in
@@ -96,29 +96,14 @@ leave-requires-clause-walking c =
     let r = c.rewatch.ensures.0 in
     let b = c.rewatch.ensures.1 in
     let e : record w { lists = c.push.new.self; rows = c.rewatch.new.rows } ≡ moved w l other id r = λ j. record w { lists = a j; rows = b j } in
-    subst (λ (x : Watches). IsWalking slots (back x (code_of f.lit) xs) t f c.args.i) (sym e)
-    (moved_back slots w t f xs c.args.i id other l r c.len-len.ensures.ordered may c.rewatch.ensures.2 c.requires)
-
-pub leave-requires-clause-at : goal.leave-requires-clause-at
-leave-requires-clause-at c = (
-  c.requires.watch,
-  back_at c.args.slots.now c.args.watches.now c.args.trail.now c.args.front.now c.args.list.now.items c.args.i c.args.id c.args.other c.len-len.ensures.ordered c.requires,
-  c.requires.id_is,
-)
-
-pub leave-requires-clause-gone : goal.leave-requires-clause-gone
-leave-requires-clause-gone c =
-    let slots : List (Option StoredNogood) = c.args.slots.now in
-    let w : Watches = c.args.watches.now in
-    let t : Trailed = c.args.trail.now in
-    let f : Front = c.args.front.now in
-    let xs : List Watch = c.args.list.now.items in
-    let u : Watches = back w (code_of f.lit) xs in
-    let id = c.args.id in
-    let other : Literal = c.args.other in
-    let l : Literal = c.in-Some.spot.lit in
-    let may = may_watch slots u t f c.args.i id c.in-Some.spot.place other l c.requires
-    (subst (λ (xs : List Literal). slice_get xs c.in-Some.spot.place ≡ Some l) c.row.ensures c.in-Some.ensures.place) c.in-Some.ensures.some.1
-    (subst (λ (a : List (Option Bool)). holds_in a l ≡ false) c.assignment.ensures.values c.in-Some.ensures.some.2) in
-    subst (λ (rs : List (List Literal)). (n : Nogood) (p : Pair) → nogood_at slots id ≡ Some n → pair_at rs id ≡ Some p → IsOneOf p f.lit → ⊥) (sym c.rewatch.ensures.1)
-    (moved_back_gone slots w t f xs c.args.i id other l c.rewatch.ensures.0 c.len-len.ensures.ordered may c.rewatch.ensures.2 c.requires)
+    record {
+      walking = subst (λ (x : Watches). IsWalking slots (back x (code_of f.lit) xs) t f c.args.i) (sym e)
+          (moved_back slots w t f xs c.args.i id other l r c.len-len.ensures.ordered may c.rewatch.ensures.2 c.requires);
+      at = (
+        c.requires.watch,
+        back_at c.args.slots.now c.args.watches.now c.args.trail.now c.args.front.now c.args.list.now.items c.args.i c.args.id c.args.other c.len-len.ensures.ordered c.requires,
+        c.requires.id_is,
+      );
+      gone = subst (λ (rs : List (List Literal)). (n : Nogood) (p : Pair) → nogood_at slots id ≡ Some n → pair_at rs id ≡ Some p → IsOneOf p f.lit → ⊥) (sym c.rewatch.ensures.1)
+          (moved_back_gone slots w t f xs c.args.i id other l c.rewatch.ensures.0 c.len-len.ensures.ordered may c.rewatch.ensures.2 c.requires);
+    }
