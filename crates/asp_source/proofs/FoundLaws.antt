@@ -14,7 +14,7 @@ use Rattle.asp_loop.specs.Parts.{form_of}
 use Rattle.asp_loop.proofs.EntailedLaws.{any_of}
 use Rattle.asp_source.specs.Marks.{is_marked, shown, is_founded, is_dropped}
 use Rattle.asp_source.specs.Ranks.{Ranking, IsRanking, raised}
-use Rattle.asp_source.specs.Founding.{IsFoundBy, GetSources, Founds, AreStuck}
+use Rattle.asp_source.specs.Founding.{IsFoundBy, HaveRoom, GetSources, Founds, AreStuck}
 use Rattle.asp_source.specs.Founding.GetSources.{gets_none, gets_one}
 use Rattle.asp_source.specs.Pointers.{IsSettling}
 use Rattle.asp_source.proofs.LooseLaws.{marks_less, unset_marked}
@@ -38,6 +38,16 @@ founds_then p x s r l w t o m v u i n y h k = record {
   fewer = let a = h.fewer in let b = k.fewer in omega (arith, a, b);
   ticks = let a = h.ticks in let b = k.ticks in omega (arith, a, b);
   paid = let a = h.paid in let b = k.paid in omega (arith, a, b);
+}
+
+pub room_then : (p : Program) (x : List (Option Bool)) (s : List ℕ) (r : Ranking) (l w : List Bool) (t : List ℕ) (o : Ranking) (m y : List Bool) → HaveRoom p x s r l w → Founds p x s r l w t o m y → HaveRoom p x t o m y
+room_then p x s r l w t o m y h k = record {
+  values = h.values;
+  size = k.size ∙ h.size;
+  marks = k.marks ∙ h.marks;
+  waits = k.room ∙ h.waits;
+  rank_room = k.rank_room ∙ h.rank_room;
+  time = let a = h.time in let b = k.ticks in omega (arith, a, b);
 }
 
 pub founds_one : (p : Program) (x : List (Option Bool)) (s : List ℕ) (r : Ranking) (l w : List Bool) (v b : ℕ) → IsAtomVar p v → is_marked l v ≡ true → IsFoundBy p x (is_marked l) v b → IsRanking r.ranks r.clock → v - 1 < length w → Founds p x s r l w (set s v b) (raised r v) (set l v false) (set w (v - 1) true)

@@ -147,6 +147,7 @@ gather_one p c x k ranks busy s l w j t v sound is at drops h = cases (stays x l
 
     cases : (b : Bool) → b ≡ stays x l v → IsGathering p c x k ranks busy t (join_loose x l v) (join_places x l w v) (join_places x l j v)
     cases true q = subst (λ (b : Bool). IsGathering p c x k ranks busy t (cond b l (set l v true)) (cond b w (set w (v - 1) true)) (cond b j (set j (v - 1) true))) q (record {
+      setting = h.setting;
       size = drops.size ∙ h.size;
       rank_room = h.rank_room;
       waits = h.waits;
@@ -160,6 +161,7 @@ gather_one p c x k ranks busy s l w j t v sound is at drops h = cases (stays x l
         let new = or_false (holds_in x (F v)) (is_marked l v) (sym q) in
         let before : (u : ℕ) → u ≢ v → is_marked (set l v true) u ≡ true → is_marked l u ≡ true = λ u n m. sym (get_or-set_other l v u true false n) ∙ m in
         subst (λ (b : Bool). IsGathering p c x k ranks busy t (cond b l (set l v true)) (cond b w (set w (v - 1) true)) (cond b j (set j (v - 1) true))) q (record {
+          setting = h.setting;
           size = drops.size ∙ h.size;
           rank_room = h.rank_room;
           waits = length-set w (v - 1) true ∙ h.waits;
@@ -294,6 +296,7 @@ ranked_released p c x k ranks s l w v sound supported candidates g all a stands 
 -- ---- which candidate is looked at
 pub looked_at : (p : Program) (c : Parts) (x : List (Option Bool)) (k : ℕ) (ranks s : List ℕ) (l w j less : List Bool) (n : ℕ) → IsSound p → less ≡ set w n false → IsGathering p c x k ranks 0 s l w j → IsGathering p c x k ranks (n + 1) s l less j
 looked_at p c x k ranks s l w j less n sound is h = record {
+  setting = h.setting;
   size = h.size;
   rank_room = h.rank_room;
   waits = ap length is ∙ length-set w n false ∙ h.waits;
@@ -309,6 +312,7 @@ looked_at p c x k ranks s l w j less n sound is h = record {
 
 pub looked_through : (p : Program) (c : Parts) (x : List (Option Bool)) (k : ℕ) (ranks : List ℕ) (v : ℕ) (s : List ℕ) (l w j : List Bool) → IsSound p → All (λ (o : Occurrence). AreReleased p c x k ranks s l w o.body) (occurrences_of p (T v)) → IsGathering p c x k ranks v s l w j → IsGathering p c x k ranks 0 s l w j
 looked_through p c x k ranks v s l w j sound all h = record {
+  setting = h.setting;
   size = h.size;
   rank_room = h.rank_room;
   waits = h.waits;
@@ -323,6 +327,7 @@ looked_through p c x k ranks v s l w j sound all h = record {
 pub gather_seated : (p : Program) (c : Parts) (x : List (Option Bool)) (k : ℕ) (ranks : List ℕ) (busy : ℕ) (s : List ℕ) (l w j : List Bool) (t : List ℕ) (v : ℕ) → IsSound p → IsAtomVar p v → get_or c.numbers v 0 ≡ k → is_marked l v ≡ false → IsReseated p c x k ranks l v s t → IsGathering p c x k ranks busy s l w j → IsGathering p c x k ranks busy t l w j
 gather_seated p c x k ranks busy s l w j t v sound is at bare seat h =
     subst (λ (u : List ℕ). IsGathering p c x k ranks busy u l w j) (sym seat.is) (record {
+      setting = h.setting;
       size = length-set s v seat.body ∙ h.size;
       rank_room = h.rank_room;
       waits = h.waits;
@@ -415,6 +420,7 @@ bare_clear p c x k ranks s l w v none b positive at e = absurd (let zero_ = sym 
 -- ---- an atom loses its source before it is admitted
 pub gather_dropped : (p : Program) (c : Parts) (x : List (Option Bool)) (k : ℕ) (ranks : List ℕ) (busy : ℕ) (s : List ℕ) (l w j : List Bool) (t : List ℕ) (v : ℕ) → Drops s t v → IsGathering p c x k ranks busy s l w j → IsGathering p c x k ranks busy t l w j
 gather_dropped p c x k ranks busy s l w j t v drops h = record {
+  setting = h.setting;
   size = drops.size ∙ h.size;
   rank_room = h.rank_room;
   waits = h.waits;

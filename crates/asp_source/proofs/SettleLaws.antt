@@ -16,7 +16,7 @@ use Rattle.asp_source.specs.Pointers.{ArePointers, IsSettling}
 use Rattle.asp_source.specs.Founding.{GetSources}
 use Rattle.asp_source.specs.Founding.GetSources.{gets_none, gets_one}
 use Rattle.asp_source.specs.Ranks.{Ranking}
-use Rattle.asp_source.specs.Gathering.{is_done, IsGathering, Gathers}
+use Rattle.asp_source.specs.Gathering.{is_done, IsSetting, IsGathering, Gathers}
 use Rattle.asp_source.proofs.LooseLaws.{unset_marked}
 use Rattle.asp_source.proofs.LookLaws.{at_member}
 use Rattle.asp_source.proofs.PointerLaws.{ranked_fewer}
@@ -24,8 +24,9 @@ use Rattle.asp_source.proofs.GatherLaws.{done_parts, done_from, gathers_then}
 use Rattle.asp_source.proofs.FoundLaws.{settled}
 
 -- where no atom is a candidate they can be gathered
-pub gathering_begins : (p : Program) (c : Parts) (x : List (Option Bool)) (k : ℕ) (s ranks : List ℕ) (q l w j : List Bool) → IsSound p → ArePointers p c x s ranks q [] → AreBlank l → length l ≡ length (atoms_of p) + 1 → length w ≡ length (atoms_of p) → length j ≡ length (atoms_of p) → IsGathering p c x k ranks 0 s l w j
-gathering_begins p c x k s ranks q l w j sound h blank size waits joins = record {
+pub gathering_begins : (p : Program) (c : Parts) (x : List (Option Bool)) (k : ℕ) (s ranks : List ℕ) (q l w j : List Bool) → IsSetting p c x → IsSound p → ArePointers p c x s ranks q [] → AreBlank l → length l ≡ length (atoms_of p) + 1 → length w ≡ length (atoms_of p) → length j ≡ length (atoms_of p) → IsGathering p c x k ranks 0 s l w j
+gathering_begins p c x k s ranks q l w j setting sound h blank size waits joins = record {
+  setting = setting;
   size = h.size;
   rank_room = h.rank_room;
   waits = waits;

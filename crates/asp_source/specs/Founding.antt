@@ -1,9 +1,10 @@
 -- How candidates get sources.
-use Rattle.std.specs.Prelude.{◌≡◌, ℕ, ◌+◌, ◌-◌, ◌≤◌, Bool, true, false, List, Option, length, count_by, slice_set, IsTrue}
+use Rattle.std.specs.Prelude.{◌≡◌, ℕ, ◌+◌, ◌-◌, ◌<◌, ◌≤◌, ◌^◌, Bool, true, false, List, Option, length, count_by, slice_set, IsTrue}
 use Rattle.asp_model.specs.declared.program.Program.{Program}
 use Rattle.asp_model.specs.Sets.{has}
+use Rattle.asp_model.specs.Models.{atoms_of}
 use Rattle.asp_vars.specs.Completion.{supports}
-use Rattle.asp_vars.specs.Numbering.{nth_atom}
+use Rattle.asp_vars.specs.Numbering.{nth_atom, var_count}
 use Rattle.asp_vars.specs.Tabled.{IsAtomVar}
 use Rattle.asp_vars.specs.Unfounded.{is_excused}
 use Rattle.asp_loop.specs.Parts.{form_of}
@@ -15,6 +16,15 @@ use Rattle.asp_source.specs.Ranks.{Ranking, IsRanking, raised}
 pub record IsFoundBy (p : Program) (x : List (Option Bool)) (q : ℕ → Bool) (v b : ℕ) : Type 0 where
   pub support : IsTrue (has (supports p (nth_atom p (v - 1))) b)
   pub firm : is_excused p x (shown p q) (form_of p b) ≡ false
+
+-- There is a place for each atom, and the clock can tick for each candidate.
+pub record HaveRoom (p : Program) (x : List (Option Bool)) (sources : List ℕ) (ranks : Ranking) (loose waiting : List Bool) : Type 0 where
+  pub values : length x ≡ var_count p + 1
+  pub size : length sources ≡ length (atoms_of p) + 1
+  pub marks : length loose ≡ length (atoms_of p) + 1
+  pub waits : length waiting ≡ length (atoms_of p)
+  pub rank_room : length ranks.ranks ≡ length (atoms_of p) + 1
+  pub time : ranks.clock + count_by (λ b. b) loose < 2 ^ 64
 
 -- Candidates get sources, one after another, each a body that isn't excused for those that are candidates then.
 pub data GetSources (p : Program) (x : List (Option Bool)) (sources : List ℕ) (ranks : Ranking) (loose : List Bool) : List ℕ → Ranking → List Bool → Type 0 where

@@ -4,10 +4,10 @@ use Rattle.std.specs.List.{All}
 use Rattle.asp_model.specs.declared.program.Program.{Program}
 use Rattle.asp_model.specs.Models.{atoms_of}
 use Rattle.asp_vars.specs.Literals.{F, holds_in}
-use Rattle.asp_vars.specs.Numbering.{nth_body}
+use Rattle.asp_vars.specs.Numbering.{nth_body, var_count}
 use Rattle.asp_vars.specs.Tabled.{heads_of, IsAtomVar}
 use Rattle.asp_vars.specs.Unfounded.{is_excused}
-use Rattle.asp_scc.specs.Components.{Parts}
+use Rattle.asp_scc.specs.Components.{Parts, AreComponents}
 use Rattle.asp_loop.specs.Parts.{form_of}
 use Rattle.asp_source.specs.Marks.{is_marked, shown}
 use Rattle.asp_source.specs.Founding.{IsFoundBy}
@@ -18,8 +18,14 @@ use Rattle.asp_source.specs.Pointers.{AreSupports, AreCandidates}
 abbrev pub is_done : List Bool → List Bool → ℕ → ℕ → Bool
 is_done loose waiting busy v = (is_marked loose v && not (is_marked waiting (v - 1))) && not (v == busy)
 
+-- The components are the program's, and the values have a place for each variable.
+pub record IsSetting (p : Program) (c : Parts) (x : List (Option Bool)) : Type 0 where
+  pub components : AreComponents p c
+  pub values : length x ≡ var_count p + 1
+
 -- Candidates are gathered: no source rests on those that are done. All of them have joined.
 pub record IsGathering (p : Program) (c : Parts) (x : List (Option Bool)) (k : ℕ) (ranks : List ℕ) (busy : ℕ) (sources : List ℕ) (loose waiting joined : List Bool) : Type 0 where
+  pub setting : IsSetting p c x
   pub size : length sources ≡ length (atoms_of p) + 1
   pub rank_room : length ranks ≡ length (atoms_of p) + 1
   pub waits : length waiting ≡ length (atoms_of p)

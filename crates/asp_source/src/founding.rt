@@ -2,14 +2,14 @@
 //!
 //! An atom that is a candidate no longer waits until the bodies were looked at in which it stands: they may found their
 //! heads now.
-ghost use Rattle.std.specs.Prelude.{◌≡◌, ◌+◌, ◌-◌, ◌<◌, ◌^◌, true, false, All, IfNone, IfSome, length, count_by};
+ghost use Rattle.std.specs.Prelude.{◌≡◌, ◌+◌, ◌-◌, ◌<◌, true, false, All, IfNone, IfSome, length, count_by};
 ghost use Rattle.std.specs.List.{list_any};
 ghost use Rattle.asp_model.specs.Models.{atoms_of};
 ghost use Rattle.asp_vars.specs.Completion.{supports};
 ghost use Rattle.asp_vars.specs.Numbering.{bodies_of, var_count, nth_atom};
 ghost use Rattle.asp_vars.specs.Tabled.{IsAtomVar};
 ghost use Rattle.asp_source.specs.Marks.{is_marked, shown, is_founded, is_dropped};
-ghost use Rattle.asp_source.specs.Founding.{Founds, IsFoundBy};
+ghost use Rattle.asp_source.specs.Founding.{HaveRoom, Founds, IsFoundBy};
 
 use crate::bodies::{is_firm, occurrences};
 use crate::inside::{Candidates, Inside};
@@ -52,12 +52,7 @@ pub fn found_one(
     var: Var,
 ) -> bool
     requires var { IsAtomVar compiled.now var }
-    requires values { length values.now ≡ var_count compiled.now + 1 }
-    requires sources { length sources.old ≡ length (atoms_of compiled.now) + 1 }
-    requires loose { length loose.old ≡ length (atoms_of compiled.now) + 1 }
-    requires waiting { length waiting.old ≡ length (atoms_of compiled.now) }
-    requires ranks { length ranks.old.ranks ≡ length (atoms_of compiled.now) + 1 }
-    requires time { ranks.old.clock + count_by (λ b. b) loose.old < 2 ^ 64 }
+    requires room { HaveRoom compiled.now values.now sources.old ranks.old loose.old waiting.old }
     ensures founds { Founds compiled.now values.now sources.old ranks.old loose.old waiting.old sources.new ranks.new loose.new waiting.new }
     ensures founded { result ≡ is_dropped compiled.now values.now loose.old var }
     ensures same { result ≡ false → loose.new ≡ loose.old }
@@ -101,12 +96,7 @@ fn found_each(
     vars: &[Var],
 )
     requires vars { All (IsAtomVar compiled.now) vars.now }
-    requires values { length values.now ≡ var_count compiled.now + 1 }
-    requires sources { length sources.old ≡ length (atoms_of compiled.now) + 1 }
-    requires loose { length loose.old ≡ length (atoms_of compiled.now) + 1 }
-    requires waiting { length waiting.old ≡ length (atoms_of compiled.now) }
-    requires ranks { length ranks.old.ranks ≡ length (atoms_of compiled.now) + 1 }
-    requires time { ranks.old.clock + count_by (λ b. b) loose.old < 2 ^ 64 }
+    requires room { HaveRoom compiled.now values.now sources.old ranks.old loose.old waiting.old }
     ensures { Founds compiled.now values.now sources.old ranks.old loose.old waiting.old sources.new ranks.new loose.new waiting.new }
 {
     for var in vars {
@@ -135,12 +125,7 @@ fn found_heads(
     body: usize,
 )
     requires body { body < length (bodies_of compiled.now) }
-    requires values { length values.now ≡ var_count compiled.now + 1 }
-    requires sources { length sources.old ≡ length (atoms_of compiled.now) + 1 }
-    requires loose { length loose.old ≡ length (atoms_of compiled.now) + 1 }
-    requires waiting { length waiting.old ≡ length (atoms_of compiled.now) }
-    requires ranks { length ranks.old.ranks ≡ length (atoms_of compiled.now) + 1 }
-    requires time { ranks.old.clock + count_by (λ b. b) loose.old < 2 ^ 64 }
+    requires room { HaveRoom compiled.now values.now sources.old ranks.old loose.old waiting.old }
     ensures { Founds compiled.now values.now sources.old ranks.old loose.old waiting.old sources.new ranks.new loose.new waiting.new }
 {
     if !is_founding(compiled, values, loose, body) {
@@ -168,12 +153,7 @@ fn spread_from(
     var: Var,
 )
     requires var { IsAtomVar compiled.now var }
-    requires values { length values.now ≡ var_count compiled.now + 1 }
-    requires sources { length sources.old ≡ length (atoms_of compiled.now) + 1 }
-    requires loose { length loose.old ≡ length (atoms_of compiled.now) + 1 }
-    requires waiting { length waiting.old ≡ length (atoms_of compiled.now) }
-    requires ranks { length ranks.old.ranks ≡ length (atoms_of compiled.now) + 1 }
-    requires time { ranks.old.clock + count_by (λ b. b) loose.old < 2 ^ 64 }
+    requires room { HaveRoom compiled.now values.now sources.old ranks.old loose.old waiting.old }
     ensures { Founds compiled.now values.now sources.old ranks.old loose.old waiting.old sources.new ranks.new loose.new waiting.new }
 {
     let _vars = compiled.vars();
@@ -199,12 +179,7 @@ pub fn spread(
     loose: &mut [bool],
     waiting: &mut Queue,
 )
-    requires values { length values.now ≡ var_count compiled.now + 1 }
-    requires sources { length sources.old ≡ length (atoms_of compiled.now) + 1 }
-    requires loose { length loose.old ≡ length (atoms_of compiled.now) + 1 }
-    requires waiting { length waiting.old ≡ length (atoms_of compiled.now) }
-    requires ranks { length ranks.old.ranks ≡ length (atoms_of compiled.now) + 1 }
-    requires time { ranks.old.clock + count_by (λ b. b) loose.old < 2 ^ 64 }
+    requires { HaveRoom compiled.now values.now sources.old ranks.old loose.old waiting.old }
     ensures { Founds compiled.now values.now sources.old ranks.old loose.old waiting.old sources.new ranks.new loose.new waiting.new }
 {
     let _vars = compiled.vars();

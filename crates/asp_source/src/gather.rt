@@ -5,11 +5,10 @@
 //! candidate could rest is asked the same, so that all of them are looked at together; that only saves looks.
 ghost use Rattle.std.specs.Prelude.{◌≡◌, ℕ, ◌+◌, ◌-◌, ◌<◌, ◌≤◌, ◌^◌, true, false, length, slice_index};
 ghost use Rattle.asp_model.specs.Models.{atoms_of};
-ghost use Rattle.asp_vars.specs.Numbering.{bodies_of, var_count};
+ghost use Rattle.asp_vars.specs.Numbering.{bodies_of};
 ghost use Rattle.asp_vars.specs.Tabled.{IsAtomVar};
-ghost use Rattle.asp_scc.specs.Components.{AreComponents};
 ghost use Rattle.asp_source.specs.Marks.{is_marked};
-ghost use Rattle.asp_source.specs.Gathering.{IsGathering, Gathers, Steps, Admits, IsReseated, IsReleased, AreReleased, join_loose, join_places};
+ghost use Rattle.asp_source.specs.Gathering.{IsSetting, IsGathering, Gathers, Steps, Admits, IsReseated, IsReleased, AreReleased, join_loose, join_places};
 
 use crate::bodies::occurrences;
 use crate::founding::find_source;
@@ -60,8 +59,7 @@ pub fn join(values: &Assign, loose: &mut [bool], waiting: &mut Queue, joined: &m
 // An atom of the component gets a source again, if a body founds it from outside of the candidates and of the atoms of
 // its rank and above. What rests on the atom needn't be looked at then.
 fn reseat(region: &Region, sources: &mut [Var], loose: &[bool], var: Var) -> bool
-    requires components { AreComponents region.now.compiled.now region.now.components.now }
-    requires values { length region.now.values.now ≡ var_count region.now.compiled.now + 1 }
+    requires setting { IsSetting region.now.compiled.now region.now.components.now region.now.values.now }
     requires ranks { length region.now.ranks.now.ranks ≡ length (atoms_of region.now.compiled.now) + 1 }
     requires sources { length sources.old ≡ length (atoms_of region.now.compiled.now) + 1 }
     requires loose { length loose.now ≡ length (atoms_of region.now.compiled.now) + 1 }
@@ -94,8 +92,6 @@ pub fn admit(
     busy: Var,
     var: Var,
 )
-    requires components { AreComponents region.now.compiled.now region.now.components.now }
-    requires values { length region.now.values.now ≡ var_count region.now.compiled.now + 1 }
     requires gathering { IsGathering region.now.compiled.now region.now.components.now region.now.values.now region.now.component region.now.ranks.now.ranks busy sources.old loose.old waiting.old joined.old }
     requires var { IsAtomVar region.now.compiled.now var }
     requires at { slice_index region.now.components.now.numbers var ≡ region.now.component }
@@ -128,8 +124,6 @@ fn release(
     body: Var,
     var: Var,
 )
-    requires components { AreComponents region.now.compiled.now region.now.components.now }
-    requires values { length region.now.values.now ≡ var_count region.now.compiled.now + 1 }
     requires gathering { IsGathering region.now.compiled.now region.now.components.now region.now.values.now region.now.component region.now.ranks.now.ranks busy sources.old loose.old waiting.old joined.old }
     requires var { IsAtomVar region.now.compiled.now var }
     requires body { 0 < body }
@@ -155,8 +149,6 @@ fn release_heads(
     busy: Var,
     body: usize,
 )
-    requires components { AreComponents region.now.compiled.now region.now.components.now }
-    requires values { length region.now.values.now ≡ var_count region.now.compiled.now + 1 }
     requires gathering { IsGathering region.now.compiled.now region.now.components.now region.now.values.now region.now.component region.now.ranks.now.ranks busy sources.old loose.old waiting.old joined.old }
     requires body { body < length (bodies_of region.now.compiled.now) }
     ensures steps { Steps region.now.compiled.now region.now.components.now region.now.values.now region.now.component region.now.ranks.now.ranks busy sources.old loose.old waiting.old sources.new loose.new waiting.new joined.new }
@@ -177,8 +169,6 @@ fn release_from(
     joined: &mut Queue,
     var: Var,
 )
-    requires components { AreComponents region.now.compiled.now region.now.components.now }
-    requires values { length region.now.values.now ≡ var_count region.now.compiled.now + 1 }
     requires gathering { IsGathering region.now.compiled.now region.now.components.now region.now.values.now region.now.component region.now.ranks.now.ranks var sources.old loose.old waiting.old joined.old }
     requires var { IsAtomVar region.now.compiled.now var }
     ensures gathering { IsGathering region.now.compiled.now region.now.components.now region.now.values.now region.now.component region.now.ranks.now.ranks 0 sources.new loose.new waiting.new joined.new }
@@ -207,8 +197,6 @@ fn draw(
     joined: &mut Queue,
     lit: Lit,
 )
-    requires components { AreComponents region.now.compiled.now region.now.components.now }
-    requires values { length region.now.values.now ≡ var_count region.now.compiled.now + 1 }
     requires gathering { IsGathering region.now.compiled.now region.now.components.now region.now.values.now region.now.component region.now.ranks.now.ranks 0 sources.old loose.old waiting.old joined.old }
     requires atom { IsAtomVar region.now.compiled.now lit.var }
     ensures gathering { IsGathering region.now.compiled.now region.now.components.now region.now.values.now region.now.component region.now.ranks.now.ranks 0 sources.new loose.new waiting.new joined.new }
@@ -233,8 +221,6 @@ fn draw_body(
     joined: &mut Queue,
     body: usize,
 )
-    requires components { AreComponents region.now.compiled.now region.now.components.now }
-    requires values { length region.now.values.now ≡ var_count region.now.compiled.now + 1 }
     requires gathering { IsGathering region.now.compiled.now region.now.components.now region.now.values.now region.now.component region.now.ranks.now.ranks 0 sources.old loose.old waiting.old joined.old }
     requires body { body < length (bodies_of region.now.compiled.now) }
     ensures gathering { IsGathering region.now.compiled.now region.now.components.now region.now.values.now region.now.component region.now.ranks.now.ranks 0 sources.new loose.new waiting.new joined.new }
@@ -260,8 +246,6 @@ fn draw_from(
     joined: &mut Queue,
     var: Var,
 )
-    requires components { AreComponents region.now.compiled.now region.now.components.now }
-    requires values { length region.now.values.now ≡ var_count region.now.compiled.now + 1 }
     requires gathering { IsGathering region.now.compiled.now region.now.components.now region.now.values.now region.now.component region.now.ranks.now.ranks 0 sources.old loose.old waiting.old joined.old }
     requires var { IsAtomVar region.now.compiled.now var }
     ensures gathering { IsGathering region.now.compiled.now region.now.components.now region.now.values.now region.now.component region.now.ranks.now.ranks 0 sources.new loose.new waiting.new joined.new }
@@ -288,8 +272,6 @@ pub fn gather(
     waiting: &mut Queue,
     joined: &mut Queue,
 )
-    requires components { AreComponents region.now.compiled.now region.now.components.now }
-    requires values { length region.now.values.now ≡ var_count region.now.compiled.now + 1 }
     requires gathering { IsGathering region.now.compiled.now region.now.components.now region.now.values.now region.now.component region.now.ranks.now.ranks 0 sources.old loose.old waiting.old joined.old }
     ensures gathering { IsGathering region.now.compiled.now region.now.components.now region.now.values.now region.now.component region.now.ranks.now.ranks 0 sources.new loose.new waiting.new joined.new }
     ensures gathers { Gathers region.now.values.now sources.old loose.old waiting.old sources.new loose.new waiting.new }

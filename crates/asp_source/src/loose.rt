@@ -4,11 +4,11 @@
 //! goes any more, all bodies of those left are excused: they are unfounded, or there are none.
 ghost use Rattle.std.specs.Prelude.{◌≡◌, ℕ, ◌+◌, ◌-◌, ◌<◌, ◌≤◌, ◌^◌, ◌++◌, true, false, All, IfNone, IfOk, IfSome, OnOk, length, count_by, slice_set};
 ghost use Rattle.asp_model.specs.Models.{atoms_of};
-ghost use Rattle.asp_vars.specs.Numbering.{var_count, nth_atom};
+ghost use Rattle.asp_vars.specs.Numbering.{nth_atom};
 ghost use Rattle.asp_vars.specs.Tabled.{IsAtomVar};
 ghost use Rattle.asp_source.specs.Marks.{is_marked, atom_if, atoms_at, requeue_places};
 ghost use Rattle.asp_source.specs.Marks.{AreBlank};
-ghost use Rattle.asp_source.specs.Founding.{Founds, AreStuck};
+ghost use Rattle.asp_source.specs.Founding.{HaveRoom, Founds, AreStuck};
 
 use crate::founding::{found_one, spread};
 use crate::queue::Queue;
@@ -30,12 +30,7 @@ fn sweep(
     places: &[u32],
 ) -> bool
     requires places { All (λ k. k < length (atoms_of compiled.now)) places.now }
-    requires values { length values.now ≡ var_count compiled.now + 1 }
-    requires sources { length sources.old ≡ length (atoms_of compiled.now) + 1 }
-    requires loose { length loose.old ≡ length (atoms_of compiled.now) + 1 }
-    requires waiting { length waiting.old ≡ length (atoms_of compiled.now) }
-    requires ranks { length ranks.old.ranks ≡ length (atoms_of compiled.now) + 1 }
-    requires time { ranks.old.clock + count_by (λ b. b) loose.old < 2 ^ 64 }
+    requires room { HaveRoom compiled.now values.now sources.old ranks.old loose.old waiting.old }
     ensures founds { Founds compiled.now values.now sources.old ranks.old loose.old waiting.old sources.new ranks.new loose.new waiting.new }
     ensures fewer { result ≡ true → count_by (λ b. b) loose.new < count_by (λ b. b) loose.old }
     ensures stuck { result ≡ false → AreStuck compiled.now values.now loose.new places.now }
@@ -63,12 +58,7 @@ pub fn settle(
     places: &[u32],
 )
     requires places { All (λ k. k < length (atoms_of compiled.now)) places.now }
-    requires values { length values.now ≡ var_count compiled.now + 1 }
-    requires sources { length sources.old ≡ length (atoms_of compiled.now) + 1 }
-    requires loose { length loose.old ≡ length (atoms_of compiled.now) + 1 }
-    requires waiting { length waiting.old ≡ length (atoms_of compiled.now) }
-    requires ranks { length ranks.old.ranks ≡ length (atoms_of compiled.now) + 1 }
-    requires time { ranks.old.clock + count_by (λ b. b) loose.old < 2 ^ 64 }
+    requires room { HaveRoom compiled.now values.now sources.old ranks.old loose.old waiting.old }
     ensures founds { Founds compiled.now values.now sources.old ranks.old loose.old waiting.old sources.new ranks.new loose.new waiting.new }
     ensures stuck { AreStuck compiled.now values.now loose.new places.now }
 {

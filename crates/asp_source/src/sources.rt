@@ -15,13 +15,13 @@ ghost use Rattle.asp_vars.specs.Numbering.{var_count};
 ghost use Rattle.asp_trail.specs.Entries.{assignment};
 ghost use Rattle.asp_trail.specs.Trails.{IsVar};
 ghost use Rattle.asp_trail.specs.Told.{told, untold};
-ghost use Rattle.asp_source.specs.Loops.{IsUnfoundedLoop, IsGiven};
+ghost use Rattle.asp_source.specs.Loops.{IsUnfoundedLoop, IsFound, IsGiven};
 
 use crate::pointers::{lose_by, regain};
 use crate::queue::Queue;
 use crate::ranks::Ranks;
 use crate::rest::Found;
-use crate::search::{Setting, first_unfounded, nogood_of};
+use crate::search::{Setting, Unfounded, first_unfounded, nogood_of};
 use crate::start::{Bare, Blank, bare_pointers, blank_marks, has_weights, refresh};
 use asp_model::program::Atom;
 use asp_scc::components::Components;
@@ -180,12 +180,12 @@ impl<'a> Sources<'a> {
         Ok(Some(nogood))
     }
 
-    // The loop nogood of a set that a queued atom brings with it.
-    fn search(&mut self, values: &Assign) -> Result<Option<Nogood>, AllocError>
+    // An unfounded set that a queued atom brings with it, and an atom of it, if there is one.
+    fn unfounded(&mut self, values: &Assign) -> Result<Option<Unfounded>, AllocError>
         requires { self.old.values ≡ values.now }
         ensures same { self.new ≡ self.old }
-        ensures none { IfOk result (λ n. IfNone n ((U : Atoms) → IsUnfoundedLoop self.old.program self.old.values U → ⊥)) }
-        ensures given { IfOk result (λ n. IfSome n (IsGiven self.old)) }
+        ensures none { IfOk result (λ o. IfNone o ((U : Atoms) → IsUnfoundedLoop self.old.program self.old.values U → ⊥)) }
+        ensures some { IfOk result (λ o. IfSome o (λ f. IsFound self.old.program self.old.values f.atoms.items f.atom)) }
     {
         let _program = self.compiled.program();
         if self.tight {
@@ -207,7 +207,7 @@ impl<'a> Sources<'a> {
             values,
         };
         let loose = self.loose.as_mut_slice();
-        let found = first_unfounded(
+        first_unfounded(
             &setting,
             sources,
             &mut self.ranks,
@@ -215,13 +215,25 @@ impl<'a> Sources<'a> {
             loose,
             &mut self.waiting,
             &mut self.joined,
-        )?;
-        let Some(found) = found else {
-            return Ok(None);
+        )
+    }
+
+    // The loop nogood of a set that was found just now, which is kept for its other atoms.
+    fn nogood_kept(&mut self, values: &Assign, found: Unfounded) -> Result<Nogood, AllocError>
+        requires values { self.old.values ≡ values.now }
+        requires found { IsFound self.old.program self.old.values found.atoms.items found.atom }
+        ensures same { self.new ≡ self.old }
+        ensures given { IfOk result (IsGiven self.old) }
+    {
+        let setting = Setting {
+            alloc: self.alloc,
+            compiled: self.compiled,
+            components: &self.components,
+            values,
         };
         let nogood = nogood_of(&setting, &found)?;
         self.found.keep(found.atoms, &nogood)?;
-        Ok(Some(nogood))
+        Ok(nogood)
     }
 
     /// The loop nogood of a set of atoms that aren't false, within a component that isn't trivial, which is unfounded
@@ -238,6 +250,9 @@ impl<'a> Sources<'a> {
         if let Some(nogood) = self.again(values)? {
             return Ok(Some(nogood));
         }
-        self.search(values)
+        match self.unfounded(values)? {
+            None => Ok(None),
+            Some(found) => Ok(Some(self.nogood_kept(values, found)?)),
+        }
     }
 }

@@ -1,6 +1,6 @@
 use Rattle.std.proofs.Common.{◌+◌, Bool, get_or, sym, ◌∙◌, subst, arith}
 use Rattle.asp_scc.proofs.SearchLaws.{get_or-any}
-use Rattle.asp_source.proofs.FoundLaws.{Sweeping, sweep_begins, sweep_drops, sweep_passes, sweep_ends}
+use Rattle.asp_source.proofs.FoundLaws.{room_then, Sweeping, sweep_begins, sweep_drops, sweep_passes, sweep_ends}
 use Rattle.asp_source.proofs.loose.sweep.Goals as goal
 use Rattle.asp_source.proofs.loose.sweep.Goals.{then-found_one, else-found_one}
 
@@ -23,3 +23,6 @@ pub returns-clause-stuck : goal.returns-clause-stuck
 returns-clause-stuck c = λ e.
     sweep_ends c.args.compiled.now c.args.values.now c.args.sources.now c.args.ranks.now c.args.loose.now c.args.waiting.now c.loop-place.sources c.loop-place.ranks c.loop-place.loose c.loop-place.waiting c.args.places.now c.loop-place.place-index (omega (arith, c.loop-place-test.false))
     (subst (λ (b : Bool). Sweeping c.args.compiled.now c.args.values.now c.args.sources.now c.args.ranks.now c.args.loose.now c.args.waiting.now c.loop-place.sources c.loop-place.ranks c.loop-place.loose c.loop-place.waiting c.args.places.now c.loop-place.place-index b) e c.loop-place.invariant)
+
+pub found_one-requires-clause-room : goal.found_one-requires-clause-room
+found_one-requires-clause-room c = room_then c.args.compiled.now c.args.values.now c.args.sources.now c.args.ranks.now c.args.loose.now c.args.waiting.now c.loop-place.sources c.loop-place.ranks c.loop-place.loose c.loop-place.waiting c.requires.room c.loop-place.invariant.founds

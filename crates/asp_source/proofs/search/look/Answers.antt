@@ -24,7 +24,8 @@ trivial-requires c =
 
 pub admit-requires-clause-gathering : goal.admit-requires-clause-gathering
 admit-requires-clause-gathering c =
-    gathering_begins c.args.setting.now.compiled.now c.args.setting.now.components.now c.args.setting.now.values.now c.of-component.result c.args.sources.now c.args.ranks.now.ranks (set c.args.queue.now (c.args.var - 1) true) c.args.loose.now c.args.waiting.now c.args.joined.now c.program-program.ensures.sound c.requires.pointers c.requires.blank c.requires.loose c.requires.waiting c.requires.joined
+    gathering_begins c.args.setting.now.compiled.now c.args.setting.now.components.now c.args.setting.now.values.now c.of-component.result c.args.sources.now c.args.ranks.now.ranks (set c.args.queue.now (c.args.var - 1) true) c.args.loose.now c.args.waiting.now c.args.joined.now
+    (record { components = c.requires.components; values = c.requires.values }) c.program-program.ensures.sound c.requires.pointers c.requires.blank c.requires.loose c.requires.waiting c.requires.joined
 
 pub admit-requires-clause-at : goal.admit-requires-clause-at
 admit-requires-clause-at c = sym c.of-component.ensures
@@ -32,11 +33,21 @@ admit-requires-clause-at c = sym c.of-component.ensures
 pub admit-requires-clause-none : goal.admit-requires-clause-none
 admit-requires-clause-none c = c.if-sources-var-ne0.false
 
-pub gather-requires-clause-gathering : goal.gather-requires-clause-gathering
-gather-requires-clause-gathering c = c.admit.ensures.steps.gathering
+pub gather-requires : goal.gather-requires
+gather-requires c = record { gathering = c.admit.ensures.steps.gathering }
 
-pub settle-requires-clause-time : goal.settle-requires-clause-time
-settle-requires-clause-time c = let few = count_by-le-length (λ b. b) c.gather.new.loose in omega (arith, few, c.requires.time, c.gather.ensures.gathering.candidates.size, c.vars-vars.ensures.few)
+pub settle-requires-clause-room : goal.settle-requires-clause-room
+settle-requires-clause-room c =
+    let few = count_by-le-length (λ b. b) c.gather.new.loose in
+    let g = c.gather.ensures.gathering in
+    record {
+      values = g.setting.values;
+      size = g.size;
+      marks = g.candidates.size;
+      waits = g.waits;
+      rank_room = g.rank_room;
+      time = omega (arith, few, c.requires.time, g.candidates.size, c.vars-vars.ensures.few);
+    }
 
 pub left_of-left-requires-clause-atoms : goal.left_of-left-requires-clause-atoms
 left_of-left-requires-clause-atoms c v e = c.gather.ensures.gathering.candidates.atoms v (gets_less c.args.setting.now.compiled.now c.args.setting.now.values.now c.gather.new.sources c.args.ranks.now c.gather.new.loose c.settle.new.sources c.settle.new.ranks c.settle.new.loose c.settle.ensures.founds.gets v e)
