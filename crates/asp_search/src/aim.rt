@@ -60,6 +60,8 @@ pub(crate) struct Aim {
     fixed: usize,
     /// Those before this place have values on the way down from an answer; None where a conflict ended it.
     passed: Option<usize>,
+    /// Whether none was found since the last answer.
+    fresh: bool,
 }
 
 impl Aim {
@@ -68,6 +70,7 @@ impl Aim {
         Aim {
             fixed: 0,
             passed: None,
+            fresh: true,
         }
     }
 
@@ -76,12 +79,18 @@ impl Aim {
         Aim {
             fixed: 0,
             passed: Some(0),
+            fresh: true,
         }
     }
 
     /// There was a conflict.
     pub(crate) fn stop(&mut self) {
         self.passed = None;
+    }
+
+    /// Whether none was found since the last answer.
+    pub(crate) fn is_fresh(&self) -> bool {
+        self.fresh
     }
 
     // Where no decision stands.
@@ -135,8 +144,7 @@ impl Aim {
         }
     }
 
-    /// What is to be decided next, if it is to be chosen by what it shows.
-    pub(crate) fn next(
+    fn found(
         &mut self,
         trail: &Trail,
         vars: Var,
@@ -154,5 +162,24 @@ impl Aim {
         } else {
             self.next_fixed(trail, vars, compiled, known)
         }
+    }
+
+    /// What is to be decided next, if it is to be chosen by what it shows.
+    pub(crate) fn next(
+        &mut self,
+        trail: &Trail,
+        vars: Var,
+        compiled: &Compiled,
+        known: &Known,
+        decided: bool,
+    ) -> Option<Lit>
+        requires vars { trail.now.vars ≡ vars }
+        requires program { known.now.program ≡ compiled.now }
+    {
+        let next = self.found(trail, vars, compiled, known, decided);
+        if next.is_some() {
+            self.fresh = false;
+        }
+        next
     }
 }

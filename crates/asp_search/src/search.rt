@@ -18,7 +18,7 @@ ghost use Rattle.asp_search_laws.specs.Searching.{used};
 ghost use Rattle.asp_search_laws.specs.Steps.{is_of_use};
 ghost use Rattle.asp_search.specs.Beside.{new_search, Adopts, Enters, Leaves, count_unshown, left_to_show, is_local, is_shared, kept_last, only_shared, exported, Imports, IsOpen, IsShared, has_var};
 ghost use Rattle.asp_search.specs.Invariants.{IsSeen, answers_known};
-ghost use Rattle.asp_state.specs.SearchStates.{KeepsCompletionAlone};
+ghost use Rattle.asp_state.specs.SearchStates.{first_ranking, KeepsCompletionAlone};
 
 use crate::aim::Aim;
 use crate::covering::renew;
@@ -123,6 +123,34 @@ fn nothing_seen(alloc: Global, compiled: &Compiled, mode: Mode) -> Result<Option
             Ok(Some(known))
         }
     }
+}
+
+// What a search begins with. Where consequences are sought costs don't count, so nothing begins cheap there.
+fn first_state<P: Propagator>(
+    alloc: Global,
+    compiled: &Compiled,
+    mode: Mode,
+    propagator: P,
+) -> Result<SearchState<P>, AllocError>
+    requires program { (P.told propagator).program ≡ compiled.now }
+    requires fresh { (P.told propagator).values ≡ replicate (var_count compiled.now + 1) None }
+    ensures same { IfOk result (λ t. t ≡ record {
+      program = compiled.now;
+      bound = P.bound propagator;
+      cube = None;
+      clashing = false;
+      decisions = [];
+      entries = [];
+      slots = t.slots;
+      ranking = first_ranking compiled.now;
+    }) }
+    ensures slots { IfOk result (λ t. KeepsCompletionAlone compiled.now t.slots) }
+{
+    let mut state = SearchState::new(alloc, compiled, propagator)?;
+    if mode.reasoning().is_none() {
+        state.begin_cheap(alloc, compiled);
+    }
+    Ok(state)
 }
 
 /// How many atoms are still to be shown; none where no answer is known.
@@ -232,7 +260,7 @@ impl<'a, P: Propagator> Search<'a, P> {
         let checker = Checker::new(alloc, compiled)?;
         let seen = nothing_seen(alloc, compiled, mode)?;
         // The state is made last: no way out has it to drop, which would cost the check more than all else here.
-        let state = SearchState::new(alloc, compiled, propagator)?;
+        let state = first_state(alloc, compiled, mode, propagator)?;
         Ok(Search {
             alloc,
             compiled,

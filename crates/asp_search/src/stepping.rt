@@ -149,6 +149,19 @@ fn raise_above<P: Propagator>(state: &mut SearchState<P>, vars: Var, next: Optio
     }
 }
 
+// Raises what shows an atom. The first one after an answer goes above all that was raised before; those that follow it need that no
+// more, so that activities keep their order over a long way down.
+fn raise_shown<P: Propagator>(state: &mut SearchState<P>, vars: Var, next: Option<Lit>, fresh: bool)
+    requires { vars ≡ var_count state.old.program }
+    ensures { state.new ≡ record state.old { ranking = state.new.ranking } }
+{
+    if fresh {
+        raise_above(state, vars, next);
+    } else {
+        raise(state, vars, next);
+    }
+}
+
 impl<'a, P: Propagator> Search<'a, P> {
     // Burns a unit for the conflict that a nogood shows, and keeps what was learnt from it.
     fn pay(
@@ -387,9 +400,10 @@ impl<'a, P: Propagator> Search<'a, P> {
     {
         let vars = self.compiled.vars();
         let mut aim = self.aim;
+        let fresh = aim.is_fresh();
         let next = self.sought(&mut aim);
         self.aim = aim;
-        raise_above(&mut self.state, vars, next);
+        raise_shown(&mut self.state, vars, next, fresh);
     }
 
     fn follow(&mut self)

@@ -26,7 +26,7 @@ ghost use Rattle.asp_state.specs.SearchStates.{first_ranking, path_of, values_of
 
 use crate::assume::assume_all;
 use crate::completed::keep_completion;
-use crate::preferred::prefer_first;
+use crate::preferred::{prefer_cheap, prefer_derived};
 use crate::unlisted::begin_unlisted;
 use asp_model::cost::Cost;
 use asp_order::order::Order;
@@ -125,7 +125,7 @@ impl<P: Propagator> SearchState<P> {
         order.age(AGE);
         match keep_completion(alloc, compiled, &mut engine, &mut order) {
             Ok(()) => {
-                prefer_first(alloc, &mut order, compiled);
+                prefer_derived(&mut order, compiled);
                 Ok(SearchState {
                     engine,
                     order,
@@ -294,6 +294,13 @@ impl<P: Propagator> SearchState<P> {
         self.order.restore_above(self.engine.trail(), level);
         self.engine.undo_to(level);
         self.decisions.truncate(level);
+    }
+
+    /// What is minimised is decided to have the value at which it costs less when it is decided next.
+    pub fn begin_cheap(&mut self, alloc: Global, compiled: &Compiled)
+        ensures { self.new ≡ self.old }
+    {
+        prefer_cheap(alloc, &mut self.order, compiled);
     }
 
     /// The variable is decided to have this value when it is decided next.
