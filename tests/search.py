@@ -129,9 +129,9 @@ ROWS = [
     # no conflicts and 200 decisions; where all atoms are sought 199 and 599
     ("200 pairs, two by name", with_outputs(pairs(200), (1, 3)), 30, b"Consequences: x3\nCONSEQUENCES FOUND\n", 10,
      "Conflicts 0, Leaves 1, Log 0, Decisions 200, Propagated 403, Restarts 0, Kept 0, Dropped 0, Atoms 600, Bodies 800, Loops 0"),
-    # 171; where all atoms are sought 1,683
+    # 225; where all atoms are sought 1,503
     ("3-SAT of 150, five by name", with_outputs(random_sat(150, 3.8, 3), range(1, 6)), 30, b"Consequences: x1 x2 x3 x4 x5\nCONSEQUENCES FOUND\n", 300,
-     "Conflicts 171, Leaves 1, Log 0, Decisions 306, Propagated 7765, Restarts 1, Kept 171, Dropped 0, Atoms 150, Bodies 571, Loops 0"),
+     "Conflicts 225, Leaves 1, Log 0, Decisions 370, Propagated 9841, Restarts 1, Kept 225, Dropped 0, Atoms 150, Bodies 571, Loops 0"),
 ]
 
 # a program, what its status and last lines must be
