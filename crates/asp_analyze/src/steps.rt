@@ -1,5 +1,5 @@
 //! By which kept nogoods something was found: what a proof's line names. It is advice alone, and no clause says it.
-ghost use Rattle.std.specs.Prelude.{◌≡◌, ◌≤◌, ◌<◌, length};
+ghost use Rattle.std.specs.Prelude.{◌≤◌, ◌<◌, length};
 
 use crate::learn::Learner;
 use crate::marks::{Mark, Marks};
