@@ -162,9 +162,7 @@ pub fn confirms(
     ensures root { OnOk result (IsRoot compiled.now (known_before compiled.now known.now) values.new) }
 {
     let mut trail = Vec::new(alloc);
-    let confirmed = confirms_by(
-        compiled, known, watches, values, &mut trail, lits, names,
-    )?;
+    let confirmed = confirms_by(compiled, known, watches, values, &mut trail, lits, names)?;
     undo(values, compiled.vars(), trail.as_slice());
     Ok(confirmed)
 }

@@ -29,6 +29,7 @@ use asp_member::stable::is_stable;
 use asp_model::holding::all_hold;
 use asp_model::interp::Interp;
 use asp_model::seq::Seq;
+use asp_proof::changes::next_answer;
 use asp_proof::lines::{answer, is_last, line};
 use asp_proof::proof::Line;
 use asp_vars::assign::Assign;
@@ -147,7 +148,7 @@ pub enum Listed {
     Other,
 }
 
-/// Reads a line that may be an answer's, and judges the answer behind those before it.
+/// Reads a line that may be an answer's, by what it changes of the one before it, and judges the answer behind those before it.
 pub(crate) fn read_answer(
     alloc: Global,
     compiled: &Compiled,
@@ -158,10 +159,11 @@ pub(crate) fn read_answer(
     requires { AreRightAnswers compiled.now opt answers.old.items }
     ensures { IfOk result (IsAnswerRead compiled.now opt answers.old.items answers.new.items bytes.now) }
 {
-    let Some(set) = answer(alloc, bytes)? else {
+    let Some(change) = answer(alloc, bytes)? else {
         return Ok(Listed::Other);
     };
     let before = answers.as_slice();
+    let set = next_answer(alloc, before, &change)?;
     let fault = fault_of_answer(alloc, compiled, opt, before, &set)?;
     match fault {
         Some(why) => Ok(Listed::Wrong(why)),
@@ -344,15 +346,7 @@ fn fault_of_line(
             lits,
             names.as_slice(),
         ),
-        Line::Cube(_) => fault_of_nogood(
-            alloc,
-            compiled,
-            known,
-            watches,
-            values,
-            lits,
-            &[],
-        ),
+        Line::Cube(_) => fault_of_nogood(alloc, compiled, known, watches, values, lits, &[]),
     }
 }
 
@@ -480,7 +474,9 @@ fn keep(
     requires root { IsRoot compiled.now (known_with compiled.now listed.now rows.old.kept.items bound.now) values.old }
     ensures rows { OnOk result (AllByRecursion (AreOf compiled.now) rows.new.kept.items) }
     ensures placed { OnOk result (AllByRecursion (AreOf compiled.now) rows.new.placed.items) }
-    ensures known { OnOk result (stock (known_with compiled.now listed.now rows.new.kept.items bound.now) rows.new.placed.items ≡ with_placed (stock (known_with compiled.now listed.now rows.old.kept.items bound.now) rows.old.placed.items) place lits) }
+    ensures known { OnOk result
+        (stock (known_with compiled.now listed.now rows.new.kept.items bound.now) rows.new.placed.items ≡ with_placed
+        (stock (known_with compiled.now listed.now rows.old.kept.items bound.now) rows.old.placed.items) place lits) }
     ensures root { OnOk result (IsRoot compiled.now (known_with compiled.now listed.now rows.new.kept.items bound.now) values.new) }
 {
     if place > 0 {
@@ -529,9 +525,7 @@ fn take_line(
             let own = lits.as_slice();
             let closing = closes(assumed, line, own);
             let place = place_of(line);
-            keep(
-                compiled, listed, rows, bound, watches, values, place, lits,
-            )?;
+            keep(compiled, listed, rows, bound, watches, values, place, lits)?;
             Ok(Read::Right(closing))
         }
     }

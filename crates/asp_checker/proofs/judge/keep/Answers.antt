@@ -25,7 +25,8 @@ returns-then-place-gt0-clause-known c =
 pub learn-requires-clause-of : goal.learn-requires-clause-of
 learn-requires-clause-of c =
     let p = c.args.compiled.now in
-    subst (AllByRecursion (AreOf p)) (sym (c.as_slice-more.ensures.value ∙ c.in_ok-push.ensures.items)) (each-append (AreOf p) c.args.rows.now.kept.items (c.args.lits ∷ []) c.requires.kept (c.requires.lits, tt))
+    subst (AllByRecursion (AreOf p)) (sym (c.as_slice-more.ensures.value ∙ c.in_ok-push.ensures.items))
+    (each-append (AreOf p) c.args.rows.now.kept.items (c.args.lits ∷ []) c.requires.kept (c.requires.lits, tt))
 
 pub learn-requires-clause-root : goal.learn-requires-clause-root
 learn-requires-clause-root c =
@@ -45,7 +46,8 @@ returns-clause-known c =
     let p = c.args.compiled.now in
     let first = map (nogood_of_answer p) c.args.listed.now in
     let k = known_with p c.args.listed.now c.args.rows.now.kept.items c.args.bound.now in
-    let next = known_next (first ++ c.args.rows.now.kept.items) (first ++ c.push.new.self.items) c.args.bound.now c.args.lits c.args.lits (one_behind first c.args.rows.now.kept.items c.push.new.self.items c.args.lits c.in_ok-push.ensures.items) refl in
+    let next = known_next (first ++ c.args.rows.now.kept.items) (first ++ c.push.new.self.items) c.args.bound.now c.args.lits c.args.lits
+    (one_behind first c.args.rows.now.kept.items c.push.new.self.items c.args.lits c.in_ok-push.ensures.items) refl in
     ap (λ (m : Known). stock m c.args.rows.now.placed.items) next ∙ with_none (stock k c.args.rows.now.placed.items) c.args.place c.args.lits (omega arith)
 
 pub returns-clause-root : goal.returns-clause-root

@@ -24,12 +24,14 @@ judge_each-judged-requires-clause-assumed g c = c.as_slice-assumed.ensures.value
 pub judge_each-judged-requires-clause-root : goal.judge_each-judged-requires-clause-root
 judge_each-judged-requires-clause-root g c =
     let p = c.args.compiled.now in
-    subst (λ (Ss : List Atoms). IsRoot p (known_with p Ss c.in_ok-kept.kept.items c.in_ok-bound.bound) c.in_ok-values.values) c.avoided-listed.ensures (rw c.as_slice-first.ensures.value at c.in_ok-values.ensures)
+    subst (λ (Ss : List Atoms). IsRoot p (known_with p Ss c.in_ok-kept.kept.items c.in_ok-bound.bound) c.in_ok-values.values) c.avoided-listed.ensures
+    (rw c.as_slice-first.ensures.value at c.in_ok-values.ensures)
 
 pub judge_each-judged-requires-clause-known : goal.judge_each-judged-requires-clause-known
 judge_each-judged-requires-clause-known g c =
     let opt = c.args.opt in
-    known_from c.args.compiled.now (proof_of opt c.args.answers.now []) c.args.answers.now (cond opt [] c.args.answers.now) c.in_ok-kept.kept.items c.in_ok-bound.bound refl refl c.in_ok-kept.ensures c.in_ok-bound.ensures.cost
+    known_from c.args.compiled.now (proof_of opt c.args.answers.now []) c.args.answers.now (cond opt [] c.args.answers.now) c.in_ok-kept.kept.items
+    c.in_ok-bound.bound refl refl c.in_ok-kept.ensures c.in_ok-bound.ensures.cost
 
 pub returns-in_err-kept-clause-says : goal.returns-in_err-kept-clause-says
 returns-in_err-kept-clause-says g c =
