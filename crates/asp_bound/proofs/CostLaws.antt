@@ -53,12 +53,12 @@ items-stand p q =
     let E = map atom_of p.assumptions in
     let standing = A ++ B ++ C ++ D ++ E in
     let of_items : (xs : List ℕ) → HasAll B xs → HasAll standing xs =
-        λ xs h. HasAll-left (A ++ B ++ C ++ D) E xs (HasAll-left (A ++ B ++ C) D xs (HasAll-left (A ++ B) C xs (HasAll-right A B xs h))) in
+    λ xs h. HasAll-left (A ++ B ++ C ++ D) E xs (HasAll-left (A ++ B ++ C) D xs (HasAll-left (A ++ B) C xs (HasAll-right A B xs h))) in
     among_items p p.minimize q
     (each_weaker (λ (m : Minimize). HasAll B (item_atoms m)) (λ (m : Minimize). AreStanding p m.items) (λ m h.
     each-unmap (λ a. has (atoms_of p) a ≡ true) (λ (item : ℤ × ℤ). atom_of item.0) m.items
     (each_weaker (λ a. has standing a ≡ true) (λ a. has (atoms_of p) a ≡ true) (λ a e. has-set_of standing a ∙ e) (item_atoms m)
-            (of_items (item_atoms m) h))) p.minimize (HasAll-flat_map item_atoms p.minimize))
+    (of_items (item_atoms m) h))) p.minimize (HasAll-flat_map item_atoms p.minimize))
 
 pub var-within : (atoms : Atoms) (l : ℤ) (n : ℕ) → has atoms (atom_of l) ≡ true → length atoms ≤ n → (0 < (literal_in atoms l).var) × ((literal_in atoms l).var ≤ n)
 var-within atoms l n h e =
@@ -149,7 +149,7 @@ pub optimistic_at-le : (p : Program) (a : List (Option Bool)) (x : List Bool) (q
 optimistic_at-le p a x q h =
     let each : (v : ℕ) → 0 < v → v ≤ var_count p → least_at p a q v ≤ℤ picked_by (is_true x) (weight_at p q) v = λ v i k.
     let le : least_at p a q v ≤ℤ cond (get_or x v false) (weight_at p q (T v)) (weight_at p q (F v)) =
-        least-le (value_of a v) (get_or x v false) (weight_at p q (T v)) (weight_at p q (F v)) (λ b e up. h v b i k e up) in
+    least-le (value_of a v) (get_or x v false) (weight_at p q (T v)) (weight_at p q (F v)) (λ b e up. h v b i k e up) in
     omega (arith, ints, le, picked_by-value (get_or x v false) (weight_at p q (T v)) (weight_at p q (F v))) in
     omega (arith, ints, cost_of_at-sum p x q, sum_to-le (least_at p a q) (picked_by (is_true x) (weight_at p q)) (var_count p) each)
 
@@ -271,8 +271,8 @@ optimistic_at-high p a q =
     let w = weight_in (atoms_of p) items in
     let m = weight_in (atoms_of p) (absolutes items) in
     let le = sum_to-le (least_at p a q) (picked_by (λ l. true) m) (var_count p)
-        (λ v i k. least-high (value_of a v) (w (T v)) (w (F v)) (m (T v)) (m (F v)) (weight_in-high (atoms_of p) items (T v))
-            (weight_in-low (atoms_of p) items (T v)) (weight_in-high (atoms_of p) items (F v)) (weight_in-low (atoms_of p) items (F v))) in
+    (λ v i k. least-high (value_of a v) (w (T v)) (w (F v)) (m (T v)) (m (F v)) (weight_in-high (atoms_of p) items (T v))
+    (weight_in-low (atoms_of p) items (T v)) (weight_in-high (atoms_of p) items (F v)) (weight_in-low (atoms_of p) items (F v))) in
     let P : ℤ → Type 0 = λ x. optimistic_at p a q ≤ℤ x in
     subst P (sum_to-size p items (items-stand p q)) le
 
@@ -286,9 +286,9 @@ optimistic_at-low p a q =
     let m = weight_in (atoms_of p) (absolutes items) in
     let both : ℕ → ℤ = λ v. least_at p a q v +ℤ picked_by (λ l. true) m v in
     let le : sum_to (λ v. pos 0) (var_count p) ≤ℤ sum_to both (var_count p) =
-        sum_to-le (λ v. pos 0) both (var_count p) (λ v i k. least-low (value_of a v) (w (T v)) (w (F v)) (m (T v)) (m (F v))
-            (weight_in-high (atoms_of p) items (T v)) (weight_in-low (atoms_of p) items (T v)) (weight_in-high (atoms_of p) items (F v))
-            (weight_in-low (atoms_of p) items (F v))) in
+    sum_to-le (λ v. pos 0) both (var_count p) (λ v i k. least-low (value_of a v) (w (T v)) (w (F v)) (m (T v)) (m (F v))
+    (weight_in-high (atoms_of p) items (T v)) (weight_in-low (atoms_of p) items (T v)) (weight_in-high (atoms_of p) items (F v))
+    (weight_in-low (atoms_of p) items (F v))) in
     let split : sum_to both (var_count p) ≡ optimistic_at p a q +ℤ sum_to (picked_by (λ l. true) m) (var_count p) = sum_to-add (least_at p a q) (picked_by (λ l. true) m) (var_count p) in
     omega (arith, ints, le, sum_to-none (var_count p), split, sum_to-size p items (items-stand p q))
 

@@ -80,7 +80,7 @@ pub columns-within : (p : Program) (a : List (Option Bool)) (rows : List (List P
     (j : ℕ) → j < length columns → All (λ (i : Item). (0 < i.var) × (i.var < length a)) (get_or columns j [])
 columns-within p a rows columns vars sums kept j lt =
     All-weaker (λ (i : Item). (0 < i.var) × (i.var ≤ var_count p)) (λ (i : Item). (0 < i.var) × (i.var < length a))
-        (λ i h. (h.0, omega (arith, kept.sized, h.1))) (get_or columns j []) (kept.columned.each j lt).within
+    (λ i h. (h.0, omega (arith, kept.sized, h.1))) (get_or columns j []) (kept.columned.each j lt).within
 
 pub held-value : (a : List (Option Bool)) (l : Literal) → holds_in a l ≡ true → value_of a l.var ≡ Some l.truth
 held-value a l e = held_by (value_of a l.var) e
@@ -180,7 +180,7 @@ kept_as p a z rows columns vars sums new ez en kept = subst (IsKept p z rows col
 pub begun_as : (p o : Program) (a : List (Option Bool)) (count : ℕ) (rows made : List (List Place)) (columns : List (List Item)) (vars : List ℕ)
     (sums : List ℤ) → o ≡ p → count ≡ var_count p → var_count p < 2 ^ 31 → a ≡ replicate (count + 1) None →
     rows ≡ made → IsSound p → AreGathered p (priorities p.minimize) made columns sums → All (λ v. (0 < v) × (v < length rows)) vars →
-        HasEach rows (length rows) vars → IsOnce vars → IsKept o a rows columns vars sums
+    HasEach rows (length rows) vars → IsOnce vars → IsKept o a rows columns vars sums
 begun_as p o a count rows made columns vars sums eo ec few ea er sound g within whole once =
     let gathered = subst (λ (z : List (List Place)). AreGathered p (priorities p.minimize) z columns sums) (sym er) g in
     let kept = kept-new p rows columns vars sums sound few gathered within whole once in

@@ -321,7 +321,7 @@ not_not false = refl
 
 pub implied_explained : (p : Program) (a : List (Option Bool)) (rows : List (List Place)) (columns : List (List Item)) (vars : List ℕ) (sums : List ℤ) → IsKept p a rows columns vars sums →
     (es : List Entry) (c : List ℤ) (x : Implied) (l : Literal) → a ≡ assignment (var_count p) es → Reaches a rows sums c x → (0 < x.lit.var) ×
-        (x.lit.var < length a) → l ≡ complement x.lit → IsExplained p (Some c) es l
+    (x.lit.var < length a) → l ≡ complement x.lit → IsExplained p (Some c) es l
 implied_explained p a rows columns vars sums kept es c x l shown r within is_it =
     subst (IsExplained p (Some c) es) (sym is_it) (record {
       cost = c;
@@ -386,7 +386,7 @@ module _ (p : Program) (bound : Option (List ℤ)) (es : List Entry) (l : Litera
   last_has =
       list_any-append (λ k. literal_eq k (complement l)) (map (λ e. e.lit) es) (complement l ∷ [])
       ∙ or_right (has_literal (map (λ e. e.lit) es) (complement l)) (has_literal (complement l ∷ []) (complement l))
-          (or_left (literal_eq (complement l) (complement l)) false (itself l.var (complement l).truth))
+      (or_left (literal_eq (complement l) (complement l)) false (itself l.var (complement l).truth))
 
   first_has : (k : Literal) → has_literal (map (λ e. e.lit) es) k ≡ true → has_literal lits k ≡ true
   unfolding lits
@@ -493,7 +493,7 @@ kept_at p a t place rows columns vars sums same kept = record {
 
 pub reaches_by : (p : Program) (b : List (Option Bool)) (rows : List (List Place)) (columns : List (List Item)) (vars : List ℕ) (sums : List ℤ) → IsKept p b rows columns vars sums →
     (c : List ℤ) (x : Implied) (left limits : List ℤ) → IsKept p (set b x.lit.var (Some x.lit.truth)) rows columns vars left → limits ≡ c →
-        IsVar (var_count p) x.lit.var → value_of b x.lit.var ≡ None →
+    IsVar (var_count p) x.lit.var → value_of b x.lit.var ≡ None →
     Some x.depth ≡ reach (lifted (λ j. 0) left) limits → Reaches b rows sums c x
 reaches_by p b rows columns vars sums kept c x left limits more el var none e = record {
   no_value = none;
@@ -523,20 +523,20 @@ written_reason t place l lit n o is_lit held = subst (λ (k : Literal). IsReason
 pub written : (p : Program) (t : Trailed) (place : ℕ) (rows : List (List Place)) (columns : List (List Item)) (vars : List ℕ) (sums : List ℤ)
     (raisers : List ℕ) → IsOrdered t.vars t.entries → IsKept p (before t place) rows columns vars sums →
     HaveRaisers (before t place) rows raisers → (c : List ℤ) (l : Literal) (x : Implied) (n : Nogood) (found : List Literal) (left : List ℤ) →
-        x.lit ≡ complement l → Reaches (before t place) rows sums c x → IsVar (var_count p) x.lit.var →
+    x.lit ≡ complement l → Reaches (before t place) rows sums c x → IsVar (var_count p) x.lit.var →
     IsPermutation (raising_of (before t place) rows x.depth raisers) found →
-        IsKept p (set (before t place) x.lit.var (Some x.lit.truth)) rows columns vars left →
-        n ≡ record { lits = needed rows c x.depth left found ++ x.lit ∷ []; base = base.Below c } →
+    IsKept p (set (before t place) x.lit.var (Some x.lit.truth)) rows columns vars left →
+    n ≡ record { lits = needed rows c x.depth left found ++ x.lit ∷ []; base = base.Below c } →
     IsTooDear p (Some c) n × IsReason t.entries place l n.lits
 written p t place rows columns vars sums raisers o kept are c l x n found left is_lit reaches var moved more e =
     let b : List (Option Bool) = before t place in
     let given = given_with_as p b rows columns vars sums kept raisers are c sums c x n (needed rows c x.depth left found) found left refl refl reaches
-        (var.0, omega (arith, var.1, kept.sized)) moved more refl e in
+    (var.0, omega (arith, var.1, kept.sized)) moved more refl e in
     let held = found-held p b rows columns vars sums raisers x.depth found kept are moved in (
       record { cost = c; stands = refl; excluded = given.excluded; base = given.base; below = given.below },
       subst (λ (m : Nogood). IsReason t.entries place l m.lits) (sym e)
           (written_reason t place l x.lit (needed rows c x.depth left found) o is_lit
-              (λ k h. held.held k (needed-among rows c x.depth found left k h))),
+          (λ k h. held.held k (needed-among rows c x.depth found left k h))),
     )
 
 -- the complement of a literal that followed, before its place

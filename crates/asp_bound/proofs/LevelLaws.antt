@@ -93,8 +93,12 @@ addition_at weights v = addition_of v (weight_true weights v) (weight_false weig
 pub additions_to-few : (weights : List ℤ) (n : ℕ) → length (additions_to weights n) ≤ n
 additions_to-few weights zero = omega arith
 additions_to-few weights (suc n) =
-    omega (arith, length-append (additions_to weights n) (additions_of (suc n) (weight_true weights (suc n)) (weight_false weights (suc n))),
-            additions_to-few weights n, additions-few (suc n) (weight_true weights (suc n)) (weight_false weights (suc n)))
+    omega (
+      arith,
+      length-append (additions_to weights n) (additions_of (suc n) (weight_true weights (suc n)) (weight_false weights (suc n))),
+      additions_to-few weights n,
+      additions-few (suc n) (weight_true weights (suc n)) (weight_false weights (suc n)),
+    )
 
 pub additions_to-all : (P : Addition → Type 0) (weights : List ℤ) (n : ℕ) → ((v : ℕ) → 0 < v → v ≤ n → P (addition_at weights v)) → All P (additions_to weights n)
 additions_to-all P weights zero h = λ k d lt. absurd (omega arith)
@@ -114,7 +118,7 @@ additions_to-contains weights (suc n) v i k up = elim (cases_eq v (suc n)) [
   | inr ne ↦ (
       let within : v ≤ n = omega arith in
       Contains-append_left (additions_to weights n) (additions_of (suc n) (weight_true weights (suc n)) (weight_false weights (suc n)))
-          (addition_at weights v) (additions_to-contains weights n v i within up))
+      (addition_at weights v) (additions_to-contains weights n v i within up))
 ]
 
 -- what a variable adds among those up to n, past it and within
@@ -135,8 +139,13 @@ additions_to-sum weights (suc n) v b i k =
       | inl e ↦ (
           let P : ℕ → Type 0 = λ (u : ℕ). sum_by (added_at u b) (additions_to weights (suc n)) ≡ rise b (weight_true weights u) (weight_false weights u) in
           let on : cond (eqb (suc n) (suc n)) (rise b t f) 0 ≡ rise b t f = ap (λ (c : Bool). cond c (rise b t f) 0) (eq-eqb (suc n) (suc n) refl) in
-          subst P (sym e) (omega (arith, sum_by-append (added_at (suc n) b) (additions_to weights n) (additions_of (suc n) t f),
-                      additions_to-past weights n (suc n) b (omega arith), additions-sum (suc n) (suc n) b t f, on)))
+          subst P (sym e) (omega (
+            arith,
+            sum_by-append (added_at (suc n) b) (additions_to weights n) (additions_of (suc n) t f),
+            additions_to-past weights n (suc n) b (omega arith),
+            additions-sum (suc n) (suc n) b t f,
+            on,
+          )))
       | inr ne ↦ (
           let within : v ≤ n = omega arith in
           let off : cond (eqb (suc n) v) (rise b t f) 0 ≡ 0 = ap (λ (c : Bool). cond c (rise b t f) 0) (ne_eqb (suc n) v (λ (e : suc n ≡ v). ne (sym e))) in
@@ -149,7 +158,7 @@ least_to-is p q weights are =
     sum_to-same (least_at p (valueless p) q) (least_by weights) (var_count p) (λ v i k.
     ap (λ (o : Option Bool). least o (weight_at p q (T v)) (weight_at p q (F v))) (get_or-replicate (var_count p + 1) v None None (omega arith))
     ∙ (ap (λ (t : ℤ). least None t (weight_at p q (F v))) (sym (weight_true-is p q weights v are k))
-            ∙ ap (λ (f : ℤ). least None (weight_true weights v) f) (sym (weight_false-is p q weights v are k))))
+    ∙ ap (λ (f : ℤ). least None (weight_true weights v) f) (sym (weight_false-is p q weights v are k))))
 
 pub least_to-low : (p : Program) (q : ℤ) (weights : List ℤ) → AreWeights p (items_at p.minimize q) weights →
     size_of (items_at p.minimize q) ≤ 2 ^ 55 → neg_ℤ (pos (2 ^ 60)) ≤ℤ least_to weights (var_count p)
@@ -166,7 +175,7 @@ additions-few_as weights additions n permuted = omega (arith, length_permutation
 pub additions-vars : (weights : List ℤ) (additions : List Addition) (n : ℕ) → IsPermutation (additions_to weights n) additions → All (λ (a : Addition). (0 < a.var) × (a.var ≤ n)) additions
 additions-vars weights additions n permuted =
     All-permutation (λ (a : Addition). (0 < a.var) × (a.var ≤ n)) (additions_to weights n) additions permuted
-        (additions_to-all (λ (a : Addition). (0 < a.var) × (a.var ≤ n)) weights n (λ v i k. (i, k)))
+    (additions_to-all (λ (a : Addition). (0 < a.var) × (a.var ≤ n)) weights n (λ v i k. (i, k)))
 
 -- what the values of a variable add, by its weights
 rises-at : (p : Program) (q : ℤ) (weights : List ℤ) (v : ℕ) (b : Bool) → AreWeights p (items_at p.minimize q) weights → v ≤ var_count p →
@@ -198,7 +207,7 @@ column-is p q weights additions are small permuted falling =
       within = All-map (λ (i : Item). (0 < i.var) × (i.var ≤ n)) item_of additions (additions-vars weights additions n permuted);
       small = All-map (λ (i : Item). i.most < 2 ^ 57) item_of additions
           (All-permutation (λ (a : Addition). a.most < 2 ^ 57) (additions_to weights n) additions permuted
-              (additions_to-all (λ (a : Addition). a.most < 2 ^ 57) weights n (λ v i k. most-small p q weights v are small k)));
+          (additions_to-all (λ (a : Addition). a.most < 2 ^ 57) weights n (λ v i k. most-small p q weights v are small k)));
       falling = falling-items additions falling;
       whole = λ v b i k up.
           let a : Addition = addition_at weights v in
@@ -217,7 +226,7 @@ linked-items level rows new additions placed = λ i d within.
 pub gathered : (p : Program) (level : ℕ) (q : ℤ) (weights : List ℤ) (rows new : List (List Place)) (additions : List Addition) →
     AreWeights p (items_at p.minimize q) weights → size_of (items_at p.minimize q) ≤ 2 ^ 55 →
     IsPermutation (additions_to weights (var_count p)) additions → AllPairs (λ (i k : Addition). k.most ≤ i.most) additions →
-        ArePlaced level additions rows new → IsGathered p level q rows new (map item_of additions) (least_to weights (var_count p))
+    ArePlaced level additions rows new → IsGathered p level q rows new (map item_of additions) (least_to weights (var_count p))
 gathered p level q weights rows new additions are small permuted falling placed =
     let n = var_count p in
     record {
@@ -236,7 +245,7 @@ gathered p level q weights rows new additions are small permuted falling placed 
 -- the same, by what the calls say
 pub gathered_as : (p : Program) (level : ℕ) (q : ℤ) (weights : List ℤ) (rows new : List (List Place)) (additions : List Addition) (items : List Item) (least : ℤ) (vars : ℕ) → vars ≡ var_count p →
     AreWeights p (items_at p.minimize q) weights → size_of (items_at p.minimize q) ≤ 2 ^ 55 → IsPermutation (additions_to weights vars) additions →
-        AllPairs (λ (i k : Addition). k.most ≤ i.most) additions →
+    AllPairs (λ (i k : Addition). k.most ≤ i.most) additions →
     ArePlaced level additions rows new → items ≡ map item_of additions → least ≡ least_to weights vars → IsGathered p level q rows new items least
 gathered_as p level q weights rows new additions items least vars e are small permuted falling placed made sum =
     let all = gathered p level q weights rows new additions are small (subst (λ (n : ℕ). IsPermutation (additions_to weights n) additions) e permuted) falling placed in
@@ -276,7 +285,7 @@ gathered_more p qs q rows new items costs column least g h =
       small = each_push qs q (λ (j : ℕ) (r : ℤ). size_of (items_at p.minimize r) ≤ 2 ^ 55) g.small h.small;
       within = λ v. h.within (length (qs ++ q ∷ [])) v (omega (arith, long))
           (All-weaker (λ (o : Place). o.level < length qs) (λ (o : Place). o.level < length (qs ++ q ∷ [])) (λ o lt. omega (arith, long, lt))
-              (row_at rows v) (g.within v));
+          (row_at rows v) (g.within v));
       sums = λ j v b lt i k. each_push qs q (λ (j : ℕ) (r : ℤ). raised (row_at new v) j b ≡ rise_at p r v b)
           (λ j lt. h.kept j v b (λ (e : j ≡ length qs). omega arith) ∙ g.sums j v b lt i k)
           (omega (arith, h.sums v b i k, raised-none (row_at rows v) (length qs) b (g.within v))) j lt;
@@ -287,14 +296,14 @@ gathered_more p qs q rows new items costs column least g h =
       linked = record {
         each = λ k within. each_push qs q (λ (j : ℕ) (r : ℤ). IsLinked new j (get_or (items ++ column ∷ []) j []))
             (λ j lt. subst (IsLinked new j) (sym (get_or_append_left items (column ∷ []) [] j (omega (arith, g.columned, lt))))
-                    (linked-grown rows new j (get_or items j []) h.grown (g.linked.each j (omega (arith, g.columned, lt)))))
+            (linked-grown rows new j (get_or items j []) h.grown (g.linked.each j (omega (arith, g.columned, lt)))))
             (subst (IsLinked new (length qs)) (sym (get_or_push items column [] (length qs) g.columned)) h.linked) k (omega (arith, long, length_push items column, g.columned, within));
       };
       summed =
           let last : optimistic_at p (valueless p) q ≡ least = h.least_is in
           let all = g.summed in
           let pushed : map (optimistic_at p (valueless p)) (qs ++ q ∷ []) ≡ map (optimistic_at p (valueless p)) qs
-              ++ optimistic_at p (valueless p) q ∷ [] = map_push (optimistic_at p (valueless p)) qs q in
+          ++ optimistic_at p (valueless p) q ∷ [] = map_push (optimistic_at p (valueless p)) qs q in
           ap (λ (xs : List ℤ). xs ++ least ∷ []) all ∙ (ap (λ (x : ℤ). map (optimistic_at p (valueless p)) qs ++ x ∷ []) (sym last) ∙ sym pushed);
     }
 

@@ -164,7 +164,7 @@ kept-without : (p : Program) (a : List (Option Bool)) (rows : List (List Place))
 kept-without p a rows columns vars sums kept l n h =
     let within : IsVar (var_count p) l.var = h.within l (has-first l n) in
     kept-untold p a rows columns vars sums (without rows sums l) kept l.var l.truth within.0 within.1 (h.held l (has-first l n))
-        (length-lowered (λ j. raised_by rows j l) sums) (λ j lt. get_or-lowered (λ j. raised_by rows j l) sums j lt)
+    (length-lowered (λ j. raised_by rows j l) sums) (λ j lt. get_or-lowered (λ j. raised_by rows j l) sums j lt)
 
 -- what the literals add at most
 pub total-low : (p : Program) (rows : List (List Place)) (columns : List (List Item)) (vars : List ℕ) (n : List Literal) (a : List (Option Bool))
@@ -174,7 +174,7 @@ total-low p rows columns vars [] a sums kept h j lt = sums-low p a rows columns 
 total-low p rows columns vars (l ∷ n) a sums kept h j lt =
     let f : ℕ → ℕ = λ j. raised_by rows j l in
     let rest = total-low p rows columns vars n (set a l.var None) (without rows sums l) (kept-without p a rows columns vars sums kept l n h)
-        (held-without p a l n h) j (omega (arith, length-lowered f sums)) in
+    (held-without p a l n h) j (omega (arith, length-lowered f sums)) in
     omega (arith, ints, rest, get_or-lowered f sums j lt, sum_by-cons (raised_by rows j) l n)
 
 -- ---- what is needed
@@ -218,8 +218,8 @@ covers-kept : (p : Program) (a : List (Option Bool)) (d : ℕ) (l : Literal) (n 
 covers-kept p a d l n x hit h = λ j v b lt low i k e up. elim (h j v b lt low i k e up) [
   | inl has ↦ elim (or_split (literal_eq l (record { var = v; truth = b })) (has_literal n (record { var = v; truth = b })) has) [
     | inl here ↦ inr (beq_same (get_or x v false) b
-            (hits-has x (l ∷ []) (record { var = v; truth = b }) (and_both (is_true x l) true hit refl)
-                (or_left (literal_eq l (record { var = v; truth = b })) false here)))
+        (hits-has x (l ∷ []) (record { var = v; truth = b }) (and_both (is_true x l) true hit refl)
+        (or_left (literal_eq l (record { var = v; truth = b })) false here)))
     | inr later ↦ inl later
   ]
   | inr agree ↦ inr agree
@@ -231,18 +231,18 @@ pub needed-excludes : (p : Program) (rows : List (List Place)) (columns : List (
     (d : ℕ) → reach sums c ≡ Some d → d ≤ depth → hits x (needed rows c depth sums n) ≡ true → betters (cost_of p x) c ≡ false
 needed-excludes p rows columns vars c depth x [] a sums kept h covers d r le hit =
     excluded_at p a c d x (ap (λ (s : List ℤ). reach s c) (sym kept.summed) ∙ r)
-        (λ j v b lt low i k e up. elim (covers j v b (omega arith) low i k e up) [ inl has ↦ absurd (false≢true has) | inr agree ↦ agree ])
+    (λ j v b lt low i k e up. elim (covers j v b (omega arith) low i k e up) [ inl has ↦ absurd (false≢true has) | inr agree ↦ agree ])
 needed-excludes p rows columns vars c depth x (l ∷ n) a sums kept h covers d r le hit =
     let inside : l.var < length a = omega (arith, kept.sized, (h.within l (has-first l n)).1) in
     by_test (is_shown depth (reach (without rows sums l) c)) refl
     (λ e g.
     let s = shown depth (reach (without rows sums l) c) e in
     needed-excludes p rows columns vars c depth x n (set a l.var None) (without rows sums l) (kept-without p a rows columns vars sums kept l n h)
-        (held-without p a l n h) (covers-without p a depth l n x inside covers) s.0 s.1 s.2 g)
+    (held-without p a l n h) (covers-without p a depth l n x inside covers) s.0 s.1 s.2 g)
     (λ g.
     needed-excludes p rows columns vars c depth x n a sums kept (held-later p a l n h)
-        (covers-kept p a depth l n x (and_left (is_true x l) (hits x (needed rows c depth sums n)) g) covers) d r le
-        (and_right (is_true x l) (hits x (needed rows c depth sums n)) g))
+    (covers-kept p a depth l n x (and_left (is_true x l) (hits x (needed rows c depth sums n)) g) covers) d r le
+    (and_right (is_true x l) (hits x (needed rows c depth sums n)) g))
     hit
   where
     by_test : (t : Bool) → is_shown depth (reach (without rows sums l) c) ≡ t →

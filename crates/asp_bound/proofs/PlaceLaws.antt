@@ -66,8 +66,8 @@ linked-push j i xs old new x long lt before made k d within =
           let y : Addition = get_or xs k d in
           let had : Contains (row_at old y.var) (place_of j k y) = before k d less in
           subst Q (sym (get_or_append_left xs (x ∷ []) d k less))
-              (placed_row old new x.var y.var o lt made (λ (ps : List Place). Contains ps (place_of j k y)) (λ ne. had)
-                  (λ e. Contains-append_left (row_at old y.var) (o ∷ []) (place_of j k y) had)))
+          (placed_row old new x.var y.var o lt made (λ (ps : List Place). Contains ps (place_of j k y)) (λ ne. had)
+          (λ e. Contains-append_left (row_at old y.var) (o ∷ []) (place_of j k y) had)))
       | inr out ↦ (
           let e : length xs ≡ k = omega (arith, length_push xs x) in
           let last : Contains (row_at new x.var) o = placed_row old new x.var x.var o lt made (λ (ps : List Place). Contains ps o) (λ ne. absurd (ne refl)) (λ e. Contains-push (row_at old x.var) o) in
@@ -95,4 +95,4 @@ pub placed-more : (j i : ℕ) (xs : List Addition) (rows old new : List (List Pl
     new ≡ set old (get_or xs i d).var (row_at old (get_or xs i d).var ++ place_of j i (get_or xs i d) ∷ []) → ArePlaced j (take (i + 1) xs) rows new
 placed-more j i xs rows old new d within lt before made =
     subst (λ (ys : List Addition). ArePlaced j ys rows new) (sym (take_more xs i d within))
-        (placed-push j i (take i xs) rows old new (get_or xs i d) (length-take-le i xs (omega arith)) lt before made)
+    (placed-push j i (take i xs) rows old new (get_or xs i d) (length-take-le i xs (omega arith)) lt before made)

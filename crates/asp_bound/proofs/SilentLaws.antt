@@ -134,11 +134,11 @@ silent-now p a rows columns vars sums c kept below passed =
     let now : is_below p a c ≡ true = betters-reach (optimistic p a) c ∙ ap is_none (ap (λ s. reach s c) (sym kept.summed) ∙ below) in
     let with_value : (v : ℕ) (b : Bool) → 0 < v → v ≤ var_count p → value_of a v ≡ None → is_below p (set a v (Some b)) c ≡ true = λ v b i k none.
     betters-reach (optimistic p (set a v (Some b))) c
-        ∙ (ap is_none (sym (reach_at-set p a rows columns vars sums kept c v b i k none))
-            ∙ none_reaches p a rows columns vars sums c kept passed below v b i k none (reach_at rows sums c v b) refl) in
+    ∙ (ap is_none (sym (reach_at-set p a rows columns vars sums kept c v b i k none))
+    ∙ none_reaches p a rows columns vars sums c kept passed below v b i k none (reach_at rows sums c v b) refl) in
     and_both (is_below p a c) (each_to (stays p a c) (var_count p)) now
     (each_to-all (stays p a c) (var_count p) (λ v i k. stays_by (value_of a v) (is_below p (set a v (Some true)) c)
-                (is_below p (set a v (Some false)) c) (with_value v true i k) (with_value v false i k)))
+    (is_below p (set a v (Some false)) c) (with_value v true i k) (with_value v false i k)))
 
 -- ---- the same, by what the calls say
 pub loud_now_as : (p : Program) (a : List (Option Bool)) (rows : List (List Place)) (columns : List (List Item)) (vars : List ℕ) (sums : List ℤ) → IsKept p a rows columns vars sums →
@@ -148,7 +148,7 @@ loud_now_as p a rows columns vars sums kept bound c s limits d eb es el e =
 
 pub loud_with_as : (p : Program) (a : List (Option Bool)) (rows : List (List Place)) (columns : List (List Item)) (vars : List ℕ) (sums : List ℤ) → IsKept p a rows columns vars sums →
     (bound : Option (List ℤ)) (c s limits : List ℤ) (x : Implied) → bound ≡ Some c → s ≡ sums → limits ≡ c → Reaches a rows s limits x →
-        (0 < x.lit.var) × (x.lit.var < length a) → false ≡ is_silent p bound a
+    (0 < x.lit.var) × (x.lit.var < length a) → false ≡ is_silent p bound a
 loud_with_as p a rows columns vars sums kept bound c s limits x eb es el r within =
     let reaches : Reaches a rows sums c x = subst (λ (l : List ℤ). Reaches a rows sums l x) el (subst (λ (z : List ℤ). Reaches a rows z limits x) es r) in
     sym (ap (λ (b : Option (List ℤ)). is_silent p b a) eb ∙ loud-implied p a rows columns vars sums kept c x reaches within.0 (omega (arith, kept.sized, within.1)))

@@ -27,8 +27,8 @@ pub raised-here : (row : List Place) (i : ℕ) (b : Bool) (d : Place) → i < le
     raised (take (i + 1) row) (get_or row i d).level b ≡ raised (take i row) (get_or row i d).level b + rise_by b (get_or row i d)
 raised-here row i b d lt =
     raised-more row i (get_or row i d).level b d lt ∙ ap
-        (λ (t : Bool). raised (take i row) (get_or row i d).level b + cond t (rise_by b (get_or row i d)) 0)
-        (eq-eqb (get_or row i d).level (get_or row i d).level refl)
+    (λ (t : Bool). raised (take i row) (get_or row i d).level b + cond t (rise_by b (get_or row i d)) 0)
+    (eq-eqb (get_or row i d).level (get_or row i d).level refl)
 
 -- what the place adds, within what the row does
 pub raised-within : (row : List Place) (i : ℕ) (b : Bool) (d : Place) → i < length row → raised (take i row) (get_or row i d).level b + rise_by b (get_or row i d) ≤ raised row (get_or row i d).level b

@@ -27,7 +27,7 @@ pub items_at-push : (ms : List Minimize) (m : Minimize) (q : ℤ) → items_at (
 items_at-push [] m q = append-nil (cond (int_eq m.priority q) m.items [])
 items_at-push (n ∷ ms) m q =
     ap (λ (xs : List (ℤ × ℤ)). cond (int_eq n.priority q) n.items [] ++ xs) (items_at-push ms m q)
-        ∙ sym (append_assoc (cond (int_eq n.priority q) n.items []) (items_at ms q) (cond (int_eq m.priority q) m.items []))
+    ∙ sym (append_assoc (cond (int_eq n.priority q) n.items []) (items_at ms q) (cond (int_eq m.priority q) m.items []))
 
 pub items_at-more : (ms : List Minimize) (i : ℕ) (d : Minimize) (q : ℤ) → i < length ms →
     items_at (take (i + 1) ms) q ≡ items_at (take i ms) q ++ cond (int_eq (get_or ms i d).priority q) (get_or ms i d).items []
@@ -44,8 +44,13 @@ items_at-step ms i m q old new lt is before made =
 pub length-items_at : (ms : List Minimize) (q : ℤ) → length (items_at ms q) ≤ sum_by (λ m. length m.items) ms
 length-items_at [] q = omega arith
 length-items_at (m ∷ ms) q =
-    omega (arith, length-append (cond (int_eq m.priority q) m.items []) (items_at ms q), length-cond (int_eq m.priority q) m.items,
-            length-items_at ms q, sum_by-cons (λ (m : Minimize). length m.items) m ms)
+    omega (
+      arith,
+      length-append (cond (int_eq m.priority q) m.items []) (items_at ms q),
+      length-cond (int_eq m.priority q) m.items,
+      length-items_at ms q,
+      sum_by-cons (λ (m : Minimize). length m.items) m ms,
+    )
   where
     length-cond : (b : Bool) (xs : List (ℤ × ℤ)) → length (cond b xs []) ≤ length xs
     length-cond true xs = omega arith
@@ -82,9 +87,9 @@ AreWeights-push p items weights i are le =
           elim (cases_eq (code_of k) c) [
             | inl is ↦ (
                 let here : get_or (set weights (code_of k) w) c (pos 0) ≡ w =
-                    subst (λ (n : ℕ). get_or (set weights (code_of k) w) n (pos 0) ≡ w) is (get_or-set_same weights (code_of k) w (pos 0) within) in
+                subst (λ (n : ℕ). get_or (set weights (code_of k) w) n (pos 0) ≡ w) is (get_or-set_same weights (code_of k) w (pos 0) within) in
                 let before : get_or weights (code_of k) (pos 0) ≡ weight_in (atoms_of p) items (literal_by c) =
-                    subst (λ (n : ℕ). get_or weights n (pos 0) ≡ weight_in (atoms_of p) items (literal_by c)) (sym is) (are.each c lt) in
+                subst (λ (n : ℕ). get_or weights n (pos 0) ≡ weight_in (atoms_of p) items (literal_by c)) (sym is) (are.each c lt) in
                 let adds : cond (literal_eq k (literal_by c)) i.1 (pos 0) ≡ i.1 = ap (λ (b : Bool). cond b i.1 (pos 0)) (test ∙ eq-eqb (code_of k) c is) in
                 omega (arith, ints, pushed, here, before, adds))
             | inr ne ↦ (
@@ -108,8 +113,8 @@ AreWeights-more p items weights base new i c x w l lt is are at within eb ec mad
     let place : c ≡ code_of (literal_of p x.0) = ec ∙ ap code_of at in
     let new_is : new ≡ set weights (code_of (literal_of p x.0)) (get_or weights (code_of (literal_of p x.0)) (pos 0) +ℤ x.1) =
     made ∙ (ap (λ (z : List ℤ). set z c (get_or z c (pos 0) +ℤ w)) eb
-            ∙ (ap (λ (n : ℕ). set weights n (get_or weights n (pos 0) +ℤ w)) place
-                ∙ ap (λ (v : ℤ). set weights (code_of (literal_of p x.0)) (get_or weights (code_of (literal_of p x.0)) (pos 0) +ℤ v)) ew)) in
+    ∙ (ap (λ (n : ℕ). set weights n (get_or weights n (pos 0) +ℤ w)) place
+    ∙ ap (λ (v : ℤ). set weights (code_of (literal_of p x.0)) (get_or weights (code_of (literal_of p x.0)) (pos 0) +ℤ v)) ew)) in
     subst (λ (z : List (ℤ × ℤ)). AreWeights p z new) (sym list) (subst (AreWeights p (take i items ++ x ∷ [])) (sym new_is) pushed)
 
 pub size_of-more : (items : List (ℤ × ℤ)) (i : ℕ) (x : ℤ × ℤ) → i < length items → get_or items i x ≡ x → unsigned_abs x.1 ≤ 2 ^ 31 →
@@ -129,7 +134,7 @@ pub weights-room : (p : Program) (items : List (ℤ × ℤ)) (weights : List ℤ
 weights-room p items weights i c are size lt few within =
     let is = are.each c (omega (arith, are.count, within)) in
     let le : unsigned_abs (get_or weights c (pos 0)) ≤ size_of (take i items) =
-        subst (λ (w : ℤ). unsigned_abs w ≤ size_of (take i items)) (sym is) (weight_in-small (atoms_of p) (take i items) (literal_by c)) in
+    subst (λ (w : ℤ). unsigned_abs w ≤ size_of (take i items)) (sym is) (weight_in-small (atoms_of p) (take i items) (literal_by c)) in
     omega (arith, le, size, lt, few)
 
 -- ---- a sound program has few items

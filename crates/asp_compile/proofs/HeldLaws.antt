@@ -73,7 +73,7 @@ literals_placed atoms name v (b ∷ bs) d =
     ∙ ap (λ ls. literal_for atoms (v + place_of (body_eq b) (filter (takes name) (b ∷ bs))) b (name b) ∷ ls)
     (literals_placed atoms name (next_var v b (name b)) bs d.1
     ∙ map_each (λ c. body_eq c b ≡ false) (λ c. literal_for atoms (next_var v b (name b) + place_of (body_eq c) (filter (takes name) bs)) c (name c))
-        (λ c. literal_for atoms (v + place_of (body_eq c) (filter (takes name) (b ∷ bs))) c (name c))
+    (λ c. literal_for atoms (v + place_of (body_eq c) (filter (takes name) (b ∷ bs))) c (name c))
     (λ c ne. ap (λ n. literal_for atoms n c (name c)) (later_var name v b c bs ne)) bs (others_differ b bs d.0))
 
 -- ---- names
@@ -108,8 +108,8 @@ literals_of_bodies p first e =
     one b =
         ap (λ (bs : List Body). literal_for (atoms_of p) (first + place_of (body_eq b) bs) b (name_var p b)) (filter_each (takes (name_var p)) (is_apart p) (takes-apart p) (bodies_of p))
         ∙ ap (λ n. literal_for (atoms_of p) n b (name_var p b))
-            (let at : first + place_of (body_eq b) (apart_bodies p) ≡ suc (length (atoms_of p) + place_of (body_eq b) (apart_bodies p)) =
-                omega (arith, e) in at)
+        (let at : first + place_of (body_eq b) (apart_bodies p) ≡ suc (length (atoms_of p) + place_of (body_eq b) (apart_bodies p)) =
+        omega (arith, e) in at)
         ∙ ap (λ n. literal_by (atoms_of p) n b) (chosen p (suc (length (atoms_of p) + place_of (body_eq b) (apart_bodies p))) b)
 
 behind_bodies : (name : Body → ℕ) (v : ℕ) (bs : List Body) → var_behind v bs (map name bs) ≡ v + length (filter (takes name) bs)

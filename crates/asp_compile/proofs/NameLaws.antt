@@ -74,8 +74,8 @@ only_alone p j (c ∷ d ∷ ds) lt listed = refl
 supports_listed : (p : Program) (a : ℕ) → AllByRecursion (λ b. list_any (body_eq b) (bodies_of p) ≡ true) (support_bodies p a)
 supports_listed p a =
     each-filter (λ b. list_any (body_eq b) (bodies_of p) ≡ true)
-        (λ b. list_any (λ (r : Rule). has (head_atoms r.head) a && body_eq (normal r.body) b) (rules_in_force p)) (bodies_of p)
-        (bodies_of-themselves p)
+    (λ b. list_any (λ (r : Rule). has (head_atoms r.head) a && body_eq (normal r.body) b) (rules_in_force p)) (bodies_of p)
+    (bodies_of-themselves p)
 
 pub names_are : (p : Program) (names : List ℕ) (first : ℕ) (headed : List Bool) (rows : List (List ℕ)) → first ≡ length (atoms_of p) + 1 →
     AreHeadedAlone headed (atoms_of p) (rules_in_force p) → AreSupports p rows → AreNames names (length (bodies_of p)) first headed rows →
@@ -119,8 +119,8 @@ rows_within p first count rows e f table (suc i) is_var lt =
     subst (λ (ns : List ℕ). All (λ n. (first ≤ n) × (n < first + count)) ns) (sym (ap (λ k. get_or rows k []) (sym (add-one i)) ∙ table.row i (omega (arith, lt, e))))
     (all_of (λ n. (first ≤ n) × (n < first + count)) (supports p (nth_atom p i))
     (each_weaker (IsBodyNumber p) (λ n. (first ≤ n) × (n < first + count))
-            (λ n within. let low = within.0 in let high = within.1 in (omega (arith, low, e), omega (arith, high, e, f))) (supports p (nth_atom p i))
-            (support_numbers p (nth_atom p i))))
+    (λ n within. let low = within.0 in let high = within.1 in (omega (arith, low, e), omega (arith, high, e, f))) (supports p (nth_atom p i))
+    (support_numbers p (nth_atom p i))))
 
 -- ---- one variable more
 pub name_step : (headed : List Bool) (rows : List (List ℕ)) (n v old new : ℕ) (row : List ℕ) → old ≡ first_below (defines_at headed rows n) v →

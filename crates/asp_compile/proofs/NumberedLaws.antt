@@ -72,7 +72,7 @@ places_within p =
     all_of (λ j. j < length (bodies_of p)) (map (rule_place p) (rules_in_force p))
     (each-map (λ j. j < length (bodies_of p)) (rule_place p) (rules_in_force p)
     (each_weaker (λ r. list_any (body_eq (form r)) (bodies_of p) ≡ true) (λ r. rule_place p r < length (bodies_of p))
-            (λ r e. place_of-within (body_eq (form r)) (bodies_of p) e) (rules_in_force p) (rules_have_bodies p)))
+    (λ r e. place_of-within (body_eq (form r)) (bodies_of p) e) (rules_in_force p) (rules_have_bodies p)))
 
 -- ---- heads
 pub place_test : (bs : List Body) (b : Body) (j : ℕ) (d : Body) → AreDistinct bs → list_any (body_eq b) bs ≡ true → j < length bs → eqb (place_of (body_eq b) bs) j ≡ body_eq b (get_or bs j d)
@@ -143,8 +143,8 @@ head_test p b i lt =
     list_any-map (λ x. eqb x (suc i)) (var_of_atom p) (flat_map heads (rules_in_force p))
     ∙ list_any-flat_map (λ x. eqb (var_of_atom p x) (suc i)) heads (rules_in_force p)
     ∙ any_each (λ r. AllByRecursion (λ a. has (atoms_of p) a ≡ true) (head_atoms r.head))
-        (λ r. list_any (λ x. eqb (var_of_atom p x) (suc i)) (heads r)) (λ r. has (head_atoms r.head) (nth_atom p i) && body_eq (normal r.body) b) one
-        (rules_in_force p) (rules_in_force-heads p)
+    (λ r. list_any (λ x. eqb (var_of_atom p x) (suc i)) (heads r)) (λ r. has (head_atoms r.head) (nth_atom p i) && body_eq (normal r.body) b) one
+    (rules_in_force p) (rules_in_force-heads p)
   where
     heads : Rule → List ℕ
     heads r = cond (body_eq (normal r.body) b) (head_atoms r.head) []
@@ -179,14 +179,14 @@ supports_are p first heads rows columns e of_heads read is = record {
       ap (λ (t : List (List ℕ)). get_or t (i + 1) []) is
       ∙ get_or-map (λ row. map (λ o. first + o.body) row) columns (i + 1) [] [] (subst (λ (n : ℕ). i + 1 < n) (sym read.whole) (omega arith))
       ∙ ap (map (λ o. first + o.body)) (read.cells (i + 1) (omega arith) ∙ ap (column 0 (i + 1)) of_heads
-              ∙ ap (λ n. column 0 n (map (heads_of p) (bodies_of p))) (next i) ∙ column_of_bodies p (heads_of p) (suc i))
+      ∙ ap (λ n. column 0 n (map (heads_of p) (bodies_of p))) (next i) ∙ column_of_bodies p (heads_of p) (suc i))
       ∙ map-after (λ o. first + o.body) (λ b. cell (body_place p b) (place_of (λ x. eqb x (suc i)) (heads_of p b))) (filter (λ b. has_key (heads_of p b) (suc i)) (bodies_of p))
       ∙ ap (map (λ b. first + body_place p b))
-          (filter_each (λ b. has_key (heads_of p b) (suc i))
-              (λ b. list_any (λ r. has (head_atoms r.head) (nth_atom p i) && body_eq (normal r.body) b) (rules_in_force p)) (λ b. head_test p b i lt)
-              (bodies_of p))
+      (filter_each (λ b. has_key (heads_of p b) (suc i))
+      (λ b. list_any (λ r. has (head_atoms r.head) (nth_atom p i) && body_eq (normal r.body) b) (rules_in_force p)) (λ b. head_test p b i lt)
+      (bodies_of p))
       ∙ map_all (λ b. first + body_place p b) (number_of_form p) (λ b. omega (arith, e))
-          (filter (λ b. list_any (λ r. has (head_atoms r.head) (nth_atom p i) && body_eq (normal r.body) b) (rules_in_force p)) (bodies_of p));
+      (filter (λ b. list_any (λ r. has (head_atoms r.head) (nth_atom p i) && body_eq (normal r.body) b) (rules_in_force p)) (bodies_of p));
 }
   where
     next : (i : ℕ) → i + 1 ≡ suc i
@@ -205,7 +205,7 @@ supports_small p first heads columns e of_heads read few = λ k d lt i o within.
     let row : get_or columns k d ≡ column 0 k heads = get_or_any columns k d [] lt ∙ read.cells k below in
     let all : AreBelow (length heads) (column 0 k heads) = column_below (length heads) 0 k heads (omega arith) in
     let at : (get_or (column 0 k heads) i o).body < length heads =
-        at_each (λ (x : Occurrence). x.body < length heads) (column 0 k heads) i o all (subst (λ (r : List Occurrence). i < length r) row within) in
+    at_each (λ (x : Occurrence). x.body < length heads) (column 0 k heads) i o all (subst (λ (r : List Occurrence). i < length r) row within) in
     let same : (get_or (get_or columns k d) i o).body ≡ (get_or (column 0 k heads) i o).body = ap (λ (r : List Occurrence). (get_or r i o).body) row in
     omega (arith, at, same, count, e, few)
   where
@@ -253,10 +253,10 @@ literal_column : (p : Program) (row : Body → List Literal) (n : ℕ) → colum
 literal_column p row n =
     column_of_bodies p (codes_of row) n
     ∙ map_all (λ b. cell (body_place p b) (place_of (λ x. eqb x n) (codes_of row b)))
-        (λ b. cell (body_place p b) (place_of (λ k. literal_eq k (code.literal_of n)) (row b)))
-        (λ b. ap (cell (body_place p b)) (place_of-map (row b) n)) (filter (λ b. has_key (codes_of row b) n) (bodies_of p))
+    (λ b. cell (body_place p b) (place_of (λ k. literal_eq k (code.literal_of n)) (row b)))
+    (λ b. ap (cell (body_place p b)) (place_of-map (row b) n)) (filter (λ b. has_key (codes_of row b) n) (bodies_of p))
     ∙ ap (map (λ b. cell (body_place p b) (place_of (λ k. literal_eq k (code.literal_of n)) (row b))))
-        (filter_each (λ b. has_key (codes_of row b) n) (λ b. has_literal (row b) (code.literal_of n)) (λ b. any_code (row b) n) (bodies_of p))
+    (filter_each (λ b. has_key (codes_of row b) n) (λ b. has_literal (row b) (code.literal_of n)) (λ b. any_code (row b) n) (bodies_of p))
   where
     map_all : (f g : Body → Occurrence) → ((b : Body) → f b ≡ g b) → (bs : List Body) → map f bs ≡ map g bs
     map_all f g h [] = refl
@@ -291,7 +291,7 @@ codes_within p codes literals is of_bodies =
     all_of (λ k. k < 2 * length (atoms_of p) + 2) (codes_of (form_literals p) (get_or (bodies_of p) i d))
     (each-map (λ k. k < 2 * length (atoms_of p) + 2) code_of (form_literals p (get_or (bodies_of p) i d))
     (each_weaker (λ (l : Literal). IsAtomVar p l.var) (λ l. code_of l < 2 * length (atoms_of p) + 2) (λ l v. code_below l (length (atoms_of p)) v.1)
-            (form_literals p (get_or (bodies_of p) i d)) (vars i d lt)))))))
+    (form_literals p (get_or (bodies_of p) i d)) (vars i d lt)))))))
   where
     vars : (i : ℕ) (d : Body) → i < length (bodies_of p) → AllByRecursion (λ (l : Literal). IsAtomVar p l.var) (form_literals p (get_or (bodies_of p) i d))
     vars i d lt = subst (λ (b : Body). AllByRecursion (λ (l : Literal). IsAtomVar p l.var) (form_literals p b)) (get_or_any (bodies_of p) i (body.All []) d lt) (literal_vars p i lt)

@@ -143,7 +143,7 @@ showing-common goal.Opt r p K S e = common-more r p K S
 showing-common (goal.Ties c) r p K S e = common-more r p K S
 showing-common (goal.Consequences w n) r p K S e = let same : w ≡ r = cc in
     subst (λ x. common_sets x p (with_answer (seed_by n w p) (common_sets x p (showing_by n w p K)) S) ≡ common_sets x p
-        (showing_by n w p (K ++ S ∷ []))) same (more-common n w p K S)
+    (showing_by n w p (K ++ S ∷ []))) same (more-common n w p K S)
 
 -- the first answer, with the seed
 pub answer-first : (r : Reasoning) (p : Program) (K : List Atoms) (T S : Atoms) → is_some (slice_get K 0) ≡ false →

@@ -85,8 +85,8 @@ held-split s nodes n l lt =
     let f : Node → ℕ = λ x. cond (is_held_by s x.status) 1 0 in
     let e = sum_by-set f nodes n (record { cube = cube_of nodes n; status = status.Forked }) nowhere lt in
     let a = sum_by-append f (with_status nodes n status.Forked)
-        (record { cube = cube_of nodes n ++ l ∷ []; status = status_of nodes n } ∷ record
-            { cube = cube_of nodes n ++ complement l ∷ []; status = status.Open } ∷ []) in
+    (record { cube = cube_of nodes n ++ l ∷ []; status = status_of nodes n } ∷ record
+    { cube = cube_of nodes n ++ complement l ∷ []; status = status.Open } ∷ []) in
     omega (arith, e, a)
 
 -- ---- the nogoods of closed leaves
@@ -191,8 +191,8 @@ IsBoard-split b n s l is g =
       apart = λ t. omega (arith, held-split t b.nodes n l lt, is.apart t);
       explained = explained-more b (record b { nodes = split b.nodes n l }) refl (λ T h. h) (λ m h. closed-stays b (event.Split s n l) m g h) b.reasons is.explained;
       complete = λ m h. is.complete m (closed-set b.nodes n forked m (λ e. let f : ⊥ = cc in f)
-              (closed-append (set b.nodes n forked) first second m (λ e. let g : status.Held s ≡ status.Closed = sym held ∙ e in let f : ⊥ = cc in f)
-                  (λ e. let f : ⊥ = cc in f) h));
+          (closed-append (set b.nodes n forked) first second m (λ e. let g : status.Held s ≡ status.Closed = sym held ∙ e in let f : ⊥ = cc in f)
+          (λ e. let f : ⊥ = cc in f) h));
       cubes =
           let at : IsCube b.task (cube_of b.nodes n) = cube-at b.task b.nodes n lt is.cubes in
           each-append (λ (x : Node). IsCube b.task x.cube) (set b.nodes n forked) (first ∷ second ∷ [])
@@ -232,7 +232,7 @@ among-more K S T h = list_any-append (same_set T) K (S ∷ []) ∙ or_left (list
 pub excused-delivered : (b : Board) (S T : Atoms) → is_excused b T ≡ true → is_excused (record b { answers = b.answers ++ S ∷ [] }) T ≡ true
 excused-delivered b S T h =
     done-used (sought b.task.goal) b.task.program (showing_of b) (showing_of (record b { answers = b.answers ++ S ∷ [] })) (bound_of b) T
-        (showing-among b.task.goal b.task.program b.answers (b.answers ++ S ∷ []) (among-more b.answers S)) h
+    (showing-among b.task.goal b.task.program b.answers (b.answers ++ S ∷ []) (among-more b.answers S)) h
 
 pub not_after : (c d : List ℤ) → betters d c ≡ true → betters c d ≡ false
 not_after c d e = subst (λ x. betters c (cond x d c) ≡ false) e (smaller_left c d)
@@ -251,7 +251,7 @@ settled-more : (b c : Board) → b.task.program ≡ c.task.program → ((T : Ato
     AllByRecursion (IsSettled b) nodes → AllByRecursion (IsSettled c) nodes
 settled-more b c same more nodes h =
     each_weaker (IsSettled b) (IsSettled c) (λ n settled closed. let Over : Program → Type 0 = λ p. HitsOnly p (is_excused c) n.cube in
-            subst Over same (HitsOnly-weaker b.task.program (is_excused b) (is_excused c) n.cube more (settled closed))) nodes h
+    subst Over same (HitsOnly-weaker b.task.program (is_excused b) (is_excused c) n.cube more (settled closed))) nodes h
 
 pub distinct-push : (A : List Atoms) (S : Atoms) → distinct (A ++ S ∷ []) ≡ cond (list_any (same_set S) (distinct A)) (distinct A) (distinct A ++ S ∷ [])
 distinct-push A S = folded (λ (Ts : List Atoms) (T : Atoms). cond (list_any (same_set T) Ts) Ts (Ts ++ T ∷ [])) [] A S

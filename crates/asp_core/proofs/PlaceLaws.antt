@@ -22,6 +22,6 @@ held_count-split nodes n s l was =
     let f : Node → ℕ = λ x. cond (is_held x.status) 1 0 in
     let e = sum_by-set f nodes n (record { cube = cube_of nodes n; status = status.Forked }) nowhere (leaf-within nodes n (ap is_leaf was)) in
     let a = sum_by-append f (with_status nodes n status.Forked)
-        (record { cube = cube_of nodes n ++ l ∷ []; status = status_of nodes n } ∷ record
-            { cube = cube_of nodes n ++ complement l ∷ []; status = status.Open } ∷ []) in
+    (record { cube = cube_of nodes n ++ l ∷ []; status = status_of nodes n } ∷ record
+    { cube = cube_of nodes n ++ complement l ∷ []; status = status.Open } ∷ []) in
     omega (arith, e, a)

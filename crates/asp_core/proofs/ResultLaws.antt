@@ -99,7 +99,7 @@ delivered_all m t A S h any =
     let Fits : Atoms → Type 0 = λ T. (is_answer t T && lists_by m t.program T) ≡ true in
     one_passes (Fits S) (same_set S) A
     (each_weaker (λ T. IsTrue (lists_by m t.program T) × IsTrue (is_answer t T)) (λ T. same_set S T ≡ true → Fits S)
-            (λ T g e. subst Fits (sym (same_text S T (sym e))) (and_from (is_answer t T) (lists_by m t.program T) g.1 g.0)) A h) any
+    (λ T g e. subst Fits (sym (same_text S T (sym e))) (and_from (is_answer t T) (lists_by m t.program T) g.1 g.0)) A h) any
 
 or_else : (a b : Bool) → (a || b) ≡ true → not b ≡ true → a ≡ true
 or_else true b h n = refl
@@ -110,8 +110,8 @@ listed-answers : (t : Task) (S : Atoms) → list_any (same_set S) (answers_of t)
 listed-answers t S = listed-filter (λ T. all_hold T (wanted t)) (models t.program) S
     ∙ turned (all_hold S (wanted t)) (is_stable t.program S) (list_any (same_set S) (models t.program))
     (same_bools (list_any (same_set S) (models t.program)) (is_stable t.program S)
-        (λ h. (models-are t.program S).0 (contains_from_test (models t.program) S h))
-        (λ h. test_from_contains (models t.program) S ((models-are t.program S).1 h)))
+    (λ h. (models-are t.program S).0 (contains_from_test (models t.program) S h))
+    (λ h. test_from_contains (models t.program) S ((models-are t.program S).1 h)))
   where
     turned : (x y z : Bool) → z ≡ y → (x && z) ≡ (y && x)
     turned true true z e = e
@@ -147,7 +147,7 @@ result-by (goal.Consequences r n) t A best delivered kept excused =
     showing_by-covered n r t.program A (answers_of t)
     (λ S h. listed-answers t S ∙ (and_parts (is_answer t S) true (delivered_all (goal.Consequences r n) t A S delivered h)).0)
     (λ S h. used-covered r t.program (showing_by n r t.program A) S
-            (or-false (list_any (same_set S) (used_up (Some r) t.program (showing_by n r t.program A))) (excused S (sym (listed-answers t S) ∙ h))))
+    (or-false (list_any (same_set S) (used_up (Some r) t.program (showing_by n r t.program A))) (excused S (sym (listed-answers t S) ∙ h))))
 
 and-true : (a : Bool) → a ≡ (a && true)
 and-true true = refl

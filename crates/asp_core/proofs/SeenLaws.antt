@@ -85,9 +85,12 @@ seen-some g (Some r) p known x A told atoms is e = record {
 pub seen-more : (g : Goal) (p : Program) (x y : Knowing) (A told more : List Atoms) (S : Atoms) (atoms : Atoms) → Seen g (sought g) p x A told atoms →
     y ≡ record x { sets = common_sets x.reasoning x.program (with_answer (seed_of g p) x.sets S) } → more ≡ told ++ S ∷ [] → IsSeen g (sought g) p (Some y) A more atoms
 seen-more g p x y A told more S atoms s grown pushed =
-    subst (λ (j : Option Reasoning). IsSeen g j p (Some y) A more atoms) (sym s.seeks)
-    (ap (λ (z : Knowing). Some z) (grown ∙ ap with_one s.known ∙ ap keeps (showing-common g s.reasoning p told S s.seeks)
-                ∙ ap (λ (K : List Atoms). keeps (common_sets s.reasoning p (showing g p K))) (sym pushed)), s.listed, s.standing)
+    subst (λ (j : Option Reasoning). IsSeen g j p (Some y) A more atoms) (sym s.seeks) (
+      ap (λ (z : Knowing). Some z) (grown ∙ ap with_one s.known ∙ ap keeps (showing-common g s.reasoning p told S s.seeks)
+          ∙ ap (λ (K : List Atoms). keeps (common_sets s.reasoning p (showing g p K))) (sym pushed)),
+      s.listed,
+      s.standing,
+    )
   where
     with_one : Knowing → Knowing
     with_one z = record z { sets = common_sets z.reasoning z.program (with_answer (seed_of g p) z.sets S) }

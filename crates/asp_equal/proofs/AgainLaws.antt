@@ -75,8 +75,8 @@ joined_step : (a b : ℕ) → (a ≡ 0 → ⊥) → (b ≡ a → ⊥) → (r : R
     (joins a b r || list_any (joins a b) rs) ≡ true
 joined_step a b some other r rs true later t k =
     or_left (joins a b r) (list_any (joins a b) rs)
-        (and_from (has_head a r) (has (body_atoms r.body) b) t
-            (copied_stands a b r.head r.body other (known-kept a b (copied a r.head r.body) some (copied-known a some r.head r.body) other rs k).0))
+    (and_from (has_head a r) (has (body_atoms r.body) b) t
+    (copied_stands a b r.head r.body other (known-kept a b (copied a r.head r.body) some (copied-known a some r.head r.body) other rs k).0))
 joined_step a b some other r rs false later t k = or_right (joins a b r) (list_any (joins a b) rs) (later k)
 
 joined : (a b : ℕ) → (a ≡ 0 → ⊥) → (b ≡ 0 → ⊥) → (b ≡ a → ⊥) → (rs : List Rule) → fold (noted a) 0 rs ≡ b → list_any (joins a b) rs ≡ true
@@ -91,9 +91,9 @@ stands-rules : (p : Program) (a : ℕ) → list_any (λ r. has (rule_atoms r) a)
 stands-rules p a h =
     has-set_of (mentions p) a
     ∙ list_any-append (λ b. eqb b a) _ _ ∙ or_left _ _
-        (list_any-append (λ b. eqb b a) _ _ ∙ or_left _ _
-            (list_any-append (λ b. eqb b a) _ _ ∙ or_left _ _
-                (list_any-append (λ b. eqb b a) _ _ ∙ or_left _ _ (list_any-flat_map (λ b. eqb b a) rule_atoms p.rules ∙ h))))
+    (list_any-append (λ b. eqb b a) _ _ ∙ or_left _ _
+    (list_any-append (λ b. eqb b a) _ _ ∙ or_left _ _
+    (list_any-append (λ b. eqb b a) _ _ ∙ or_left _ _ (list_any-flat_map (λ b. eqb b a) rule_atoms p.rules ∙ h))))
 
 head-stands : (a b : ℕ) (r : Rule) → joins a b r ≡ true → has (rule_atoms r) a ≡ true
 head-stands a b r h = list_any-append (λ c. eqb c a) (head_atoms r.head) (body_atoms r.body) ∙ grind arith

@@ -101,8 +101,8 @@ extended-reads m n far S a =
     has-fold (filter (λ b. not (has (gone copies) b)) S) (back copies S) a
     ∙ ap (λ b. b || has (back copies S) a) (has-filter (λ b. not (has (gone copies) b)) S a ∙ ap (λ b. not b && has S a) (copies-gone m a n))
     ∙ ap (λ b. (not (nat_lt a n && not (eqb (m a) a)) && has S a) || b)
-        (list_any-map (λ b. eqb b a) (λ (c : ℕ × ℕ). c.0) (filter (λ c. has S c.1) copies)
-            ∙ list_any-filter (λ (c : ℕ × ℕ). eqb c.0 a) (λ (c : ℕ × ℕ). has S c.1) copies ∙ copies-say m S a n)
+    (list_any-map (λ b. eqb b a) (λ (c : ℕ × ℕ). c.0) (filter (λ c. has S c.1) copies)
+    ∙ list_any-filter (λ (c : ℕ × ℕ). eqb c.0 a) (λ (c : ℕ × ℕ). has S c.1) copies ∙ copies-say m S a n)
     ∙ reading (has S a) (nat_lt a n) (eqb (m a) a) (has S (m a)) (λ e. ap (has S) (sym (eqb-true (m a) a e)))
     (λ e. elim (cases_lt a n) [ inl lt ↦ lt-ltb a n lt | inr ge ↦ absurd (both_ways (eqb (m a) a) e (eq-eqb (m a) a (far a ge))) ])
 

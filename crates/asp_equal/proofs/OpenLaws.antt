@@ -123,6 +123,6 @@ force-merged m p alone =
     ap (λ L. flat_map (merged_rule m) p.rules ++ flat_map (λ a. external_rule a (last_value p.externals a)) L) (open-merged m p alone)
     ∙ ap (λ rs. flat_map (merged_rule m) p.rules ++ rs) (sym (externals-merged m p.externals (open_atoms p) (each-member (λ a. m a ≡ a) (open_atoms p) (λ a h.
     (alone a (sym (has-set_of (named p) a) ∙
-                (and_parts (not (has (heads_of p.rules) a)) (has (set_of (named p)) a)
-                    (sym (has-filter (λ b. not (has (heads_of p.rules) b)) (set_of (named p)) a) ∙ h)).1)).0))))
+    (and_parts (not (has (heads_of p.rules) a)) (has (set_of (named p)) a)
+    (sym (has-filter (λ b. not (has (heads_of p.rules) b)) (set_of (named p)) a) ∙ h)).1)).0))))
     ∙ sym (flat_map-append (merged_rule m) p.rules (opened_rules p))

@@ -70,7 +70,7 @@ any-better : (m : ℕ → ℕ) (x : Atoms → Atoms) (p q : Program) (c : List �
 any-better m x p q c Ss all =
     list_any-map (λ T. betters (cost p T) c) x Ss
     ∙ any-each (λ T. betters (cost p (x T)) c) (λ T. betters (cost q T) c) Ss
-        (each_weaker (IsOther m x p q) (λ T. betters (cost p (x T)) c ≡ betters (cost q T) c) (λ T o. ap (λ d. betters d c) o.costs) Ss all)
+    (each_weaker (IsOther m x p q) (λ T. betters (cost p (x T)) c ≡ betters (cost q T) c) (λ T o. ap (λ d. betters d c) o.costs) Ss all)
 
 abbrev is_best : Program → List Atoms → Atoms → Bool
 is_best p Ss S = not (list_any (λ T. betters (cost p T) (cost p S)) Ss)
@@ -97,8 +97,8 @@ chosen_of : (m : ℕ → ℕ) (x : Atoms → Atoms) (p q : Program) → HasResul
 chosen_of m x p q g chosen Ss all =
     sym (filter-map (λ S. chosen (kept m S)) x Ss
     ∙ ap (map x) (filter-same (λ S. chosen (kept m (x S))) chosen Ss
-            (each_weaker (IsOther m x p q) (λ S. chosen (kept m (x S)) ≡ chosen S)
-                (λ S o. ap chosen (kept-extended m (x S) S (g.is.ascends S o.ascending) o.ascending o.apart o.reads)) Ss all)))
+    (each_weaker (IsOther m x p q) (λ S. chosen (kept m (x S)) ≡ chosen S)
+    (λ S o. ap chosen (kept-extended m (x S) S (g.is.ascends S o.ascending) o.ascending o.apart o.reads)) Ss all)))
 
 pub chosen-merged : (m : ℕ → ℕ) (x : Atoms → Atoms) (p q : Program) → HasResultsOf m x p q → (chosen : Atoms → Bool) → map x (filter chosen (answers q)) ≡ filter (λ S. chosen (kept m S)) (answers p)
 chosen-merged m x p q g chosen = chosen_of m x p q g chosen (answers q) (others m x p q g) ∙ ap (filter (λ S. chosen (kept m S))) (sym (same-answers m x p q g))
@@ -149,7 +149,7 @@ common-merged : (m : ℕ → ℕ) (x : Atoms → Atoms) (p q : Program) → HasR
     AllByRecursion (IsOther m x p q) (S ∷ K) → consequences w p (map x (S ∷ K)) ≡ x (consequences w q (S ∷ K))
 common-merged m x p q g w S K all =
     same_from_has (consequences w p (map x (S ∷ K))) (x (consequences w q (S ∷ K))) (consequences-ascend w p (map x (S ∷ K)))
-        (g.is.ascends (consequences w q (S ∷ K)) (consequences-ascend w q (S ∷ K))) (λ a.
+    (g.is.ascends (consequences w q (S ∷ K)) (consequences-ascend w q (S ∷ K))) (λ a.
     has-consequences w p (map x (S ∷ K)) a
     ∙ ap (λ b. b && has (atoms_of p) a) (held-read m x p q w (S ∷ K) a all)
     ∙ same_both (held_by w (S ∷ K) (m a)) (has (atoms_of q) (m a)) (has (atoms_of p) a) (λ h. let t = held-stands m x p q w S K a (m a) all refl h in (t.left, t.stands))

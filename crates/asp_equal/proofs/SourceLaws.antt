@@ -135,10 +135,10 @@ external_head a x value.Release e = absurd (false≢true e)
 pub opened-named : (p : Program) (a : ℕ) → list_any (has_head a) (opened_rules p) ≡ true → has (named p) a ≡ true
 opened-named p a e =
     let opened : has (open_atoms p) a ≡ true =
-        list_any-weaker (λ x. list_any (has_head a) (external_rule x (last_value p.externals x))) (λ x. eqb x a) (open_atoms p)
-        (each_of (λ x. list_any (has_head a) (external_rule x (last_value p.externals x)) ≡ true → eqb x a ≡ true)
-            (λ x. external_head a x (last_value p.externals x)) (open_atoms p))
-        (sym (list_any-flat_map (has_head a) (λ x. external_rule x (last_value p.externals x)) (open_atoms p)) ∙ e) in
+    list_any-weaker (λ x. list_any (has_head a) (external_rule x (last_value p.externals x))) (λ x. eqb x a) (open_atoms p)
+    (each_of (λ x. list_any (has_head a) (external_rule x (last_value p.externals x)) ≡ true → eqb x a ≡ true)
+    (λ x. external_head a x (last_value p.externals x)) (open_atoms p))
+    (sym (list_any-flat_map (has_head a) (λ x. external_rule x (last_value p.externals x)) (open_atoms p)) ∙ e) in
     let heads : List ℕ = flat_map (λ (r : Rule). head_atoms r.head) p.rules in
     sym (has-set_of (named p) a) ∙ (and_parts (not (has heads a)) (has (set_of (named p)) a) (sym (has-filter (λ b. not (has heads b)) (set_of (named p)) a) ∙ opened)).1
 

@@ -41,7 +41,7 @@ target-read p known names count sources e a = elim (cases_lt a (length known)) [
 pub root-read : (p : Program) (known : List ℕ) (names : Atoms) → length known ≡ places p → AreSources p.rules known → names ≡ set_of (named p) → (a : ℕ) → root_in known names a ≡ root (places p) p a
 root-read p known names count sources e a =
     λ i. or_itself (eqb (target-read p known names count sources e (target-read p known names count sources e a i) i)
-            (target-read p known names count sources e a i)) (target-read p known names count sources e a i) a
+    (target-read p known names count sources e a i)) (target-read p known names count sources e a i) a
 
 root-below : (n : ℕ) (p : Program) (a : ℕ) → a < n → root n p a < n
 root-below n p a lt = elim (root-copied n p a) [ inl e ↦ omega (arith, e) | inr c ↦ omega (arith, c.0, c.1.within) ]

@@ -108,8 +108,8 @@ in_heads p b a stands e =
     let heads : List ℕ = flat_map f (rules_in_force p) in
     let found = in_map (λ c. has heads c ≡ true) (var_of_atom p) heads (var_of_atom p a) (members heads) e in
     let rule = some (λ r. Among (rules_in_force p) r × HasAll (atoms_of p) (head_atoms r.head)) (λ r. has (f r) found.0) (rules_in_force p)
-        (both (rules_in_force p) (each_among (rules_in_force p)) (rules_in_force-heads p))
-        (sym (list_any-flat_map (λ c. eqb c found.0) f (rules_in_force p)) ∙ found.1) in
+    (both (rules_in_force p) (each_among (rules_in_force p)) (rules_in_force-heads p))
+    (sym (list_any-flat_map (λ c. eqb c found.0) f (rules_in_force p)) ∙ found.1) in
     let parts = split rule.0 found.0 (body_eq (normal rule.0.body) b) refl rule.2 in
     let same : found.0 ≡ a = same_atom p found.0 a (member (atoms_of p) (head_atoms rule.0.head) found.0 rule.1.1 parts.1) stands found.2 in
     (rule.0, rule.1.0, (equal_body (normal rule.0.body) b parts.0, subst (λ (c : ℕ). has (head_atoms rule.0.head) c ≡ true) same parts.1))
@@ -139,14 +139,14 @@ fires : (p : Program) (S : Atoms) (set marks : List Bool) (found : List ℕ) (j 
 fires p S set marks found j a sound lt shows h holds in_heads_ inside stands =
     let T : Atoms = shown p marks in
     let sub : IsSubset T (least_model p S) = λ c e. let parts =
-        and_parts (is_marked marks (var_of_atom p c)) (has (atoms_of p) c) (sym (has-shown p marks c) ∙ e) in h.sound S shows c parts.1 parts.0 in
+    and_parts (is_marked marks (var_of_atom p c)) (has (atoms_of p) c) (sym (has-shown p marks c) ∙ e) in h.sound S shows c parts.1 parts.0 in
     let held : body_holds_between S (least_model p S) (nth_body p j) ≡ true =
-        body_more S T (least_model p S) (nth_body p j) sub (nth_weighted p j sound lt)
-        (sym (marks_link p S T set marks (nth_body p j) shows (shown_shows p marks) (body_stands p j lt)) ∙ holds) in
+    body_more S T (least_model p S) (nth_body p j) sub (nth_weighted p j sound lt)
+    (sym (marks_link p S T set marks (nth_body p j) shows (shown_shows p marks) (body_stands p j lt)) ∙ holds) in
     let rule = in_heads p (nth_body p j) a stands in_heads_ in
     let in_set : has S a ≡ true = sym (shows a stands) ∙ inside in
     let held_rule : body_holds_between S (least_model p S) rule.0.body ≡ true =
-        sym (body_holds_between-normal S (least_model p S) rule.0.body) ∙ ap (body_holds_between S (least_model p S)) rule.2.0 ∙ held in
+    sym (body_holds_between-normal S (least_model p S) rule.0.body) ∙ ap (body_holds_between S (least_model p S)) rule.2.0 ∙ held in
     cases rule.0 rule.1 rule.2.1 in_set held_rule (has (least_model p S) a) refl
   where
     cases : (r : Rule) → Among (rules_in_force p) r → has (head_atoms r.head) a ≡ true → has S a ≡ true →
@@ -285,8 +285,8 @@ least_within p S set marks found sound kept shows h closed =
     step_in a e =
         let rule = some (Sure p S) (λ r. has (derived_heads S (shown p marks) r) a) (rules_in_force p) (sure p S kept)
         (sym (list_any-flat_map (λ b. eqb b a) (derived_heads S (shown p marks)) (rules_in_force p))
-                ∙ sym (has-set_of (flat_map (derived_heads S (shown p marks)) (rules_in_force p)) a)
-                ∙ sym (ap (λ U. has U a) (step_read S (shown p marks) (rules_in_force p))) ∙ e) in
+        ∙ sym (has-set_of (flat_map (derived_heads S (shown p marks)) (rules_in_force p)) a)
+        ∙ sym (ap (λ U. has U a) (step_read S (shown p marks) (rules_in_force p))) ∙ e) in
         let derived = derived_by S (shown p marks) rule.0 a rule.2 in
         let form : Body = normal rule.0.body in
         let listed : list_any (body_eq form) (bodies_of p) ≡ true = rule_has_form p rule.0 rule.1.among in
@@ -294,14 +294,14 @@ least_within p S set marks found sound kept shows h closed =
         let at : nth_body p j ≡ form = at_form form (bodies_of p) (body.All []) listed in
         let between : body_holds_between S (shown p marks) form ≡ true = body_holds_between-normal S (shown p marks) rule.0.body ∙ derived.0 in
         let in_set : body_holds S rule.0.body ≡ true =
-            sym (same_body S rule.0.body) ∙ sym (body_holds_between-normal S S rule.0.body)
-            ∙ body_more S (shown p marks) S form in_S (form_weighted p rule.0 sound rule.1.among) between in
+        sym (same_body S rule.0.body) ∙ sym (body_holds_between-normal S S rule.0.body)
+        ∙ body_more S (shown p marks) S form in_S (form_weighted p rule.0 sound rule.1.among) between in
         let member_ : has S a ≡ true = kept_in S rule.0.head a derived.1 (implied (body_holds S rule.0.body) (is_kept S rule.0.head) rule.1.kept in_set) in
         let head_ : has (head_atoms rule.0.head) a ≡ true = in_head S rule.0.head a derived.1 in
         let stands : has (atoms_of p) a ≡ true = member (atoms_of p) (head_atoms rule.0.head) a rule.1.heads head_ in
         let held : marks_hold p set marks (nth_body p j) ≡ true =
-            ap (marks_hold p set marks) at ∙ marks_link p S (shown p marks) set marks form shows (shown_shows p marks)
-            (normal-stands (atoms_of p) rule.0.body rule.1.bodies) ∙ between in
+        ap (marks_hold p set marks) at ∙ marks_link p S (shown p marks) set marks form shows (shown_shows p marks)
+        (normal-stands (atoms_of p) rule.0.body rule.1.bodies) ∙ between in
         let heads : has (heads_of p (nth_body p j)) (var_of_atom p a) ≡ true = ap (λ b. has (heads_of p b) (var_of_atom p a)) at ∙ heads_have p form rule.0 a rule.1.among refl head_ in
         let marked_ : is_marked marks (var_of_atom p a) ≡ true = closed j (place_of-within (body_eq form) (bodies_of p) listed) held (var_of_atom p a) heads (shows a stands ∙ member_) in
         has-shown p marks a ∙ and_from (is_marked marks (var_of_atom p a)) (has (atoms_of p) a) marked_ stands

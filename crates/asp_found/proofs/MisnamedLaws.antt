@@ -142,8 +142,8 @@ lacking_broken p S ls wide rules nogoods stand fails stays = cases (is_barred p 
         let other : Literal = complement found.0 in
         let broken : Breaks p S (lit ∷ other ∷ []) =
         broken_by p S (lit ∷ other ∷ []) found.3
-            (and_from (is_true (values p S) lit) (is_true (values p S) other && true) stays
-                (ap (λ t. t && true) (is_true-complement (values p S) found.0 ∙ ap not found.2))) in
+        (and_from (is_true (values p S) lit) (is_true (values p S) other && true) stays
+        (ap (λ t. t && true) (is_true-complement (values p S) found.0 ∙ ap not found.2))) in
         subst (λ (b : Bool). Breaks p S (lit ∷ cond b [] (complements (first_false (values p S) parts)))) e
         (subst (λ o. Breaks p S (lit ∷ complements o)) (sym found.1) broken)
 

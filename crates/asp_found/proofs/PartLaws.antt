@@ -40,4 +40,4 @@ pub keeps_more : (p : Program) (S : Atoms) (r : Rule) (i : ℕ) → i < length (
 keeps_more p S r i lt is before kept =
     ap (list_all (keeps S)) (take_more (rules_in_force p) i r lt) ∙ list_all-append (keeps S) (take i (rules_in_force p)) (get_or (rules_in_force p) i r ∷ [])
     ∙ and_from (list_all (keeps S) (take i (rules_in_force p))) (keeps S (get_or (rules_in_force p) i r) && true) before
-        (and_from (keeps S (get_or (rules_in_force p) i r)) true (sym (ap (keeps S) is) ∙ kept) refl)
+    (and_from (keeps S (get_or (rules_in_force p) i r)) true (sym (ap (keeps S) is) ∙ kept) refl)

@@ -149,11 +149,11 @@ least-within p S sound unhit =
     let parts = derived_split S S r a e in
     rule_keeps p S r r.head a (read_by p S unhit) f.0.0 (reduct_in_heads S a r.head parts.1) f.0.1 f.1 (sym (same_body S r.body) ∙ parts.0) parts.1) (rules_in_force p)
     (each_both (λ r. Among (rules_in_force p) r × AllByRecursion (λ x. has (atoms_of p) x ≡ true) (head_atoms r.head))
-            (λ r. NoneHit p S (rule_nogoods p (literal_of_body p r.body) r.head)) (rules_in_force p)
+    (λ r. NoneHit p S (rule_nogoods p (literal_of_body p r.body) r.head)) (rules_in_force p)
     (each_both (Among (rules_in_force p)) (λ r. AllByRecursion (λ x. has (atoms_of p) x ≡ true) (head_atoms r.head)) (rules_in_force p)
-            (each_among (rules_in_force p)) (heads_stand p)) (rules_unhit p S unhit)))
+    (each_among (rules_in_force p)) (heads_stand p)) (rules_unhit p S unhit)))
     (sym (list_any-flat_map (λ b. eqb b a) (derived_heads S S) (rules_in_force p))
-            ∙ sym (has-set_of (flat_map (derived_heads S S) (rules_in_force p)) a) ∙ ap (λ T. has T a) (sym (step_read S S (rules_in_force p))) ∙ h)))
+    ∙ sym (has-set_of (flat_map (derived_heads S S) (rules_in_force p)) a) ∙ ap (λ T. has T a) (sym (step_read S S (rules_in_force p))) ∙ h)))
 
 -- ---- no constraint is broken
 never_fails : (p : Program) (S : Atoms) (r : Rule) (h : Head) → IsReadBy p S → Among (rules_in_force p) r →
@@ -171,7 +171,7 @@ unviolated : (p : Program) (S : Atoms) → NoneHit p S (completion p) → list_a
 unviolated p S unhit =
     none_passes (is_violated S) (rules_in_force p)
     (each_weaker (λ r. Among (rules_in_force p) r × NoneHit p S (rule_nogoods p (literal_of_body p r.body) r.head)) (λ r. is_violated S r ≡ false)
-            (λ r f. never_fails p S r r.head (read_by p S unhit) f.0 f.1) (rules_in_force p)
+    (λ r f. never_fails p S r r.head (read_by p S unhit) f.0 f.1) (rules_in_force p)
     (each_both (Among (rules_in_force p)) (λ r. NoneHit p S (rule_nogoods p (literal_of_body p r.body) r.head)) (rules_in_force p) (each_among (rules_in_force p)) (rules_unhit p S unhit)))
 
 -- ---- no rest

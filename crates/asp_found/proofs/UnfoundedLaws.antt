@@ -218,5 +218,5 @@ rest_unfounded p S sound up unhit unstable =
     (each_weaker (λ r. Among (rules_in_force p) r × AllByRecursion (λ a. has (atoms_of p) a ≡ true) (body_atoms r.body))
     (λ r. (not (list_any (has (rest p S)) (head_atoms r.head)) || is_excused p (assigned p S) (rest p S) (normal r.body)) ≡ true) (λ r f.
     or_when (list_any (has (rest p S)) (head_atoms r.head)) (is_excused p (assigned p S) (rest p S) (normal r.body))
-        (rule_excused p S r sound (read_by p S unhit) within f.0 (normal-stands (atoms_of p) r.body f.1))) (rules_in_force p)
+    (rule_excused p S r sound (read_by p S unhit) within f.0 (normal-stands (atoms_of p) r.body f.1))) (rules_in_force p)
     (each_both (Among (rules_in_force p)) (λ r. AllByRecursion (λ a. has (atoms_of p) a ≡ true) (body_atoms r.body)) (rules_in_force p) (each_among (rules_in_force p)) (rules_in_force-bodies p))))

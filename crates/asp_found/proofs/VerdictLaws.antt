@@ -93,13 +93,13 @@ rule_broken p S r (head.One a) sound read m e stand fails =
     let first : is_true (values p S) lit ≡ true = rule-true p S read r m ∙ parts.0 in
     let second : is_true (values p S) other ≡ true = atom-false p S a stand.0 ∙ ap not parts.1 in
     let differs : literal_eq lit (T (var_of_atom p a)) ≡ false =
-        false_unless (literal_eq lit (T (var_of_atom p a)))
-        (λ same. opposite (values p S) (var_of_atom p a) (ap (is_true (values p S)) (sym (same_literal lit (T (var_of_atom p a)) same)) ∙ first)
-            second) in
+    false_unless (literal_eq lit (T (var_of_atom p a)))
+    (λ same. opposite (values p S) (var_of_atom p a) (ap (is_true (values p S)) (sym (same_literal lit (T (var_of_atom p a)) same)) ∙ first)
+    second) in
     record {
       pure = refl;
       listed = rule_listed p r _ m (λ q f. subst (λ (h : Head). list_any q (rule_nogoods p lit h) ≡ true) (sym e)
-              (listed_unless q (literal_eq lit (T (var_of_atom p a))) (lit ∷ other ∷ []) differs f));
+          (listed_unless q (literal_eq lit (T (var_of_atom p a))) (lit ∷ other ∷ []) differs f));
       entailed = head_entailed p r a sound m e stand.0;
       hit = both_true (is_true (values p S) lit) (is_true (values p S) other) first second;
     }
@@ -140,25 +140,25 @@ falses_hit p S read q (b ∷ bs) stand f = cases (q b) refl (falses_hit p S read
         hits (values p S) (map (λ c. complement (literal_of_form p c)) (cond (q b) (b ∷ filter q bs) (filter q bs))) ≡ true
     cases true e rest_hit = ap (λ t. hits (values p S) (map (λ c. complement (literal_of_form p c)) (cond t (b ∷ filter q bs) (filter q bs)))) (sym e)
         ∙ and_from (is_true (values p S) (complement (literal_of_form p b)))
-            (hits (values p S) (map (λ c. complement (literal_of_form p c)) (filter q bs))) (form-false p S read b stand.0 ∙ ap not (f b (sym e)))
-            rest_hit
+        (hits (values p S) (map (λ c. complement (literal_of_form p c)) (filter q bs))) (form-false p S read b stand.0 ∙ ap not (f b (sym e)))
+        rest_hit
     cases false e rest_hit = ap (λ t. hits (values p S) (map (λ c. complement (literal_of_form p c)) (cond t (b ∷ filter q bs) (filter q bs)))) (sym e) ∙ rest_hit
 
 pub supports_hit : (p : Program) (S : Atoms) (a : ℕ) → IsReadBy p S → is_supported p S a ≡ false → hits (values p S) (map (λ c. complement (literal_of_form p c)) (support_bodies p a)) ≡ true
 supports_hit p S a read none =
     falses_hit p S read (λ b. list_any (λ (r : Rule). has (head_atoms r.head) a && body_eq (normal r.body) b) (rules_in_force p)) (bodies_of p)
-        (bodies_of-themselves p) (λ b e. supported_false p S a b none e)
+    (bodies_of-themselves p) (λ b e. supported_false p S a b none e)
 
 pub atom_broken : (p : Program) (S : Atoms) (a : ℕ) → IsSound p → IsReadBy p S → Among (atoms_of p) a → has (atoms_of p) a ≡ true → has S a ≡ true →
     is_supported p S a ≡ false → IsBroken p S (record { lits = atom_nogood p a; base = base.Pure })
 atom_broken p S a sound read m stands in_set none =
     let first : is_true (values p S) (T (var_of_atom p a)) ≡ true = atom-true p S a stands ∙ in_set in
     let hit : hits (values p S) (atom_nogood p a) ≡ true =
-        and_from (is_true (values p S) (T (var_of_atom p a))) (hits (values p S) (map (λ c. complement (literal_of_form p c)) (support_bodies p a)))
-        first (supports_hit p S a read none) in
+    and_from (is_true (values p S) (T (var_of_atom p a))) (hits (values p S) (map (λ c. complement (literal_of_form p c)) (support_bodies p a)))
+    first (supports_hit p S a read none) in
     let apart : has_literal (atom_nogood p a) (F (var_of_atom p a)) ≡ false =
-        false_unless (has_literal (atom_nogood p a) (F (var_of_atom p a)))
-        (λ stands. opposite (values p S) (var_of_atom p a) first (hits-has (values p S) (atom_nogood p a) (F (var_of_atom p a)) hit stands)) in
+    false_unless (has_literal (atom_nogood p a) (F (var_of_atom p a)))
+    (λ stands. opposite (values p S) (var_of_atom p a) first (hits-has (values p S) (atom_nogood p a) (F (var_of_atom p a)) hit stands)) in
     record {
       pure = refl;
       listed = atom_listed p a (atom_nogood p a) m (λ q f. listed_unless q (has_literal (atom_nogood p a) (F (var_of_atom p a))) (atom_nogood p a) apart f);
@@ -231,8 +231,8 @@ supports_unhit p S a read h supported =
     (each_weaker (Among (rules_in_force p)) (λ r. (has (head_atoms r.head) a && body_holds S r.body) ≡ true → ⊥) (λ r m e.
     let parts = and_parts (has (head_atoms r.head) a) (body_holds S r.body) e in
     let tested : test (normal r.body) ≡ true =
-        m (λ s. has (head_atoms s.head) a && body_eq (normal s.body) (normal r.body))
-        (and_from (has (head_atoms r.head) a) (body_eq (normal r.body) (normal r.body)) parts.0 (body_eq-itself (normal r.body))) in
+    m (λ s. has (head_atoms s.head) a && body_eq (normal s.body) (normal r.body))
+    (and_from (has (head_atoms r.head) a) (body_eq (normal r.body) (normal r.body)) parts.0 (body_eq-itself (normal r.body))) in
     let fails : body_holds S (normal r.body) ≡ false = one_passes (body_holds S (normal r.body) ≡ false) (body_eq (normal r.body)) (bodies_of p)
     (each_weaker (λ b. test b ≡ true → body_holds S b ≡ false) (λ b. body_eq (normal r.body) b ≡ true → body_holds S (normal r.body) ≡ false) (λ b f same.
     let eq : normal r.body ≡ b = equal_body (normal r.body) b same in
@@ -258,8 +258,8 @@ among_passes q xs x h m = cases (q x) refl
     cases : (t : Bool) → t ≡ q x → q x ≡ true
     cases true e = sym e
     cases false e = absurd (one_passes ⊥ (λ y. not (q y)) xs
-            (each_weaker (λ y. q y ≡ true) (λ y. not (q y) ≡ true → ⊥) (λ y f g. false≢true (ap not (sym f) ∙ g)) xs h)
-            (m (λ y. not (q y)) (ap not (sym e))))
+        (each_weaker (λ y. q y ≡ true) (λ y. not (q y) ≡ true → ⊥) (λ y f g. false≢true (ap not (sym f) ∙ g)) xs h)
+        (m (λ y. not (q y)) (ap not (sym e))))
 
 then_holds : (a b : Bool) → (not a || b) ≡ true → a ≡ true → b ≡ true
 then_holds true b e f = e
@@ -285,12 +285,12 @@ none_broken p S kept supported =
     let read : IsReadBy p S = kept_read p S each_kept each_supported in
     none_passes (hits (values p S)) (completion p) (each-append P (bodies ++ rules) atoms (each-append P bodies rules
     (each-flat_map P (body_nogoods p) (bodies_of p) (each_weaker (λ b. (list_any (body_eq b) (bodies_of p) ≡ true) × Stands (atoms_of p) b)
-                (λ b. AllByRecursion P (body_nogoods p b)) (λ b h. body_unhit p S b read each_kept h.0 h.1) (bodies_of p)
+    (λ b. AllByRecursion P (body_nogoods p b)) (λ b h. body_unhit p S b read each_kept h.0 h.1) (bodies_of p)
     (each_both (λ b. list_any (body_eq b) (bodies_of p) ≡ true) (Stands (atoms_of p)) (bodies_of p) (bodies_of-themselves p) (bodies_of-stand p))))
     (each-flat_map P (λ (r : Rule). rule_nogoods p (literal_of_body p r.body) r.head) (rules_in_force p)
     (each_weaker (λ r. (Among (rules_in_force p) r × HasAll (atoms_of p) (head_atoms r.head)) × (keeps S r ≡ true))
-            (λ r. AllByRecursion P (rule_nogoods p (literal_of_body p r.body) r.head)) (λ r h. rule_unhit p S r r.head read h.0.0 h.0.1 h.1)
-            (rules_in_force p)
+    (λ r. AllByRecursion P (rule_nogoods p (literal_of_body p r.body) r.head)) (λ r h. rule_unhit p S r r.head read h.0.0 h.0.1 h.1)
+    (rules_in_force p)
     (each_both (λ r. Among (rules_in_force p) r × HasAll (atoms_of p) (head_atoms r.head)) (λ r. keeps S r ≡ true) (rules_in_force p)
     (each_both (Among (rules_in_force p)) (λ r. HasAll (atoms_of p) (head_atoms r.head)) (rules_in_force p) (each_among (rules_in_force p)) (rules_in_force-heads p)) each_kept))))
     (each-flat_map P (atom_nogoods p) (atoms_of p)

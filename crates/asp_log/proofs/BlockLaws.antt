@@ -83,7 +83,7 @@ module _ {Z : Type 0} where
       → drop (from % 64) (stored more copies) ≡ drop from (stored blocks tail)
   stored-shown blocks more tail copies from within small same copied =
       ap (λ (l : List Nogood). drop (from % 64) (l ++ copies)) (blocked-same more (drop (from / 64) blocks) same)
-          ∙ ap (λ (l : List Nogood). drop (from % 64) (stored (drop (from / 64) blocks) l)) copied
+      ∙ ap (λ (l : List Nogood). drop (from % 64) (stored (drop (from / 64) blocks) l)) copied
       ∙ sym (drop-stored blocks tail (from / 64) (from % 64) from (omega (arith, length-stored blocks tail)) (omega arith))
 
   pub length-shown : (blocks more : List (Arc Block Z)) (tail copies : List Nogood) (from : ℕ) → from ≤ length (stored blocks tail) →

@@ -122,7 +122,7 @@ pub left_holds : (p : Program) (S T U : Atoms) (part : List Literal) (l : ℤ) �
     Apart S T U → holds_between S T l ≡ true → is_left p U part l ≡ true
 left_holds p S T U part l stands hit h e =
     and_from (not (is_inside U l)) (not (has_literal part (complement (literal_of p l)))) (turned (is_inside U l) (between_outside S T U l h e))
-        (turned (has_literal part (complement (literal_of p l))) (cases (has_literal part (complement (literal_of p l))) refl))
+    (turned (has_literal part (complement (literal_of p l))) (cases (has_literal part (complement (literal_of p l))) refl))
   where
     cases : (b : Bool) → b ≡ has_literal part (complement (literal_of p l)) → has_literal part (complement (literal_of p l)) ≡ false
     cases false q = sym q
@@ -153,7 +153,7 @@ part_hit p S T U (body.AtLeast c items) part read listed stands weighted h e sha
     cases false q = elim (subst (λ (b : Bool). MatchBool b (part ≡ []) ((part ≡ complement (literal_of_form p (body.AtLeast c items)) ∷ []) ⊎ IsChosen p U c items part)) (sym q) shape) [
       | inl is ↦
           body_not_false p S T U (body.AtLeast c items) read listed h weighted e
-              (and_left (is_true (values p S) (complement (literal_of_form p (body.AtLeast c items)))) true (sym (ap (hits (values p S)) is) ∙ hit))
+          (and_left (is_true (values p S) (complement (literal_of_form p (body.AtLeast c items)))) true (sym (ap (hits (values p S)) is) ∙ hit))
       | inr chosen ↦ too_light c (weight_between S T items) (weight_where (is_left p U part) items) e (weight_less S T (is_left p U part) items weighted (left items stands)) chosen.enough
     ]
 
@@ -167,7 +167,7 @@ parts_hit p S U b (c ∷ bodies) rest e parts hit =
   where
     cases : (t : Bool) → t ≡ body_eq b c → (hits (values p S) parts.0 ≡ true) × (hits (values p S) parts.1 ≡ true) →
         (list_any (body_eq b) bodies ≡ true → AreParts p U bodies parts.1 → hits (values p S) parts.1 ≡ true → (part : List Literal) ×
-            IsPart p U b part × (hits (values p S) part ≡ true)) → (part : List Literal) × IsPart p U b part × (hits (values p S) part ≡ true)
+        IsPart p U b part × (hits (values p S) part ≡ true)) → (part : List Literal) × IsPart p U b part × (hits (values p S) part ≡ true)
     cases true q both later = (parts.0, subst (λ (d : Body). IsPart p U d parts.0) (sym (same_body b c (sym q))) parts.3, both.0)
     cases false q both later = later (ap (λ t. t || list_any (body_eq b) bodies) q ∙ e) parts.4 both.1
 
@@ -220,18 +220,18 @@ loop_entailed p U a bodies rest sound member stands supports parts = record { ex
         } in
         let founded = stable-founded p S V sound stable (λ b e. and_left (has S b) (has U b) (sym (has-filter (has S) U b) ∙ e)) a in_V in
         let rule = some (λ r. Among (rules_in_force p) r × AllByRecursion (λ c. has (atoms_of p) c ≡ true) (body_atoms r.body))
-            (λ r. has (derived_heads S W r) founded.0) (rules_in_force p)
-            (each_both (Among (rules_in_force p)) (λ r. AllByRecursion (λ c. has (atoms_of p) c ≡ true) (body_atoms r.body)) (rules_in_force p)
-                (each_among (rules_in_force p)) (rules_in_force-bodies p))
+        (λ r. has (derived_heads S W r) founded.0) (rules_in_force p)
+        (each_both (Among (rules_in_force p)) (λ r. AllByRecursion (λ c. has (atoms_of p) c ≡ true) (body_atoms r.body)) (rules_in_force p)
+        (each_among (rules_in_force p)) (rules_in_force-bodies p))
         (sym (list_any-flat_map (λ b. eqb b founded.0) (derived_heads S W) (rules_in_force p)) ∙ sym (has-set_of (flat_map (derived_heads S W) (rules_in_force p)) founded.0) ∙ founded.2) in
         let derived = derived_parts S W rule.0 founded.0 rule.2 in
         let form : Body = normal rule.0.body in
         let in_U : has U founded.0 ≡ true = and_right (has S founded.0) (has U founded.0) (sym (has-filter (has S) U founded.0) ∙ founded.1) in
         let supported : supports_some p U form ≡ true =
-            rule.1.0 (λ r. list_any (has U) (head_atoms r.head) && body_eq (normal r.body) form)
-            (and_from (list_any (has U) (head_atoms rule.0.head)) (body_eq form form)
-                (any_of (has U) (head_atoms rule.0.head) founded.0 derived.1 in_U) (body_eq-itself form)) in
+        rule.1.0 (λ r. list_any (has U) (head_atoms r.head) && body_eq (normal r.body) form)
+        (and_from (list_any (has U) (head_atoms rule.0.head)) (body_eq form form)
+        (any_of (has U) (head_atoms rule.0.head) founded.0 derived.1 in_U) (body_eq-itself form)) in
         let part = parts_hit p S U form bodies rest (supports form ∙ supported) parts both.1 in
         part_hit p S W U form part.0 (stable-read p S sound stable) (rule_has_form p rule.0 rule.1.0)
-            (normal-stands (atoms_of p) rule.0.body rule.1.1) (form_weighted p rule.0 sound rule.1.0) apart
-            (body_holds_between-normal S W rule.0.body ∙ derived.0) part.1 part.2
+        (normal-stands (atoms_of p) rule.0.body rule.1.1) (form_weighted p rule.0 sound rule.1.0) apart
+        (body_holds_between-normal S W rule.0.body ∙ derived.0) part.1 part.2

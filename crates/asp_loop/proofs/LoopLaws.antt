@@ -64,7 +64,7 @@ pub adds_next : (p : Program) (x : List (Option Bool)) (U : Atoms) (vars : List 
     AddsAll p x U (map (form_of p) (take (i + 1) vars)) old new
 adds_next p x U vars i j old middle new lt at h k =
     let longer : map (form_of p) (take i vars) ++ form_of p (get_or vars i 0) ∷ [] ≡ map (form_of p) (take (i + 1) vars) =
-        sym (map-append (form_of p) (take i vars) (get_or vars i 0 ∷ [])) ∙ ap (map (form_of p)) (sym (take_more vars i 0 lt)) in
+    sym (map-append (form_of p) (take i vars) (get_or vars i 0 ∷ [])) ∙ ap (map (form_of p)) (sym (take_more vars i 0 lt)) in
     subst (λ (bs : List Body). AddsAll p x U bs old new) longer
     (adds_more p x U (map (form_of p) (take i vars)) (form_of p (get_or vars i 0)) old middle new h (subst (λ (b : Body). Adds p x U b middle new) (ap (nth_body p) at) k))
 
@@ -109,8 +109,8 @@ vars_are p U vars stand is a stands =
     forth : has (map (var_of_atom p) U) (var_of_atom p a) ≡ true → has U a ≡ true
     forth e =
         let found = in_map (λ c. (has (atoms_of p) c ≡ true) × (has U c ≡ true)) (var_of_atom p) U (var_of_atom p a)
-            (both_each (λ c. has (atoms_of p) c ≡ true) (λ c. has U c ≡ true) U (by_recursion (λ c. has (atoms_of p) c ≡ true) U stand) (members U)) e
-            in
+        (both_each (λ c. has (atoms_of p) c ≡ true) (λ c. has U c ≡ true) U (by_recursion (λ c. has (atoms_of p) c ≡ true) U stand) (members U)) e
+        in
         subst (λ (c : ℕ). has U c ≡ true) (same_atom p found.0 a found.1.0 stands found.2) found.1.1
 
 -- ---- the supporting bodies
@@ -137,7 +137,7 @@ supports_are p U vars is b = same_when (list_any (body_eq b) (map (form_of p) va
         let parts = and_parts (has (head_atoms rule.0.head) a.0) (body_eq (normal rule.0.body) form.0) rule.2 in
         rule.1 (λ r. list_any (has U) (head_atoms r.head) && body_eq (normal r.body) b)
         (and_from (list_any (has U) (head_atoms rule.0.head)) (body_eq (normal rule.0.body) b)
-                (any_of (has U) (head_atoms rule.0.head) a.0 parts.0 a.1) (ap (body_eq (normal rule.0.body)) (sym same) ∙ parts.1))
+        (any_of (has U) (head_atoms rule.0.head) a.0 parts.0 a.1) (ap (body_eq (normal rule.0.body)) (sym same) ∙ parts.1))
 
     back : supports_some p U b ≡ true → list_any (body_eq b) (map (form_of p) vars) ≡ true
     back e =
@@ -148,8 +148,8 @@ supports_are p U vars is b = same_when (list_any (body_eq b) (map (form_of p) va
         let a = some (λ a. has (head_atoms rule.0.head) a ≡ true) (has U) (head_atoms rule.0.head) (members (head_atoms rule.0.head)) parts.0 in
         let test : Body → Bool = λ c. list_any (λ (r : Rule). has (head_atoms r.head) a.0 && body_eq (normal r.body) c) (rules_in_force p) in
         let passes : test b ≡ true =
-            rule.1 (λ r. has (head_atoms r.head) a.0 && body_eq (normal r.body) b)
-            (and_from (has (head_atoms rule.0.head) a.0) (body_eq (normal rule.0.body) b) a.1 parts.1) in
+        rule.1 (λ r. has (head_atoms r.head) a.0 && body_eq (normal r.body) b)
+        (and_from (has (head_atoms rule.0.head) a.0) (body_eq (normal rule.0.body) b) a.1 parts.1) in
         let supported : has (supports p a.0) (number_of_form p b) ≡ true = form_in p test b (bodies_of p) listed passes in
         let there : has vars (number_of_form p b) ≡ true = of_var (number_of_form p b) ∙ any_of (λ c. has (supports p c) (number_of_form p b)) U a.0 a.2 supported in
         mapped vars ∙ any_of (λ v. body_eq b (form_of p v)) vars (number_of_form p b) there (ap (body_eq b) (form_at-number p b listed) ∙ body_eq-itself b)
@@ -163,7 +163,7 @@ pub vars_of_bodies : (p : Program) (U vars : Atoms) → vars ≡ set_of (flat_ma
 vars_of_bodies p U vars is k d lt =
     let v : ℕ = get_or vars k d in
     let a = some (λ a. has U a ≡ true) (λ a. has (supports p a) v) U (members U)
-        (sym (ap (λ vs. has vs v) is ∙ has-set_of (flat_map (supports p) U) v ∙ in_flat (supports p) U v) ∙ is_at vars k d lt) in
+    (sym (ap (λ vs. has vs v) is ∙ has-set_of (flat_map (supports p) U) v ∙ in_flat (supports p) U v) ∙ is_at vars k d lt) in
     let found = some (IsBodyNumber p) (λ w. eqb w v) (supports p a.0) (support_numbers p a.0) a.2 in
     subst (IsBodyNumber p) (eqb-true found.0 v found.2) found.1
 
@@ -205,21 +205,21 @@ pub all_excused : (p : Program) (x : List (Option Bool)) (U : Atoms) (a : ℕ) (
 all_excused p x U a bodies member supports_ excused =
     and_from (ltb 0 (length U)) (list_all (rule_excused p x U) (rules_in_force p)) (nonempty U a member)
     (all_pass (rule_excused p x U) (rules_in_force p) (each_weaker (Among (rules_in_force p)) (λ r. rule_excused p x U r ≡ true)
-                (λ r m. cases r m (list_any (has U) (head_atoms r.head)) refl) (rules_in_force p) (each_among (rules_in_force p))))
+    (λ r m. cases r m (list_any (has U) (head_atoms r.head)) refl) (rules_in_force p) (each_among (rules_in_force p))))
   where
     cases : (r : Rule) → Among (rules_in_force p) r → (t : Bool) → t ≡ list_any (has U) (head_atoms r.head) → rule_excused p x U r ≡ true
     cases r m false q = ap (λ t. not t || is_excused p x U (normal r.body)) (sym q)
     cases r m true q =
         let supported : supports_some p U (normal r.body) ≡ true =
-            m (λ s. list_any (has U) (head_atoms s.head) && body_eq (normal s.body) (normal r.body))
-            (and_from (list_any (has U) (head_atoms r.head)) (body_eq (normal r.body) (normal r.body)) (sym q) (body_eq-itself (normal r.body))) in
+        m (λ s. list_any (has U) (head_atoms s.head) && body_eq (normal s.body) (normal r.body))
+        (and_from (list_any (has U) (head_atoms r.head)) (body_eq (normal r.body) (normal r.body)) (sym q) (body_eq-itself (normal r.body))) in
         let found = some (λ b. is_excused p x U b ≡ true) (body_eq (normal r.body)) bodies excused (supports_ (normal r.body) ∙ supported) in
         or_right (not (list_any (has U) (head_atoms r.head))) (is_excused p x U (normal r.body)) (ap (is_excused p x U) (same_body (normal r.body) found.0 found.2) ∙ found.1)
 
 pub firm_founded : (p : Program) (x : List (Option Bool)) (U : Atoms) (bodies : List Body) → AreSupports p U bodies → HasFirm p x U bodies → is_unfounded p x U ≡ false
 firm_founded p x U bodies supports_ h =
     let rule = some (Among (rules_in_force p)) (λ r. list_any (has U) (head_atoms r.head) && body_eq (normal r.body) h.form) (rules_in_force p)
-        (each_among (rules_in_force p)) (sym (supports_ h.form) ∙ h.among) in
+    (each_among (rules_in_force p)) (sym (supports_ h.form) ∙ h.among) in
     let parts = and_parts (list_any (has U) (head_atoms rule.0.head)) (body_eq (normal rule.0.body) h.form) rule.2 in
     let fails : rule_excused p x U rule.0 ≡ false = ap (λ t. not t || is_excused p x U (normal rule.0.body)) parts.0 ∙ ap (is_excused p x U) (same_body (normal rule.0.body) h.form parts.1) ∙ h.firm in
     cases rule.0 rule.1 fails (is_unfounded p x U) refl
@@ -229,7 +229,7 @@ firm_founded p x U bodies supports_ h =
     cases r m fails true q =
         let all : list_all (rule_excused p x U) (rules_in_force p) ≡ true = (and_parts (ltb 0 (length U)) (list_all (rule_excused p x U) (rules_in_force p)) (sym q)).1 in
         let found = some (λ s. rule_excused p x U s ≡ true) (λ s. not (rule_excused p x U s)) (rules_in_force p) (each_passes (rules_in_force p) all)
-            (m (λ s. not (rule_excused p x U s)) (ap not fails)) in
+        (m (λ s. not (rule_excused p x U s)) (ap not fails)) in
         absurd (false≢true (sym (ap not found.1) ∙ found.2))
       where
         each_passes : (rs : List Rule) → list_all (rule_excused p x U) rs ≡ true → AllByRecursion (λ s. rule_excused p x U s ≡ true) rs

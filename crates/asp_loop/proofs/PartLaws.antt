@@ -170,8 +170,8 @@ heavy : (p : Program) (x : List (Option Bool)) (U vars : Atoms) (c bound : ℤ) 
 heavy p x U vars c bound items h same stand slack =
     let sum = weigh_items p (counts x vars false) (λ l. not (is_inside U l)) items (outside_same p x U vars items h stand) in
     not_below c (weight_where (λ l. not (is_inside U l)) items)
-        (subst (λ w. c ≤ℤ w) sum (subst (λ d. d ≤ℤ weigh (counts x vars false) (map (λ i. literal_of p i.0) items) (map (λ i. i.1) items)) (sym same)
-                slack))
+    (subst (λ w. c ≤ℤ w) sum (subst (λ d. d ≤ℤ weigh (counts x vars false) (map (λ i. literal_of p i.0) items) (map (λ i. i.1) items)) (sym same)
+    slack))
 
 pub weighted_false : (p : Program) (x : List (Option Bool)) (U vars : Atoms) (b : Body) (old new : List Literal) (bound : ℤ) → AreVarsOf p U vars →
     bound_of b ≡ Some bound → Stands (atoms_of p) b → IsSlack bound (weigh (counts x vars false) (form_literals p b) (form_weights b)) None →
@@ -195,7 +195,7 @@ weighted_firm p x U vars (body.AtLeast c items) old new bound h is stand f slack
     let same : c ≡ bound = same_some c bound is in
     ap (λ b. b || int_lt (outside_weight p x U items) c) f.0
     ∙ not_below c (outside_weight p x U items) (subst (λ w. c ≤ℤ w) (open_weight p x U vars items h stand)
-            (subst (λ d. d ≤ℤ weigh (counts x vars true) (map (λ i. literal_of p i.0) items) (map (λ i. i.1) items)) (sym same) slack))
+    (subst (λ d. d ≤ℤ weigh (counts x vars true) (map (λ i. literal_of p i.0) items) (map (λ i. i.1) items)) (sym same) slack))
 
 -- a choice among variables' literals is one among the items
 chosen_item : (p : Program) (x : List (Option Bool)) (U vars : Atoms) (items : List (ℤ × ℤ)) (l : Literal) → AreVarsOf p U vars →
@@ -211,7 +211,7 @@ chosen_item p x U vars (i ∷ items) l h stand e =
 
     cases : (b : Bool) → b ≡ (is_choice x vars (literal_of p i.0) && literal_eq (complement (literal_of p i.0)) l) →
         (list_any (λ k. is_choice x vars k && literal_eq (complement k) l) (map (λ i. literal_of p i.0) items) ≡ true →
-            list_any (λ i. not (is_inside U i.0) && literal_eq (complement (literal_of p i.0)) l) items ≡ true) →
+        list_any (λ i. not (is_inside U i.0) && literal_eq (complement (literal_of p i.0)) l) items ≡ true) →
         list_any (λ i. not (is_inside U i.0) && literal_eq (complement (literal_of p i.0)) l) (i ∷ items) ≡ true
     cases true q later =
         let parts = and_parts (is_choice x vars (literal_of p i.0)) (literal_eq (complement (literal_of p i.0)) l) (sym q) in
@@ -266,7 +266,7 @@ weighted_chosen p x U vars (body.AtLeast c items) old middle new bound s h is st
     lit_lt w c h = grind (arith, ints)
 
     outside : (part : List Literal) → AllByRecursion (λ l. list_any (λ k. is_choice x vars k && literal_eq (complement k) l)
-            (map (λ i. literal_of p i.0) items) ≡ true) part →
+        (map (λ i. literal_of p i.0) items) ≡ true) part →
         AllByRecursion (λ l. list_any (λ i. not (is_inside U i.0) && literal_eq (complement (literal_of p i.0)) l) items ≡ true) part
     outside [] k = tt
     outside (l ∷ ls) k = (chosen_item p x U vars items l h stand k.0, outside ls k.1)

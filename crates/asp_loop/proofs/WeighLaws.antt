@@ -24,7 +24,7 @@ pub weigh_more : (q : Literal → Bool) (lits : List Literal) (weights : List �
     (weigh q (take i lits) (take i weights) +ℤ cond (q (get_or lits i d)) (get_or weights i e) (pos 0))
 weigh_more q lits weights i d e lt same = subst
     (λ (n : ℕ). weigh q (take n lits) (take n weights) ≡
-        (weigh q (take i lits) (take i weights) +ℤ cond (q (get_or lits i d)) (get_or weights i e) (pos 0)))
+    (weigh q (take i lits) (take i weights) +ℤ cond (q (get_or lits i d)) (get_or weights i e) (pos 0)))
     (let k : suc i ≡ i + 1 = omega arith in k) (along lits weights i lt same)
   where
     along : (ls : List Literal) (ws : List ℤ) (k : ℕ) → k < length ls → length ws ≡ length ls →
@@ -164,16 +164,18 @@ choose_more x vars lits weights slack old now now' left rest i d e lt same weigh
           part = h.part ++ one ∷ [];
           is = added.2 ∙ ap (λ ls. ls ++ one ∷ []) h.is ∙ append_assoc old h.part (one ∷ []);
           positive = step.0;
-          chosen = each-append (λ l. list_any (λ k. is_choice x vars k && literal_eq (complement k) l) lits ≡ true) h.part (one ∷ []) h.chosen
-              (list_any_at (λ k. is_choice x vars k && literal_eq (complement k) one) lits i d lt
-                      (and_from (is_choice x vars (get_or lits i d)) (literal_eq one one) added.0 (literal_eq-itself one)), tt);
+          chosen = each-append (λ l. list_any (λ k. is_choice x vars k && literal_eq (complement k) l) lits ≡ true) h.part (one ∷ []) h.chosen (
+            list_any_at (λ k. is_choice x vars k && literal_eq (complement k) one) lits i d lt
+                (and_from (is_choice x vars (get_or lits i d)) (literal_eq one one) added.0 (literal_eq-itself one)),
+            tt,
+          );
           enough = λ n inside.
               let a = weigh_more (is_kept vars n) lits weights i d e lt same in
               let b = weigh_more (counts x vars true) lits weights i d e lt same in
               let last : has_literal n one ≡ true =
-                  inside one (list_any-append (λ k. literal_eq k one) h.part (one ∷ [])
-                      ∙ or_right (has_literal h.part one) (literal_eq one one || false) (or_left (literal_eq one one) false (literal_eq-itself one)))
-                  in
+              inside one (list_any-append (λ k. literal_eq k one) h.part (one ∷ [])
+              ∙ or_right (has_literal h.part one) (literal_eq one one || false) (or_left (literal_eq one one) false (literal_eq-itself one)))
+              in
               let c = choice_counts (is_within vars (get_or lits i d)) (holds_in x one) (has_literal n one) (get_or weights i e) positive added.0 in
               let c1 = c.1 in
               let none = chosen_kept (is_within vars (get_or lits i d)) (has_literal n one) (get_or weights i e) last in
@@ -198,9 +200,9 @@ choices x vars lits weights slack old now left i end same h = record {
       let ws = take_whole weights i (omega arith) in
       let a = h.enough h.part (λ l f. f) in
       let b : weigh (is_kept vars h.part) (take i lits) (take i weights) ≡ weigh (is_kept vars h.part) lits weights =
-          ap (λ xs. weigh (is_kept vars h.part) xs (take i weights)) ls ∙ ap (λ xs. weigh (is_kept vars h.part) lits xs) ws in
+      ap (λ xs. weigh (is_kept vars h.part) xs (take i weights)) ls ∙ ap (λ xs. weigh (is_kept vars h.part) lits xs) ws in
       let c : weigh (counts x vars true) (take i lits) (take i weights) ≡ weigh (counts x vars true) lits weights =
-          ap (λ xs. weigh (counts x vars true) xs (take i weights)) ls ∙ ap (λ xs. weigh (counts x vars true) lits xs) ws in
+      ap (λ xs. weigh (counts x vars true) xs (take i weights)) ls ∙ ap (λ xs. weigh (counts x vars true) lits xs) ws in
       let left_positive = h.positive in
       omega (arith, ints, a, b, c, left_positive);
 }

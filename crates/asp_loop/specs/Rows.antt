@@ -9,7 +9,7 @@ use Rattle.asp_model.specs.Rows.{rules_alone, choice}
 abbrev pub supported_loop : Program
 supported_loop =
     rules_alone (record { head = head.One 1; body = body.All (pos 2 ∷ []) } ∷ record { head = head.One 2; body = body.All (pos 1 ∷ []) } ∷ choice
-            (3 ∷ []) ∷ record { head = head.One 1; body = body.All (pos 3 ∷ []) } ∷ [])
+    (3 ∷ []) ∷ record { head = head.One 1; body = body.All (pos 3 ∷ []) } ∷ [])
 
 -- The atom c, and with it the body of c alone, has this value, and no other variable has one.
 abbrev pub with_support : Bool → List (Option Bool)

@@ -102,8 +102,8 @@ stepped : (p : Program) (S D : Atoms) (a : ℕ) (P : Rule → Type 0) → AllByR
 stepped p S D a P all e =
     let rule = some P (λ r. has (derived_heads S D r) a) (rules_in_force p) all
     (sym (list_any-flat_map (λ b. eqb b a) (derived_heads S D) (rules_in_force p))
-            ∙ sym (has-set_of (flat_map (derived_heads S D) (rules_in_force p)) a) ∙ sym (ap (λ U. has U a) (step_read S D (rules_in_force p))) ∙ e)
-        in
+    ∙ sym (has-set_of (flat_map (derived_heads S D) (rules_in_force p)) a) ∙ sym (ap (λ U. has U a) (step_read S D (rules_in_force p))) ∙ e)
+    in
     (rule.0, rule.1, derived_by S D rule.0 a rule.2)
 
 kept_in : (S : Atoms) (h : Head) (a : ℕ) → has (reduct_heads S h) a ≡ true → is_kept S h ≡ true → has S a ≡ true
@@ -236,8 +236,8 @@ heads_have p r a m e =
     let f : Rule → List ℕ = λ s. cond (body_eq (normal s.body) b) (head_atoms s.head) [] in
     map_in (var_of_atom p) (flat_map f (rules_in_force p)) a
     (list_any-flat_map (λ c. eqb c a) f (rules_in_force p)
-            ∙ m (λ s. has (cond (body_eq (normal s.body) b) (head_atoms s.head) []) a)
-            (ap (λ t. has (cond t (head_atoms r.head) []) a) (body_eq-itself b) ∙ e))
+    ∙ m (λ s. has (cond (body_eq (normal s.body) b) (head_atoms s.head) []) a)
+    (ap (λ t. has (cond t (head_atoms r.head) []) a) (body_eq-itself b) ∙ e))
 
 pub closed_unstable : (p : Program) (S : Atoms) (x : List (Option Bool)) → IsSound p → AreFounded p S x →
     list_all (is_done p x) (bodies_of p) ≡ true → (AreWhole x (length (atoms_of p)) → ⊥) → is_stable p S ≡ false
@@ -257,8 +257,8 @@ closed_unstable p S x sound h done broken = unless (is_stable p S) (λ stable. b
         let held : passes p (holds_in x) (normal rule.0.body) ≡ true =
         body_link p S x (normal rule.0.body) h (normal-stands (atoms_of p) rule.0.body rule.1.bodies) ∙ body_holds_between-normal S (derived p x) rule.0.body ∙ rule.2.0 in
         let all : list_all (λ v. not (is_none (value_of x v))) (heads_of p (normal rule.0.body)) ≡ true =
-            implied (passes p (holds_in x) (normal rule.0.body)) (list_all (λ v. not (is_none (value_of x v))) (heads_of p (normal rule.0.body)))
-            (form_done rule.0 rule.1) held in
+        implied (passes p (holds_in x) (normal rule.0.body)) (list_all (λ v. not (is_none (value_of x v))) (heads_of p (normal rule.0.body)))
+        (form_done rule.0 rule.1) held in
         let value = all_has (λ v. not (is_none (value_of x v))) (heads_of p (normal rule.0.body)) (var_of_atom p a) all (heads_have p rule.0 a rule.1.among head_) in
         has-derived p x a stands ∙ some_true (value_of x (var_of_atom p a)) (var_of_atom p a) (is_not (is_none (value_of x (var_of_atom p a))) value) (h.outside a stands ∙ ap not in_set)
       where

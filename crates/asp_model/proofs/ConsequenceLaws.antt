@@ -78,7 +78,7 @@ pub covers-from : (r : Reasoning) (p : Program) (K : List Atoms) (S : Atoms) →
 covers-from r p [] S some h = absurd (some refl)
 covers-from r p (U ∷ K) S some h = elim (cases_Bool (list_any (shows r S) (unshown r p (U ∷ K)))) [
   | inl e ↦ absurd (one_passes ⊥ (λ b. not (list_any (λ T. shows r T b) (U ∷ K)) && shows r S b) (atoms_of p) none
-          (sym (list_any-filter (shows r S) (λ b. not (list_any (λ T. shows r T b) (U ∷ K))) (atoms_of p)) ∙ e))
+      (sym (list_any-filter (shows r S) (λ b. not (list_any (λ T. shows r T b) (U ∷ K))) (atoms_of p)) ∙ e))
   | inr e ↦ ap not e
 ]
   where
@@ -86,7 +86,7 @@ covers-from r p (U ∷ K) S some h = elim (cases_Bool (list_any (shows r S) (uns
     none =
         each_weaker (λ b. has (atoms_of p) b ≡ true) (λ b. (not (list_any (λ T. shows r T b) (U ∷ K)) && shows r S b) ≡ true → ⊥)
         (λ b there g. let parts = and_parts (not (list_any (λ T. shows r T b) (U ∷ K))) (shows r S b) g in
-                false≢true (sym (not-true (list_any (λ T. shows r T b) (U ∷ K)) parts.0) ∙ h b there parts.1))
+        false≢true (sym (not-true (list_any (λ T. shows r T b) (U ∷ K)) parts.0) ∙ h b there parts.1))
         (atoms_of p) (HasAll-itself (atoms_of p))
 
 pub covers-some : (r : Reasoning) (p : Program) (K : List Atoms) (S : Atoms) → covers r p K S ≡ true → K ≡ [] → ⊥
@@ -259,7 +259,7 @@ intersection-fewer p chosen a h =
     let parts = and_parts (list_all (λ S. has S a) (answers p)) (has (atoms_of p) a) (sym (has-filter (λ b. list_all (λ S. has S b) (answers p)) (atoms_of p) a) ∙ h) in
     has-filter (λ b. list_all (λ S. has S b) (filter chosen (answers p))) (atoms_of p) a
     ∙ and_from (list_all (λ S. has S a) (filter chosen (answers p))) (has (atoms_of p) a)
-        (all-fewer (λ S. has S a) (filter chosen (answers p)) (answers p) (fewer-among chosen (answers p)) parts.0) parts.1
+    (all-fewer (λ S. has S a) (filter chosen (answers p)) (answers p) (fewer-among chosen (answers p)) parts.0) parts.1
 
 -- ---- how the unshown atoms are kept
 cond-filter : {X : Type 0} (f : X → Bool) (b : Bool) (x : X) (xs : List X) → filter f (cond b (x ∷ xs) xs) ≡ cond (b && f x) (x ∷ filter f xs) (filter f xs)
@@ -323,7 +323,7 @@ pub shows-common : (r : Reasoning) (p : Program) (K : List Atoms) (a : ℕ) → 
 shows-common Brave p K a there = has-filter (λ b. list_any (λ S. has S b) K) (atoms_of p) a ∙ and-true (list_any (λ S. has S a) K) (has (atoms_of p) a) there
 shows-common Cautious p K a there =
     ap not (has-filter (λ b. list_all (λ S. has S b) K) (atoms_of p) a ∙ and-true (list_all (λ S. has S a) K) (has (atoms_of p) a) there
-            ∙ all-any (λ S. has S a) K) ∙ not-not (list_any (λ S. not (has S a)) K)
+    ∙ all-any (λ S. has S a) K) ∙ not-not (list_any (λ S. not (has S a)) K)
 
 any-common : (r : Reasoning) (p : Program) (K : List Atoms) (a : ℕ) → has (atoms_of p) a ≡ true → list_any (λ S. shows r S a) (common_sets r p K) ≡ list_any (λ S. shows r S a) K
 any-common r p [] a there = refl
@@ -339,7 +339,7 @@ any-common-more : (r : Reasoning) (p : Program) (K : List Atoms) (T : Atoms) (a 
     list_any (λ S. shows r S a) (common_sets r p K ++ T ∷ []) ≡ list_any (λ S. shows r S a) (K ++ T ∷ [])
 any-common-more r p K T a there =
     list_any-append (λ S. shows r S a) (common_sets r p K) (T ∷ []) ∙ ap (λ b. b || list_any (λ S. shows r S a) (T ∷ [])) (any-common r p K a there)
-        ∙ sym (list_any-append (λ S. shows r S a) K (T ∷ []))
+    ∙ sym (list_any-append (λ S. shows r S a) K (T ∷ []))
 
 push-some : (K : List Atoms) (T : Atoms) → K ++ T ∷ [] ≡ [] → ⊥
 push-some K T e = member-some (K ++ T ∷ []) T (list_any-append (same_set T) K (T ∷ []) ∙ or_right (list_any (same_set T) K) (list_any (same_set T) (T ∷ [])) (first-among T [])) e
@@ -413,8 +413,8 @@ covers-less r p K L S sub some c = covers-from r p L S some (λ a there s. elim 
     unseen : (a : ℕ) → has (atoms_of p) a ≡ true → shows r S a ≡ true → list_any (λ T. shows r T a) L ≡ false → ⊥
     unseen a there s e =
         let left : has (unshown r p L) a ≡ true =
-            has-filter (λ b. not (list_any (λ T. shows r T b) L)) (atoms_of p) a
-            ∙ and_from (not (list_any (λ T. shows r T a) L)) (has (atoms_of p) a) (ap not e) there in
+        has-filter (λ b. not (list_any (λ T. shows r T b) L)) (atoms_of p) a
+        ∙ and_from (not (list_any (λ T. shows r T a) L)) (has (atoms_of p) a) (ap not e) there in
         let parts = and_parts (not (list_any (λ T. shows r T a) K)) (has (atoms_of p) a) (sym (has-filter (λ b. not (list_any (λ T. shows r T b) K)) (atoms_of p) a) ∙ sub a left) in
         false≢true (sym (not-true (list_any (λ T. shows r T a) K) parts.0) ∙ covered-shown r p K S c a there s)
 

@@ -38,7 +38,7 @@ limit-is L rules T monotone heads limit =
     let closed : IsClosed rules T = closed_from_step rules T (λ a h. sym (ap (λ X. has X a) limit.fixed) ∙ h) in
     let under : IsSubset (steps rules last) T = steps-least rules last T monotone closed in
     let over : IsSubset T (steps rules last) =
-        subst (λ X. IsSubset X (steps rules last)) (sym limit.reached)
-        (steps-least rules limit.count (steps rules last) monotone (steps-closed L rules monotone heads)) in
+    subst (λ X. IsSubset X (steps rules last)) (sym limit.reached)
+    (steps-least rules limit.count (steps rules last) monotone (steps-closed L rules monotone heads)) in
     same_from_has T (steps rules last) (subst IsAscending (sym limit.reached) (steps-ascend rules limit.count)) (steps-ascend rules last) (λ a.
     same_bools (has T a) (has (steps rules last) a) (over a) (under a))

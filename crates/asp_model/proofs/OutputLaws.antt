@@ -21,7 +21,7 @@ outputs_kept conditions more condition ks js texts others conditions_are ks_are 
     let both = kept conditions condition ks texts s in (
       subst (λ (c : List (List ℤ)). AreOutputsStored c js others) (sym conditions_are)
           (subst (λ (xs : List ℕ). AreOutputsStored (conditions ++ condition ∷ []) xs others) (sym ks_are)
-              (subst (λ (ts : List (List ℕ)). AreOutputsStored (conditions ++ condition ∷ []) ks ts) (sym texts_are) both.0)),
+          (subst (λ (ts : List (List ℕ)). AreOutputsStored (conditions ++ condition ∷ []) ks ts) (sym texts_are) both.0)),
       ap (λ (c : List (List ℤ)). outputs_of c js others) conditions_are
           ∙ ap (λ (xs : List ℕ). outputs_of (conditions ++ condition ∷ []) xs others) ks_are
           ∙ ap (λ (ts : List (List ℕ)). outputs_of (conditions ++ condition ∷ []) ks ts) texts_are
@@ -37,12 +37,12 @@ outputs_more conditions more condition ks js texts others k text conditions_are 
     let both = kept conditions condition ks texts s in
     let lt : k < length whole = omega (arith, k_is, length-append conditions (condition ∷ [])) in
     let last : get_or whole k [] ≡ condition =
-        get_or-append_right conditions (condition ∷ []) k k [] (sym k_is) (omega arith)
-        ∙ ap (λ (n : ℕ). get_or (condition ∷ []) n []) (let none : k - k ≡ 0 = omega arith in none) in (
+    get_or-append_right conditions (condition ∷ []) k k [] (sym k_is) (omega arith)
+    ∙ ap (λ (n : ℕ). get_or (condition ∷ []) n []) (let none : k - k ≡ 0 = omega arith in none) in (
       subst (λ (c : List (List ℤ)). AreOutputsStored c js others) (sym conditions_are)
           (subst (λ (xs : List ℕ). AreOutputsStored whole xs others) (sym ks_are)
-              (subst (λ (ts : List (List ℕ)). AreOutputsStored whole (ks ++ k ∷ []) ts) (sym texts_are)
-                  (AreZipped-push (λ j. j < length whole) ks texts k text both.0 lt))),
+          (subst (λ (ts : List (List ℕ)). AreOutputsStored whole (ks ++ k ∷ []) ts) (sym texts_are)
+          (AreZipped-push (λ j. j < length whole) ks texts k text both.0 lt))),
       ap (λ (c : List (List ℤ)). outputs_of c js others) conditions_are
           ∙ ap (λ (xs : List ℕ). outputs_of whole xs others) ks_are
           ∙ ap (λ (ts : List (List ℕ)). outputs_of whole (ks ++ k ∷ []) ts) texts_are

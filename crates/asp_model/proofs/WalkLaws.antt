@@ -109,12 +109,12 @@ pub advanced : (L : Atoms) (old new : List Bool) (place : ℕ) → 0 < place →
 advanced L old new place above cleared read len =
     let at = marked old new place false above cleared read in
     let count : length old ≡ length at.front + suc at.count =
-        ap length at.was ∙ length-append at.front (false ∷ replicate at.count true)
-        ∙ ap (λ n. length at.front + suc n) (length-replicate at.count true) in
+    ap length at.was ∙ length-append at.front (false ∷ replicate at.count true)
+    ∙ ap (λ n. length at.front + suc n) (length-replicate at.count true) in
     let Next : List Bool → List Bool → Type 0 = λ marks next. subsets_from L marks ≡ picked L marks ∷ subsets_from L next in
     let set_there = marked-set old new (place - 1) false true at in
     subst (λ marks. Next marks (set new (place - 1) true)) (sym at.was)
-        (subst (Next (at.front ++ false ∷ replicate at.count true)) (sym set_there) (subsets_from-next L at.front at.count (len ∙ count)))
+    (subst (Next (at.front ++ false ∷ replicate at.count true)) (sym set_there) (subsets_from-next L at.front at.count (len ∙ count)))
 
 pub advanced-none : (L : Atoms) (old new : List Bool) → IsCleared old new 0 → length L ≡ length old → subsets_from L old ≡ picked L old ∷ []
 advanced-none L old new cleared len =

@@ -64,8 +64,8 @@ pub answers-named : (a : ℕ) (p : Program) → IsSplit a p → answers (named_f
 answers-named a p is =
     same_from_members (answers (named_from a p)) (map (extended_from a p) (answers p)) (answers-rise (named_from a p))
     (pairs_from_rising (map (extended_from a p) (answers p))
-            (rising-extended a p (answers p) (each-contained (Below a) (answers p) (answer-below a p is))
-                (rising_from_pairs (answers p) (answers-rise p))))
+    (rising-extended a p (answers p) (each-contained (Below a) (answers p) (answer-below a p is))
+    (rising_from_pairs (answers p) (answers-rise p))))
     (λ X. (there X, back X))
   where
     there : (X : Atoms) → Contains (answers (named_from a p)) X → Contains (map (extended_from a p) (answers p)) X
@@ -81,9 +81,11 @@ answers-named a p is =
         let m = map-contains (extended_from a p) (answers p) X h in
         let parts = (answers-are p m.0).0 m.1 in
         subst (Contains (answers (named_from a p))) (sym m.2)
-            ((answers-are (named_from a p) (extended_from a p m.0)).1
-                (stable-up a p is m.0 parts.0, all-same a (extended_from a p m.0) m.0 (extended-low a p m.0) p.assumptions
-                    (assumed-below a p is.under) ∙ parts.1))
+        ((answers-are (named_from a p) (extended_from a p m.0)).1 (
+          stable-up a p is m.0 parts.0,
+          all-same a (extended_from a p m.0) m.0 (extended-low a p m.0) p.assumptions
+              (assumed-below a p is.under) ∙ parts.1,
+        ))
 
 -- ---- what some sets pass, or all
 abbrev passes : Reasoning → List Atoms → (Atoms → Bool) → Bool
@@ -137,9 +139,9 @@ told-condition : (w : Reasoning) (a : ℕ) (p : Program) → IsSplit a p → ¬ 
 told-condition w a p is some n [] low standing h = passes-always w (answers p) some
 told-condition w a p is some n (pos c ∷ []) low standing h =
     told-atom w a p is c (λ S. all_hold S (pos c ∷ [])) standing.0
-        (each_weaker (Below a) (λ S. has (extended_from a p S) c ≡ all_hold S (pos c ∷ []))
-            (λ S under. extended-low a p S c low.0 ∙ sym (and-true (has S c))) (answers p)
-            (each-contained (Below a) (answers p) (answer-below a p is)))
+    (each_weaker (Below a) (λ S. has (extended_from a p S) c ≡ all_hold S (pos c ∷ []))
+    (λ S under. extended-low a p S c low.0 ∙ sym (and-true (has S c))) (answers p)
+    (each-contained (Below a) (answers p) (answer-below a p is)))
 told-condition w a p is some n (negsuc c ∷ []) low standing h = told-atom w a p is n (λ S. all_hold S (negsuc c ∷ [])) standing.0 (h refl)
 told-condition w a p is some n (l ∷ m ∷ ls) low standing h = told-atom w a p is n (λ S. all_hold S (l ∷ m ∷ ls)) standing.0 (h refl)
 
@@ -195,16 +197,16 @@ told-outputs w a p is some n [] low standing h = refl
 told-outputs w a p is some n (o ∷ os) low standing h =
     let Q = atoms_of (named_from a p) in
     let here : HasAll Q (map atom_of (named_output n o).condition) =
-        each-front (λ b. has Q b ≡ true) (map atom_of (named_output n o).condition)
-        (flat_map (λ (x : Output). map atom_of x.condition) (named_outputs (n + 1) os)) standing in
+    each-front (λ b. has Q b ≡ true) (map atom_of (named_output n o).condition)
+    (flat_map (λ (x : Output). map atom_of x.condition) (named_outputs (n + 1) os)) standing in
     let rest : HasAll Q (flat_map (λ (x : Output). map atom_of x.condition) (named_outputs (n + 1) os)) =
-        each-back (λ b. has Q b ≡ true) (map atom_of (named_output n o).condition)
-        (flat_map (λ (x : Output). map atom_of x.condition) (named_outputs (n + 1) os)) standing in
+    each-back (λ b. has Q b ≡ true) (map atom_of (named_output n o).condition)
+    (flat_map (λ (x : Output). map atom_of x.condition) (named_outputs (n + 1) os)) standing in
     let same : all_hold (common w a p) (named_output n o).condition ≡ is_told w (answers p) o =
     ap (all_hold (common w a p)) (condition-of n o)
     ∙ told-condition w a p is some n o.condition low.0 (subst (λ (ls : List ℤ). HasAll Q (map atom_of ls)) (condition-of n o) here)
-        (λ plain. each_weaker (HasNames a p n (o ∷ os)) (λ S. has (extended_from a p S) n ≡ all_hold S o.condition)
-            (λ S hs. own-name a p n o os S plain hs) (answers p) h)
+    (λ plain. each_weaker (HasNames a p n (o ∷ os)) (λ S. has (extended_from a p S) n ≡ all_hold S o.condition)
+    (λ S hs. own-name a p n o os S plain hs) (answers p) h)
     ∙ sym (told-by w (answers p) o) in
     let kept : List Output = filter (λ (x : Output). all_hold (common w a p) x.condition) (named_outputs (n + 1) os) in
     ap (λ (c : Bool). map (λ (x : Output). x.text) (cond c (named_output n o ∷ kept) kept)) same
@@ -225,8 +227,8 @@ outputs-stand q =
 pub told-named : (w : Reasoning) (a : ℕ) (p : Program) → IsSplit a p → ¬ (answers p ≡ []) → shown (named_from a p) (common w a p) ≡ told_texts w p
 told-named w a p is some =
     told-outputs w a p is some a p.outputs (outputs-below a p is.under) (outputs-stand (named_from a p))
-        (each_weaker (Below a) (HasNames a p a p.outputs) (λ S low b le. extended-high a p S low b le) (answers p)
-            (each-contained (Below a) (answers p) (answer-below a p is)))
+    (each_weaker (Below a) (HasNames a p a p.outputs) (λ S low b le. extended-high a p S low b le) (answers p)
+    (each-contained (Below a) (answers p) (answer-below a p is)))
 
 -- ---- with the first number that is free
 greatest-above : (S : Atoms) → IsAscending S → (b : ℕ) → has S b ≡ true → b ≤ greatest S

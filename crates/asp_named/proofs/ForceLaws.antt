@@ -92,7 +92,7 @@ naming-high a [] = tt
 naming-high a (o ∷ os) =
     subst (High a) (sym (flat_map-append (λ (r : Rule). head_atoms r.head) (naming_rule a o) (naming_rules (a + 1) os)))
     (both-high a (heads_in (naming_rule a o)) (heads_in (naming_rules (a + 1) os)) (one_head a o)
-            (each_weaker (λ b. a + 1 ≤ b) (λ b. a ≤ b) (λ b le. omega (arith, le)) (heads_in (naming_rules (a + 1) os)) (naming-high (a + 1) os)))
+    (each_weaker (λ b. a + 1 ≤ b) (λ b. a ≤ b) (λ b le. omega (arith, le)) (heads_in (naming_rules (a + 1) os)) (naming-high (a + 1) os)))
 
 pub absent-below : (a : ℕ) (xs : List ℕ) (b : ℕ) → High a xs → b < a → has xs b ≡ false
 absent-below a [] b h lt = refl
@@ -130,5 +130,5 @@ pub opened-below : (a : ℕ) (p : Program) → IsUnder a p → AreBelow a (opene
 opened-below a p under =
     let named = below-from a (set_of (external_atoms p)) (λ b e. below-has a (external_atoms p) b (externals-below a p under) (sym (has-set_of (external_atoms p) b) ∙ e)) in
     each-flat_map (λ (r : Rule). Below a (atoms_at r)) (λ b. external_rule b (last_value p.externals b)) (open_atoms p)
-        (each_weaker (Low a) (λ b. AreBelow a (external_rule b (last_value p.externals b))) (λ b lt.
+    (each_weaker (Low a) (λ b. AreBelow a (external_rule b (last_value p.externals b))) (λ b lt.
     opened-one a b (last_value p.externals b) lt) (open_atoms p) (each-filter (Low a) (λ b. not (has (heads_in p.rules) b)) (set_of (external_atoms p)) named))

@@ -101,7 +101,7 @@ step-whole p S T b =
 
 step-named : (a : ℕ) (p : Program) → IsUnder a p → (S T : Atoms) (b : ℕ)
     → has (step (reduct S (rules_in_force (named_from a p))) T) b ≡
-        ((has (derived S T p.rules) b || has (names_by a p.outputs (list_all (holds_between S T))) b) || has (derived S T (opened_rules p)) b)
+    ((has (derived S T p.rules) b || has (names_by a p.outputs (list_all (holds_between S T))) b) || has (derived S T (opened_rules p)) b)
 step-named a p under S T b =
     let R = p.rules in
     let N = naming_rules a p.outputs in
@@ -124,7 +124,7 @@ pub step-low : (a : ℕ) (p : Program) → IsUnder a p → (S S' T T' : Atoms) �
 step-low a p under S S' T T' s t b lt =
     step-named a p under S T b
     ∙ ap (λ (x : Bool). (has (derived S T p.rules) b || x) || has (derived S T (opened_rules p)) b)
-        (absent-below a (names_by a p.outputs (list_all (holds_between S T))) b (names-high a p.outputs (list_all (holds_between S T))) lt)
+    (absent-below a (names_by a p.outputs (list_all (holds_between S T))) b (names-high a p.outputs (list_all (holds_between S T))) lt)
     ∙ none-between (has (derived S T p.rules) b) (has (derived S T (opened_rules p)) b)
     ∙ ap (λ (xs : List ℕ). has xs b || has (derived S T (opened_rules p)) b) (rules-agree a S S' T T' s t p.rules (rules-below a p under))
     ∙ ap (λ (xs : List ℕ). has (derived S' T' p.rules) b || has xs b) (rules-agree a S S' T T' s t (opened_rules p) (opened-below a p under))
@@ -136,9 +136,9 @@ pub step-high : (a : ℕ) (p : Program) → IsUnder a p → (S T : Atoms) (b : �
 step-high a p under S T b le =
     step-named a p under S T b
     ∙ ap (λ (x : Bool). (x || has (names_by a p.outputs (list_all (holds_between S T))) b) || has (derived S T (opened_rules p)) b)
-        (absent-above a (derived S T p.rules) b (derived-below a S T p.rules (rules-below a p under)) le)
+    (absent-above a (derived S T p.rules) b (derived-below a S T p.rules (rules-below a p under)) le)
     ∙ ap (λ (x : Bool). has (names_by a p.outputs (list_all (holds_between S T))) b || x)
-        (absent-above a (derived S T (opened_rules p)) b (derived-below a S T (opened_rules p) (opened-below a p under)) le)
+    (absent-above a (derived S T (opened_rules p)) b (derived-below a S T (opened_rules p) (opened-below a p under)) le)
     ∙ or-none (has (names_by a p.outputs (list_all (holds_between S T))) b)
 
 -- ---- least models
@@ -236,8 +236,8 @@ violated-named a p under X S agree =
     ap (list_any (is_violated X)) (rules-named a p under)
     ∙ list_any-append (is_violated X) (p.rules ++ naming_rules a p.outputs) (opened_rules p)
     ∙ ap (λ (x : Bool). x || list_any (is_violated X) (opened_rules p))
-        (list_any-append (is_violated X) p.rules (naming_rules a p.outputs)
-            ∙ ap (λ (x : Bool). list_any (is_violated X) p.rules || x) (never-violated X a p.outputs) ∙ or-none (list_any (is_violated X) p.rules))
+    (list_any-append (is_violated X) p.rules (naming_rules a p.outputs)
+    ∙ ap (λ (x : Bool). list_any (is_violated X) p.rules || x) (never-violated X a p.outputs) ∙ or-none (list_any (is_violated X) p.rules))
     ∙ ap (λ (x : Bool). x || list_any (is_violated X) (opened_rules p)) (violations-agree a X S agree p.rules (rules-below a p under))
     ∙ ap (λ (x : Bool). list_any (is_violated S) p.rules || x) (violations-agree a X S agree (opened_rules p) (opened-below a p under))
     ∙ sym (list_any-append (is_violated S) p.rules (opened_rules p))
@@ -274,8 +274,8 @@ own-names : (a : ℕ) (p : Program) → IsUnder a p → (X S : Atoms) → Agree 
 own-names a p under X S agree b own =
     ap (λ (M : Atoms). has (with_names a p X M) b) (sym own)
     ∙ ap (λ (xs : List ℕ). has (S ++ xs) b)
-        (names-same a a p.outputs (list_all (holds_between X S)) (all_hold S) (outputs-below a p under)
-            (λ ls low. all-agree a X S S S agree (itself a S) ls low ∙ all-between S ls))
+    (names-same a a p.outputs (list_all (holds_between X S)) (all_hold S) (outputs-below a p under)
+    (λ ls low. all-agree a X S S S agree (itself a S) ls low ∙ all-between S ls))
 
 pub stable-up : (a : ℕ) (p : Program) → IsSplit a p → (S : Atoms) → is_stable p S ≡ true → is_stable (named_from a p) (extended_from a p S) ≡ true
 stable-up a p is S h =
@@ -284,8 +284,8 @@ stable-up a p is S h =
     let low : Below a S = subst (Below a) (sym own) (model-below a p is.under S) in
     let up : IsAscending S = subst IsAscending (sym own) (least_model-ascends p S) in
     let same : X ≡ least_model (named_from a p) X =
-        same_from_has X (least_model (named_from a p) X) (extended-ascends a p S low up) (least_model-ascends (named_from a p) X)
-        (λ b. sym (least-named a p is X S (extended-low a p S) b ∙ own-names a p is.under X S (extended-low a p S) b own)) in
+    same_from_has X (least_model (named_from a p) X) (extended-ascends a p S low up) (least_model-ascends (named_from a p) X)
+    (λ b. sym (least-named a p is X S (extended-low a p S) b ∙ own-names a p is.under X S (extended-low a p S) b own)) in
     and_from _ _ (same_test X (least_model (named_from a p) X) same) (ap not (violated-named a p is.under X S (extended-low a p S)) ∙ (and_parts (same_set S (least_model p S)) _ h).1)
 
 -- the atoms below a

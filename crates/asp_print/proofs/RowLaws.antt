@@ -47,8 +47,8 @@ pub run_more : (sep : ℕ) (S : Atoms) (os : List Output) (from i : ℕ) → fro
     → pieces sep S true (drop from os) ≡ row_between sep os from (i + 1) ++ pieces sep S true (drop (i + 1) os)
 run_more sep S os from i le shown h =
     h ∙ ap (λ (t : List ℕ). row_between sep os from i ++ t)
-        (take_first sep S (drop i os) (sym shown) ∙ ap (λ (t : List Output). row sep (take 1 (drop i os)) ++ pieces sep S true t)
-            (sym (drop_add i 1 os)))
+    (take_first sep S (drop i os) (sym shown) ∙ ap (λ (t : List Output). row sep (take 1 (drop i os)) ++ pieces sep S true t)
+    (sym (drop_add i 1 os)))
     ∙ sym (append_assoc (row_between sep os from i) _ _) ∙ ap (λ (t : List ℕ). t ++ pieces sep S true (drop (i + 1) os)) (sym (between-add sep os from i le))
 
 pub run_begins : (sep : ℕ) (S : Atoms) (os : List Output) (from : ℕ) → shown_at S os from ≡ true →
@@ -112,7 +112,7 @@ less_middle true front part rest bytes a b blank is low high some none = middle 
 less_middle false front [] rest bytes a b blank is low high some one = absurd (omega arith)
 less_middle false front (x ∷ part) rest bytes a b blank is low high some one =
     middle (front ++ x ∷ []) part rest bytes (a + blank) (b - (a + blank)) (is ∙ sym (append_assoc front (x ∷ []) (part ++ rest)))
-        (omega (arith, low, one, length-append front (x ∷ []))) (omega (arith, low, high, one))
+    (omega (arith, low, one, length-append front (x ∷ []))) (omega (arith, low, high, one))
 
 -- where a run's texts stand
 pub record IsRun (sep : ℕ) (os : List Output) (from to a b : ℕ) : Type 0 where
@@ -134,7 +134,7 @@ pub run_part : (sep : ℕ) (any : Bool) (os : List Output) (from to a b blank : 
 run_part sep any os from to a b blank bytes r is e =
     let le : from ≤ to = omega (arith, r.some) in
     less_middle any (row sep (take from os)) (row_between sep os from to) (row sep (drop to os)) bytes a b blank (is ∙ row_parts sep os from to le)
-        r.low (r.high ∙ length-take-to sep os from to le) (between_some sep os from to r.some r.within) e
+    r.low (r.high ∙ length-take-to sep os from to le) (between_some sep os from to r.some r.within) e
 
 -- ---- one output more
 

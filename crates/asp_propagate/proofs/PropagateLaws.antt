@@ -88,7 +88,7 @@ followed_added why t s z r n id m kind a f = record {
 
 pub followed_cut : (why : Program → List Entry → Literal → ℕ → Type 0) (t u : Told) (s : Stored) (r : Trailed) (n m l : ℕ) → AllPairs (λ e f. e.level ≤ f.level) r.entries →
     ((d : Entry) → 0 < m → (get_or r.entries (m - 1) d).level ≤ l) → ((i : ℕ) (d : Entry) → m ≤ i → i < n → l < (get_or r.entries i d).level) →
-        u.program ≡ t.program → WasTold u r m → IsFollowed why t s r n →
+    u.program ≡ t.program → WasTold u r m → IsFollowed why t s r n →
     IsFollowed why u s (record r { entries = cut l r.entries; seen = min r.seen (length (cut l r.entries)) }) m
 followed_cut why t u s r n m l rising low above p w f =
     let after : Trailed = record r { entries = cut l r.entries; seen = min r.seen (length (cut l r.entries)) } in
@@ -215,7 +215,7 @@ followed_bound explains b c t s r n e f = subst (λ (x : Option (List ℤ)). IsF
 
 pub followed_lower : (explains : Program → Option (List ℤ) → List Entry → Literal → ℕ → Type 0) (b : Option (List ℤ)) (c : List ℤ) (t : Told) (s : Stored) (r : Trailed) (n : ℕ) →
     ((es : List Entry) (l : Literal) (name : ℕ) → explains t.program b es l name → explains t.program (Some c) es l name) →
-        IsFollowed (λ p. explains p b) t s r n → IsFollowed (λ p. explains p (Some c)) t s r n
+    IsFollowed (λ p. explains p b) t s r n → IsFollowed (λ p. explains p (Some c)) t s r n
 followed_lower explains b c t s r n stands f = record {
   told = f.told;
   room = f.room;

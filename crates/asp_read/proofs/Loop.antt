@@ -25,8 +25,8 @@ module _ {A : Type 0} (atom : A → ℕ) (one : Atoms → List ℕ → Reads A) 
   goes_on front count i known line a after total lt h so_far =
       let k : count - i ≡ suc (count - (i + 1)) = omega arith in
       let step : with_front front (many_at atom one (count - i) known line) ≡ with_front (front ++ a ∷ [])
-          (many_at atom one (count - (i + 1)) (with_atom (atom a) known) after) =
-          rw (k, h) (regroup front a (many_at atom one (count - (i + 1)) (with_atom (atom a) known) after)) in
+      (many_at atom one (count - (i + 1)) (with_atom (atom a) known) after) =
+      rw (k, h) (regroup front a (many_at atom one (count - (i + 1)) (with_atom (atom a) known) after)) in
       sym step ∙ so_far
 
   pub ends : (e : LineError) (front : List A) (count i : ℕ) (known : Atoms) (line : List ℕ) (total : Reads (List A)) → i < count → Fails e (one known line)

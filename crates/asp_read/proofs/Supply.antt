@@ -135,8 +135,8 @@ module _ {S R : Type 0} (format : Format S R) where
   stopped e initial now next piece more limit lines reader room left c s k fails =
       let w = whole_text initial now next c.read (piece ++ more) c.took s in
       let o : outcome_on format lines reader (left + length piece) (piece ++ (more ++ w.rest)) ≡ outcome_from format limit 0 format.start
-          (c.read ++ ((piece ++ more) ++ w.rest)) =
-          rw (← k, ← append_assoc piece more w.rest) (all_is initial now limit lines reader room ((piece ++ more) ++ w.rest) c) in
+      (c.read ++ ((piece ++ more) ++ w.rest)) =
+      rw (← k, ← append_assoc piece more w.rest) (all_is initial now limit lines reader room ((piece ++ more) ++ w.rest) c) in
       record { text = c.read ++ ((piece ++ more) ++ w.rest); told = w.told; answered = reads_err e _ (subst (λ (o : Result R ReadError). FailsAs e o) o (fails left (more ++ w.rest))) }
 
   pub over : (initial now next : Option (List ℕ)) (piece more : List ℕ) (limit : ℕ) (lines new : Unread) (reader r : S) (room : ℕ) →
@@ -147,17 +147,21 @@ module _ {S R : Type 0} (format : Format S R) where
       let w = whole_text initial now next c.read (piece ++ more) c.took s in
       let k0 : room ≡ 0 + length piece = omega (arith, k) in
       let o : outcome_on format lines reader (0 + length piece) (piece ++ (more ++ w.rest)) ≡ outcome_from format limit 0 format.start
-          (c.read ++ ((piece ++ more) ++ w.rest)) =
-          rw (← k0, ← append_assoc piece more w.rest) (all_is initial now limit lines reader room ((piece ++ more) ++ w.rest) c) in
-      record { text = c.read ++ ((piece ++ more) ++ w.rest); told = w.told; answered =
-              sym (same 0 (more ++ w.rest) ∙ o) ∙ too_long format new r (more ++ w.rest) none (omega (arith, length-append more w.rest)) }
+      (c.read ++ ((piece ++ more) ++ w.rest)) =
+      rw (← k0, ← append_assoc piece more w.rest) (all_is initial now limit lines reader room ((piece ++ more) ++ w.rest) c) in
+      record {
+        text = c.read ++ ((piece ++ more) ++ w.rest);
+        told = w.told;
+        answered =
+            sym (same 0 (more ++ w.rest) ∙ o) ∙ too_long format new r (more ++ w.rest) none (omega (arith, length-append more w.rest));
+      }
 
   pub ended : (initial now next : Option (List ℕ)) (limit : ℕ) (lines : Unread) (reader : S) (room : ℕ) (result : Result R ReadError) →
       Continues format initial now limit lines reader room → Consumes now next [] → IsAtEnd next
       → ((k : ℕ) → ReadGives result (outcome_on format lines reader k [])) → Answers format initial limit result
   ended initial now next limit lines reader room result c s e gives =
       let o : outcome_on format lines reader room [] ≡ outcome_from format limit 0 format.start c.read =
-          all_is initial now limit lines reader room [] c ∙ ap (λ (t : List ℕ). outcome_from format limit 0 format.start t) (append-nil c.read) in
+      all_is initial now limit lines reader room [] c ∙ ap (λ (t : List ℕ). outcome_from format limit 0 format.start t) (append-nil c.read) in
       record { text = c.read; told = at_end_is initial now next c.read c.took s e; answered = reads_gives result _ (subst (λ (o : Result R ReadError). ReadGives result o) o (gives room)) }
 
   -- what a caller sees of it
@@ -228,7 +232,7 @@ module _ {S R : Type 0} (format : Format S R) where
 
   stops_at : (limit : ℕ) (initial now next : Option (List ℕ)) (read last : List ℕ) (result : Result R ReadError) → Took initial now read → Consumes now next last
       → IsOk (judge_all format 1 format.start (lines_of (whole read))) → length read ≤ limit →
-          ((rest : List ℕ) → next ≡ Some rest → Decides format limit read last rest result) → StopsBy format limit initial next result
+      ((rest : List ℕ) → next ≡ Some rest → Decides format limit read last rest result) → StopsBy format limit initial next result
   stops_at limit None now next read last result c e ok le d = tt
   stops_at limit (Some text) None next read last result c e ok le d = absurd c
   stops_at limit (Some text) (Some xs) None read last result c e ok le d = absurd e
@@ -289,20 +293,20 @@ module _ {S R : Type 0} (format : Format S R) where
   stops_refused r y e initial now next piece more limit lines reader room left p q c s k none of_lines fails =
       subst (λ (x : Result R ReadError). StopsBy format limit initial next x) (sym (p ∙ ap Err q)) (stops limit initial now next (piece ++ more) lines reader room (Err e) c s none
       (λ rest is. settled limit c.read (piece ++ more) rest e of_lines
-              (λ after. subst (λ (o : Result R ReadError). FailsAs e o) (whatever initial now piece more after limit lines reader room left c k)
-                  (fails left (more ++ after)))))
+      (λ after. subst (λ (o : Result R ReadError). FailsAs e o) (whatever initial now piece more after limit lines reader room left c k)
+      (fails left (more ++ after)))))
 
   -- more than may come, of which the front has no fault
   pub stops_over : (initial now next : Option (List ℕ)) (piece more : List ℕ) (limit : ℕ) (lines new : Unread) (reader r : S) (room : ℕ) →
       Continues format initial now limit lines reader room → Consumes now next (piece ++ more) → room ≡ length piece → 0 < length more
       → cut lines.bytes ≡ None → cut new.bytes ≡ None →
-          ((k : ℕ) (rest : List ℕ) → outcome_on format new r k rest ≡ outcome_on format lines reader (k + length piece) (piece ++ rest)) →
-          StopsBy format limit initial next (Err errors.TooLong)
+      ((k : ℕ) (rest : List ℕ) → outcome_on format new r k rest ≡ outcome_on format lines reader (k + length piece) (piece ++ rest)) →
+      StopsBy format limit initial next (Err errors.TooLong)
   stops_over initial now next piece more limit lines new reader r room c s k lt none none_new same =
       let k0 : room ≡ 0 + length piece = omega (arith, k) in
       stops limit initial now next (piece ++ more) lines reader room (Err errors.TooLong) c s none
       (λ rest is after. sym (same 0 (more ++ after) ∙ whatever initial now piece more after limit lines reader room 0 c k0)
-              ∙ too_long format new r (more ++ after) none_new (omega (arith, lt, length-append more after)))
+      ∙ too_long format new r (more ++ after) none_new (omega (arith, lt, length-append more after)))
 
 -- the program of an aspif text is sound
 pub sound_text : (result : Result Program ReadError) → (text : List ℕ) × ReadsText result (outcome text) → IfOk result IsSound

@@ -101,7 +101,7 @@ rule_given used seen known line roomy = given_then _ _ _ _ (head_given used know
     given_then _ _ _ _ (body_given (used + head_size head.0) (with_atoms known (head_atoms head.0)) head.1 h.roomy) (λ body b.
     let both : IsRoomy (with_atoms known (head_atoms head.0 ++ body_atoms body.0)) = rw (fold-append (λ T a. with_atom a T) known (head_atoms head.0) (body_atoms body.0)) b.roomy in
     let rule : StatementGiven used seen known (say.Rule (record { head = head.0; body = body.0 })) =
-        record { within = (h.within, b.within); few = omega (arith, b.few); priority = tt; roomy = both } in
+    record { within = (h.within, b.within); few = omega (arith, b.few); priority = tt; roomy = both } in
     given _ _ rule))
 
 minimize_given : (used : ℕ) (seen : List ℤ) (known : Atoms) (line : List ℕ) → IsRoomy known → Given (minimize_at used seen known line) (λ x. StatementGiven used seen known (say.Minimize x.0))
@@ -126,7 +126,7 @@ output_given used seen known line one roomy = given_then _ _ _ _ (natural_given 
     let rest : IsOneLine m.1 = rw within.2 (one_line_after line one) in
     given_then _ _ _ _ (text_given m.0 m.1 rest) (λ text is. given_then _ _ _ _ (literals_given used known text.1 roomy) (λ condition are.
     let output : StatementGiven used seen known (say.Output (record { text = text.0; condition = condition.0 })) =
-        record { within = (omega (arith, is.0, within.1), is.1, are.1); few = are.0; priority = tt; roomy = are.2 } in
+    record { within = (omega (arith, is.0, within.1), is.1, are.1); few = are.0; priority = tt; roomy = are.2 } in
     given _ _ output)))
 
 external_given : (used : ℕ) (seen : List ℤ) (known : Atoms) (line : List ℕ) → used ≤ most_counted → IsRoomy known →
@@ -134,7 +134,7 @@ external_given : (used : ℕ) (seen : List ℤ) (known : Atoms) (line : List ℕ
 unfolding external_at
 external_given used seen known line few roomy = given_then _ _ _ _ (atom_given known line) (λ atom is. given_then _ _ _ _ (natural_given 0 3 atom.1) (λ number _.
     let external : StatementGiven used seen known (say.External (record { atom = atom.0; value = value_of number.0 })) =
-        record { within = is.0; few = omega arith; priority = tt; roomy = roomy_more known atom.0 roomy is.1 } in
+    record { within = is.0; few = omega arith; priority = tt; roomy = roomy_more known atom.0 roomy is.1 } in
     given _ _ external))
 
 -- ---- lines
@@ -174,7 +174,7 @@ pub statement_given : (used : ℕ) (seen : List ℤ) (known : Atoms) (line : Lis
 unfolding statement_with
 statement_given used seen known line few one roomy =
     given_then _ _ _ _ (given_then _ _ (λ _. Unit {0}) (λ x. x.1 ≡ after_field line)
-            (given_after _ _ _ (given_itself (kind_in line (integer_of (field_of line)))) (λ _ _. tt))
-            (λ kind _. given (kind, after_field line) _ refl)) (λ kind rest.
+    (given_after _ _ _ (given_itself (kind_in line (integer_of (field_of line)))) (λ _ _. tt))
+    (λ kind _. given (kind, after_field line) _ refl)) (λ kind rest.
     let later : IsOneLine kind.1 = rw rest (one_line_after line one) in
     of_kind_given kind.0 used seen known kind.1 few later roomy)

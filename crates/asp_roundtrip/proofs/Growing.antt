@@ -114,7 +114,7 @@ one_more : {X : Type 0} (make : X → Statement) (known : Atoms) (x : X) (xs : L
     AllByRecursion (λ y. StandsIn (with_atoms known (statement_atoms (make x))) (make y)) (xs ++ x ∷ [])
 one_more make known x xs is h =
     each-append (λ y. StandsIn (with_atoms known (statement_atoms (make x))) (make y)) xs (x ∷ [])
-        (each_still make known (statement_atoms (make x)) xs h) ((is, has_now known (statement_atoms (make x))), tt)
+    (each_still make known (statement_atoms (make x)) xs h) ((is, has_now known (statement_atoms (make x))), tt)
 
 all_still : (known : Atoms) (atoms : List ℕ) (p : Program) → AreKept known p → AreKept (with_atoms known atoms) p
 all_still known atoms p kept = record {

@@ -165,8 +165,8 @@ cube_reaches front p known cube kept part =
     let in_range : AllByRecursion IsLiteral cube = each_weaker Stands IsLiteral (λ l stands. standing_ranges p (atom_of l) (readable known p kept) stands) cube part.stand in
     let in_known : HasEach known (map atom_of cube) =
     each-map K atom_of cube (each_weaker Stands (λ l. K (atom_of l))
-            (λ l stands. has_one known (mentions p) (atom_of l) (mentions_kept known p kept.statements)
-                (sym (has-set_of (mentions p) (atom_of l)) ∙ stands)) cube part.stand) in
+    (λ l stands. has_one known (mentions p) (atom_of l) (mentions_kept known p kept.statements)
+    (sym (has-set_of (mentions p) (atom_of l)) ∙ stands)) cube part.stand) in
     let stands : StandsIn known (say.Assume cube) = (in_range, in_known) in
     let fits : Fits (adds p (say.Assume cube)) = record { counted = omega (arith, size_grows p (say.Assume cube), part.few_counted); priorities_few = kept.few_priorities } in
     let itself : IsPart known known = record { ascending = kept.roomy.ascending; subset = λ a h. h } in

@@ -53,11 +53,11 @@ without_sign ds z (Some n) e is short =
 integer_shorter : (word : List ℕ) (z : ℤ) → integer_of word ≡ Some z → IsShort z → length (signed_decimal z) ≤ length word
 integer_shorter [] z e short = absurd cc
 integer_shorter (b ∷ bs) z e short = (elim (eqb b 45) as
-        (λ v. (if v then option_map (λ n. neg_ℤ (pos n)) (natural_of bs) else option_map pos (natural_of (b ∷ bs))) ≡ Some z →
-            length (signed_decimal z) ≤ suc (length bs)) [
-  | true ↦ λ h. behind_sign bs z (natural_of bs) refl h short
-  | false ↦ λ h. without_sign (b ∷ bs) z (natural_of (b ∷ bs)) refl h short
-]) e
+    (λ v. (if v then option_map (λ n. neg_ℤ (pos n)) (natural_of bs) else option_map pos (natural_of (b ∷ bs))) ≡ Some z →
+    length (signed_decimal z) ≤ suc (length bs)) [
+      | true ↦ λ h. behind_sign bs z (natural_of bs) refl h short
+      | false ↦ λ h. without_sign (b ∷ bs) z (natural_of (b ∷ bs)) refl h short
+    ]) e
 
 -- ---- fields
 
@@ -174,4 +174,4 @@ pub weights_shorter : (used : ℕ) (low : ℤ) → IsShort low → (known : Atom
     Given (weights_at used low known line) (λ x. Shorter line (counted_fields weighted_fields x.0) x.1)
 weights_shorter used low few known line e = given_then _ _ _ _ (count_shorter used line e) (λ n a.
     given_after _ _ _ (many_shorter weighted_atom (weighted_at low) weighted_fields (weighted_shorter low few) n.0 known n.1 a.next)
-        (λ x b. counted_both weighted_fields x.0 n.0 line n.1 x.1 b.0 a b.1))
+    (λ x b. counted_both weighted_fields x.0 n.0 line n.1 x.1 b.0 a b.1))

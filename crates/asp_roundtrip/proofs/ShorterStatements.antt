@@ -66,7 +66,7 @@ head_shorter used known line e = given_then _ _ _ _ (given_both _ _ _ (natural_g
     let two = shorter_both line (natural_field kind.0) kind.1 (natural_field m.0) m.1 a.1 b.1 in
     let three = shorter_both line (natural_field kind.0 ++ natural_field m.0) m.1 (flat_map natural_field atoms.0) atoms.1 two c.1 in
     let fits : length (head_fields (head_of kind.0 atoms.0)) ≤ length (natural_field kind.0 ++ natural_field m.0 ++ flat_map natural_field atoms.0) =
-        rw (← c.0) (head_fits kind.0 atoms.0 a.0.1 (omega (arith, c.0, b.0.1))) in
+    rw (← c.0) (head_fits kind.0 atoms.0 a.0.1 (omega (arith, c.0, b.0.1))) in
     let shorter = shorter_still line (natural_field kind.0 ++ natural_field m.0 ++ flat_map natural_field atoms.0) (head_fields (head_of kind.0 atoms.0)) atoms.1 three fits in
     given _ _ shorter)))))
 
@@ -80,7 +80,7 @@ body_shorter used known line e = given_then _ _ _ _ (given_both _ _ _ (natural_g
     let both : Shorter line (body_fields (All ls.0)) ls.1 = shorter_both line (codes " 0") kind.1 (counted_fields integer_field ls.0) ls.1 first b in
     given _ _ both))
     (λ f. given_then _ _ _ _ (integer_shorter_at (negsuc most) kind.1 (omega arith) a.1.next)
-            (λ bound b. given_then _ _ _ _ (weights_shorter used (pos 0) (omega arith) known bound.1 b.next) (λ items c.
+    (λ bound b. given_then _ _ _ _ (weights_shorter used (pos 0) (omega arith) known bound.1 b.next) (λ items c.
     let two = shorter_both line (codes " 1") kind.1 (integer_field bound.0) bound.1 other b in
     let three : Shorter line (body_fields (AtLeast bound.0 items.0)) items.1 = shorter_both line (codes " 1" ++ integer_field bound.0) bound.1 (counted_fields weighted_fields items.0) items.1 two c in
     given _ _ three))))
@@ -137,7 +137,7 @@ unfolding external_at
 external_shorter known line e = given_then _ _ _ _ (atom_shorter known line e)
     (λ atom a. given_then _ _ _ _ (given_both _ _ _ (natural_given 0 3 atom.1) (natural_shorter 0 3 atom.1 (omega arith) a.next)) (λ number b.
     let second = shorter_still atom.1 (natural_field number.0) (external_field (value_of number.0)) number.1 b.1
-        (omega (arith, value_short (value_of number.0), long_field number.0 (omega (arith, b.0.1)))) in
+    (omega (arith, value_short (value_of number.0), long_field number.0 (omega (arith, b.0.1)))) in
     let both = shorter_both line (natural_field atom.0) atom.1 (external_field (value_of number.0)) number.1 a second in
     given _ _ both))
 

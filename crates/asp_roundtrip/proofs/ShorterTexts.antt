@@ -99,9 +99,17 @@ assumptions_grow (x ∷ xs) ls few =
     let all = (x ∷ xs) ++ ls in
     let fields = ap length (flat_map-append integer_field (x ∷ xs) ls) ∙ length-append (flat_map integer_field (x ∷ xs)) (flat_map integer_field ls) in
     let count : length (decimal (length all)) ≤ length (decimal (length (x ∷ xs))) + length (decimal (length ls)) + 1 =
-        rw (length-append (x ∷ xs) ls) (decimal_sum (length (x ∷ xs)) (length ls) few) in
-    omega (arith, assumptions_long all, assumptions_long (x ∷ xs), assumptions_long ls, fields, count, length-append (assumptions_text all) (10 ∷ []),
-            length-append (assumptions_text (x ∷ xs)) (10 ∷ []))
+    rw (length-append (x ∷ xs) ls) (decimal_sum (length (x ∷ xs)) (length ls) few) in
+    omega (
+      arith,
+      assumptions_long all,
+      assumptions_long (x ∷ xs),
+      assumptions_long ls,
+      fields,
+      count,
+      length-append (assumptions_text all) (10 ∷ []),
+      length-append (assumptions_text (x ∷ xs)) (10 ∷ []),
+    )
 
 -- how long the statements' lines are
 abbrev total : Program → ℕ

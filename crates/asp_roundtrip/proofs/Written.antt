@@ -57,9 +57,11 @@ module _ (U : Atoms) (roomy : IsRoomy U) where
       has U (weighted_atom item) ≡ true → ends_field rest ≡ true → weighted_at low known (weighted_fields item ++ rest) ≡ Ok (item, rest)
   unfolding weighted_at
   weighted_back low short known item rest is part there e =
-      rw (append_assoc (integer_field item.0) (integer_field item.1) rest,
-              literal_back known item.0 (integer_field item.1 ++ rest) is.0 part there refl,
-              integer_back low (pos most) item.1 rest (integer_within low item.1 short is.1) e) refl
+      rw (
+        append_assoc (integer_field item.0) (integer_field item.1) rest,
+        literal_back known item.0 (integer_field item.1 ++ rest) is.0 part there refl,
+        integer_back low (pos most) item.1 rest (integer_within low item.1 short is.1) e,
+      ) refl
 
   module _ {A : Type 0} (atom : A → ℕ) (one : Atoms → List ℕ → Reads A) (text : A → List ℕ) (P : A → Type 0)
       (starts : (x : A) (rest : List ℕ) → ends_field (text x ++ rest) ≡ true)

@@ -104,7 +104,7 @@ keeps_end : (front back : List ℕ) → 0 < length back → IsPrinted back → w
 keeps_end front back some h =
     let place : length (front ++ back) - 1 ≡ length front + (length back - 1) = omega (arith, length-append front back) in
     let last : get_or (front ++ back) (length (front ++ back) - 1) 0 ≡ get_or back (length back - 1) 0 =
-        ap (λ i. get_or (front ++ back) i 0) place ∙ get_or-append-add front back (length back - 1) 0 in
+    ap (λ i. get_or (front ++ back) i 0) place ∙ get_or-append-add front back (length back - 1) 0 in
     let other : (get_or (front ++ back) (length (front ++ back) - 1) 0 == 13) ≡ false = ne_eqb _ 13 (λ e. omega (arith, last, e, printed_at back (length back - 1) (omega arith) h)) in
     rw other refl
 
@@ -134,7 +134,7 @@ statement_plain used (say.Rule r) is few =
 statement_plain used (say.Minimize m) is few =
     plain 50 (integer_field m.priority) (counted_fields weighted_fields m.items) (omega arith) (omega arith)
     (printed_is_one (integer_field m.priority) (integer_printed m.priority (weight_short (negsuc most) m.priority (omega arith) is.0)))
-        (weights_printed used (negsuc most) (omega arith) m.items few is.1)
+    (weights_printed used (negsuc most) (omega arith) m.items few is.1)
 statement_plain used (say.Output o) is few =
     plain 52 (natural_field (length o.text) ++ codes " " ++ o.text) (counted_fields integer_field o.condition) (omega arith) (omega arith)
     (each-append (λ b. is_lf b ≡ false) (natural_field (length o.text) ++ codes " ") o.text

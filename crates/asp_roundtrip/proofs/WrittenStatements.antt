@@ -155,8 +155,11 @@ module _ (U : Atoms) (roomy : IsRoomy U) where
   unfolding output_at
   output_back used known o rest is few part there e =
       let fields = counted_fields integer_field o.condition ++ rest in
-      rw (natural_back 0 most_bytes (length o.text) (32 ∷ (o.text ++ fields)) (omega arith) is.0 (omega arith) refl, text_back o.text fields refl,
-              literals_back U roomy used known o.condition rest few is.2 part there e) refl
+      rw (
+        natural_back 0 most_bytes (length o.text) (32 ∷ (o.text ++ fields)) (omega arith) is.0 (omega arith) refl,
+        text_back o.text fields refl,
+        literals_back U roomy used known o.condition rest few is.2 part there e,
+      ) refl
 
   external_back : (known : Atoms) (e : External) (rest : List ℕ) → IsAtom e.atom → IsPart U known → HasEach U (statement_atoms (say.External e)) → ends_field rest ≡ true
       → external_at known ((natural_field e.atom ++ external_field e.value) ++ rest) ≡ Ok (e, rest)
@@ -188,7 +191,7 @@ module _ (U : Atoms) (roomy : IsRoomy U) where
       let length_field = natural_field (length o.text) in
       let line : length_field ++ codes " " ++ o.text ++ condition ≡ length_field ++ (32 ∷ (o.text ++ (condition ++ []))) =
       append_assoc (length_field ++ codes " ") o.text condition ∙ append_assoc length_field (codes " ") (o.text ++ condition)
-          ∙ ap (λ after. length_field ++ (32 ∷ (o.text ++ after))) (sym (append-nil condition)) in
+      ∙ ap (λ after. length_field ++ (32 ∷ (o.text ++ after))) (sym (append-nil condition)) in
       let read = ap (output_at used known) line ∙ output_back used known o [] is few part there refl in
       rw read refl
   statement_back used seen known (say.External e) is few again part there =

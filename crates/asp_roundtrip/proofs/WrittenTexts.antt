@@ -171,7 +171,7 @@ module _ (U : Atoms) (roomy : IsRoomy U) where
 
   front_reaches : (p : Program) → AreKept U p → Fits p
       → Reaches U nothing_seen (codes "asp 1 0 0\n" ++ lines rule_text p.rules ++ lines minimize_text p.minimize ++ lines output_text p.outputs
-              ++ lines external_text p.externals ++ assumptions_line p.assumptions) p
+      ++ lines external_text p.externals ++ assumptions_line p.assumptions) p
   front_reaches p kept fits =
       let p₁ = put_rules empty_program p.rules in
       let p₂ = put_minimize p₁ p.minimize in

@@ -29,7 +29,7 @@ pub word_more : (S : Atoms) (atoms : List ℕ) (i w n : ℕ) → i < length atom
 word_more S atoms i w n lt is made =
     made ∙ ap (λ (k : ℕ). 2 * k + bit (has S (get_or atoms i 0))) is
     ∙ sym (ap (λ (t : List ℕ). value (map (has S) t)) (take_more atoms i 0 lt) ∙ ap value (map-push (has S) (take i atoms) (get_or atoms i 0))
-            ∙ with_bits-push 0 (map (has S) (take i atoms)) (has S (get_or atoms i 0)))
+    ∙ with_bits-push 0 (map (has S) (take i atoms)) (has S (get_or atoms i 0)))
 
 -- the atoms up to there of which the set has none
 pub zeros : (S : Atoms) (atoms : List ℕ) (from n : ℕ) → from + n ≤ length atoms →
@@ -78,7 +78,7 @@ found S atoms from next at w up rise some lt le low high behind here is =
 -- and behind the last one
 pub no_more : (S atoms : Atoms) (from next w : ℕ) → IsAscending S → IsAscending atoms → from ≤ length atoms → (from < length atoms → (j : ℕ) → j < next → get_or S j 0 < get_or atoms from 0)
     → (next < length S → get_or atoms (length atoms - 1) 0 < get_or S next 0) → w ≡ value (map (has S) (take from atoms)) →
-        w * 2 ^ (length atoms - from) ≡ value (map (has S) (take (length atoms) atoms))
+    w * 2 ^ (length atoms - from) ≡ value (map (has S) (take (length atoms) atoms))
 no_more S atoms from next w up rise within high last is =
     word_zeros S atoms from (length atoms) w within (omega arith) is (passed S atoms from next (length atoms) up rise high (omega arith) (λ lt. all_below atoms (get_or S next 0) rise (last lt)))
 
@@ -147,8 +147,8 @@ words_more atoms S from n w done pushed lt is one push before =
     let len = length-drop from atoms in
     let same : from + n - from ≡ n = omega arith in
     let word : w ≡ value (map (has S) (take 64 (drop from atoms))) =
-        one ∙ ap (λ (k : ℕ). value (map (has S) (take k (drop from atoms)))) same
-        ∙ ap (λ (t : List ℕ). value (map (has S) t)) (part_is atoms from n is) in
+    one ∙ ap (λ (k : ℕ). value (map (has S) (take k (drop from atoms)))) same
+    ∙ ap (λ (t : List ℕ). value (map (has S) t)) (part_is atoms from n is) in
     ap (λ (t : List ℕ). t ++ encode (drop (from + n) atoms) S) push
     ∙ append_assoc done (w ∷ []) (encode (drop (from + n) atoms) S)
     ∙ ap (λ (t : List ℕ). done ++ w ∷ encode t S) (rest_is atoms from n is)

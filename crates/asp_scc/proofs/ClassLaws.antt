@@ -237,7 +237,7 @@ release_each [] states v h = refl
 release_each (x ∷ row) states v h =
     let one = release_one states x v (All-head (λ w. w < length states) x row h) in
     let rest = release_each row (released states x) v (All-weaker (λ w. w < length states) (λ w. w < length (released states x))
-            (λ w lt. let e = length-released states x in omega (arith, e)) row (All-tail (λ w. w < length states) x row h)) in
+    (λ w lt. let e = length-released states x in omega (arith, e)) row (All-tail (λ w. w < length states) x row h)) in
     rest ∙ ap (λ n. cond (is_in row v && eqb n 1) 0 n) one ∙ cleared_twice (eqb x v) (is_in row v) (get_or states v 0)
 
 -- what settling a node comes to

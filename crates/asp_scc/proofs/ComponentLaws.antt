@@ -131,7 +131,7 @@ are_components p classes numbers count members trivial h all_taken room n m t = 
     is_member k v lt x =
         row_has k v lt ∙ and_from (ltb 0 v) (ltb v (length numbers) && eqb (get_or numbers v 0) k) (lt-ltb 0 v x.0.0)
         (and_from (ltb v (length numbers)) (eqb (get_or numbers v 0) k)
-                (lt-ltb v (length numbers) (let s = n.size in let small = x.0.1 in omega (arith, s, small))) (eq-eqb (get_or numbers v 0) k x.1))
+        (lt-ltb v (length numbers) (let s = n.size in let small = x.0.1 in omega (arith, s, small))) (eq-eqb (get_or numbers v 0) k x.1))
 
     number_small : (a : ℕ) → has (atoms_of p) a ≡ true → get_or numbers (var_of_atom p a) 0 < length members
     number_small a s = let lt = n.within (var_of_atom p a) (atom_positive p a) (place_small a s) in omega (arith, lt, m.size)

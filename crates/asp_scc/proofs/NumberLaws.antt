@@ -69,8 +69,8 @@ give_one given count class lt h = cases (eqb (get_or given class 0) 0) refl
     positive : (c : ℕ) (b : Bool) → b ≡ eqb class c → 0 < get_or given c 0 → 0 < get_or (set given class (count + 1)) c 0
     positive c true e lt' =
         let q : get_or (set given class (count + 1)) c 0 ≡ count + 1 =
-            subst (λ (x : ℕ). get_or (set given class (count + 1)) x 0 ≡ count + 1) (eqb-true class c (sym e))
-            (get_or-set_same given class (count + 1) 0 lt) in
+        subst (λ (x : ℕ). get_or (set given class (count + 1)) x 0 ≡ count + 1) (eqb-true class c (sym e))
+        (get_or-set_same given class (count + 1) 0 lt) in
         omega (arith, q)
     positive c false e lt' =
         let q = get_or-set_other given class c (count + 1) 0 (λ z. false≢true (e ∙ eq-eqb class c (sym z))) in omega (arith, q, lt')
@@ -102,7 +102,7 @@ give_all (x ∷ classes) given count small h =
     let s : List ℕ × ℕ = give_number (given, count) x in
     let first = give_one given count x (All-head (λ c. c < length given) x classes small) h in
     let rest = give_all classes s.0 s.1 (All-weaker (λ c. c < length given) (λ c. c < length s.0) (λ c lt. omega (arith, lt, first.size)) classes
-            (All-tail (λ c. c < length given) x classes small)) first.apart in
+    (All-tail (λ c. c < length given) x classes small)) first.apart in
     record {
       apart = rest.apart;
       size = rest.size ∙ first.size;
@@ -160,9 +160,9 @@ numbered classes given numbers last count lt small is read =
     let part : List ℕ = take (last + 1 - 1) (drop 1 classes) in
     let room : length start ≡ length classes + 2 = length-replicate (length classes + 2) 0 in
     let within : All (λ c. c < length start) part =
-        All-take (λ c. c < length start) (last + 1 - 1) (drop 1 classes)
-        (All-drop (λ c. c < length start) 1 classes (All-weaker (λ c. c < length classes + 2) (λ c. c < length start) (λ c l. omega (arith, l, room))
-                classes small)) in
+    All-take (λ c. c < length start) (last + 1 - 1) (drop 1 classes)
+    (All-drop (λ c. c < length start) 1 classes (All-weaker (λ c. c < length classes + 2) (λ c. c < length start) (λ c l. omega (arith, l, room))
+    classes small)) in
     let all = give_all part start 0 within (none_given (length classes + 2)) in
     let Q : List ℕ × ℕ → Type 0 = λ s. Apart s.0 s.1 × ((c : ℕ) → is_in part c ≡ true → 0 < get_or s.0 c 0) in
     let facts : Q (given, count) = subst Q (sym is) (all.apart, all.done) in
@@ -190,8 +190,8 @@ numbered classes given numbers last count lt small is read =
         let f = length-drop 1 classes in
         let inside : v - 1 < length part = omega (arith, e, f) in
         let at : get_or part (v - 1) 0 ≡ get_or classes v 0 =
-            get_or-take (last + 1 - 1) (drop 1 classes) (v - 1) 0 (omega arith) ∙ get_or-drop 1 classes (v - 1) 0
-            ∙ ap (λ i. get_or classes i 0) (let k : 1 + (v - 1) ≡ v = omega arith in k) in
+        get_or-take (last + 1 - 1) (drop 1 classes) (v - 1) 0 (omega arith) ∙ get_or-drop 1 classes (v - 1) 0
+        ∙ ap (λ i. get_or classes i 0) (let k : 1 + (v - 1) ≡ v = omega arith in k) in
         done (get_or classes v 0) (ap (λ c. is_in part c) (sym at) ∙ is_in-at part (v - 1) inside)
 
 -- a slice that is written back whole

@@ -119,8 +119,8 @@ force-same N p d =
     let left = map (constrained_rule N) p.rules in
     let free : AllByRecursion (λ a. has N a ≡ false) (open_atoms p) =
     each-filter (λ a. has N a ≡ false) (λ a. not (has (heads_of p.rules) a)) (set_of (named p))
-        (each_weaker (λ a. has (set_of (named p)) a ≡ true) (λ a. has N a ≡ false) (named-free N p d) (set_of (named p))
-            (HasAll-itself (set_of (named p)))) in
+    (each_weaker (λ a. has (set_of (named p)) a ≡ true) (λ a. has N a ≡ false) (named-free N p d) (set_of (named p))
+    (HasAll-itself (set_of (named p)))) in
     ap (λ L. left ++ flat_map (λ a. external_rule a (last_value p.externals a)) L) (open-same N p d)
     ∙ ap (λ rs. left ++ rs) (sym (opened-same N (last_value p.externals) (open_atoms p) free))
     ∙ sym (map-append (constrained_rule N) p.rules (opened_rules p))
@@ -131,8 +131,8 @@ step-denied N S T rs a e =
     has-step S T (map (constrained_rule N) rs) a
     ∙ list_any-map (derives_at S T a) (constrained_rule N) rs
     ∙ none-among (λ r. derives_at S T a (constrained_rule N r)) rs
-        (each_of (λ r. derives_at S T a (constrained_rule N r) ≡ false)
-            (λ r. ap (λ c. c && body_holds_between S T r.body) (reduct-denied N S a r.head e)) rs)
+    (each_of (λ r. derives_at S T a (constrained_rule N r) ≡ false)
+    (λ r. ap (λ c. c && body_holds_between S T r.body) (reduct-denied N S a r.head e)) rs)
 
 step-other : (N S T : Atoms) (rs : List Rule) (a : ℕ) → has N a ≡ false → has (step (reduct S (map (constrained_rule N) rs)) T) a ≡ has (step (reduct S rs) T) a
 step-other N S T rs a out =
@@ -249,7 +249,7 @@ stable-there N p d X stable apart =
     let q : X ≡ least_model p X = stable-least p X stable in
     let none : IsUnderived N p X = λ a e h.
     both_ways (has X a) (apart a e) (ap (λ T. has T a) q ∙ sym (derived-has p X a d.whole)
-            ∙ step-subset (reduct X rules) (least_model c X) (least_model p X) (monotone p X d.whole) (least-within N p d X) a h) in
+    ∙ step-subset (reduct X rules) (least_model c X) (least_model p X) (monotone p X d.whole) (least-within N p d X) a h) in
     and_from (same_set X (least_model c X)) (not (list_any (is_violated X) (rules_in_force c)))
     (ap (same_set X) (same-least N p d X none) ∙ parts.0)
     (ap not (ap (list_any (is_violated X)) (force-same N p d) ∙ none-violated N X rules (not-true (list_any (is_violated X) rules) parts.1) (λ a e.
@@ -269,16 +269,16 @@ stable-back N p d X stable =
     sym (list_any-map (is_violated X) (constrained_rule N) rules) ∙ sym (ap (list_any (is_violated X)) (force-same N p d)) ∙ not-true (list_any (is_violated X) (rules_in_force c)) parts.1 in
     let underived : IsUnderived N p X = λ a e h.
     both_ways (list_any (λ r. is_violated X (constrained_rule N r)) rules) none
-        (list_any-weaker (derives_at X X a) (λ r. is_violated X (constrained_rule N r)) rules
-            (each_of (λ r. derives_at X X a r ≡ true → is_violated X (constrained_rule N r) ≡ true) (λ r. violated-denied N X a r e (apart a e))
-                rules)
+    (list_any-weaker (derives_at X X a) (λ r. is_violated X (constrained_rule N r)) rules
+    (each_of (λ r. derives_at X X a r ≡ true → is_violated X (constrained_rule N r) ≡ true) (λ r. violated-denied N X a r e (apart a e))
+    rules)
     (sym (has-step X X rules a) ∙ ap (λ T. has (step (reduct X rules) T) a) q ∙ h)) in
     and_from (same_set X (least_model p X)) (not (list_any (is_violated X) rules))
     (ap (same_set X) (sym (same-least N p d X underived)) ∙ parts.0)
     (ap not (false_from_ne_true (list_any (is_violated X) rules)
-                (λ v. both_ways (list_any (λ r. is_violated X (constrained_rule N r)) rules) none
-                    (list_any-weaker (is_violated X) (λ r. is_violated X (constrained_rule N r)) rules
-                    (each_of (λ r. is_violated X r ≡ true → is_violated X (constrained_rule N r) ≡ true) (violated-stays N X) rules) v))))
+    (λ v. both_ways (list_any (λ r. is_violated X (constrained_rule N r)) rules) none
+    (list_any-weaker (is_violated X) (λ r. is_violated X (constrained_rule N r)) rules
+    (each_of (λ r. is_violated X r ≡ true → is_violated X (constrained_rule N r) ≡ true) (violated-stays N X) rules) v))))
 
 -- ---- assumptions
 barred_holds : (N X : Atoms) (l : ℤ) → IsApart N X → is_barred N l ≡ true → holds X l ≡ true

@@ -75,7 +75,7 @@ optima-left p sound =
     (each_any (λ S. not (list_any (λ T. betters (cost p T) (cost p (u S))) (map u (answers q))) ≡ not (list_any (λ T. betters (cost q T) (cost q S)) (answers q))) (λ S.
     ap not (list_any-map (λ T. betters (cost p T) (cost p (u S))) u (answers q)
     ∙ any-same (λ T. betters (cost p (u T)) (cost p (u S))) (λ T. betters (cost q T) (cost q S))
-        (λ T. ap (λ c. betters c (cost p (u S))) (cost-left p T) ∙ ap (betters (cost q T)) (cost-left p S)) (answers q))) (answers q)))
+    (λ T. ap (λ c. betters c (cost p (u S))) (cost-left p T) ∙ ap (betters (cost q T)) (cost-left p S)) (answers q))) (answers q)))
 
 -- ---- some of the answers
 pub chosen-left : (p : Program) (chosen : Atoms → Bool) → IsSound p → map (united (facts_in p)) (filter chosen (answers (left_in p))) ≡ filter (λ S. chosen (without (facts_in p) S)) (answers p)
@@ -85,8 +85,8 @@ chosen-left p chosen sound =
     sym (ap (filter (λ S. chosen (without (facts_in p) S))) (same-answers p sound)
     ∙ filter-map (λ S. chosen (without (facts_in p) S)) u (answers q)
     ∙ ap (map u) (filter-same (λ S. chosen (without (facts_in p) (u S))) chosen (answers q)
-            (each_weaker (IsOther p) (λ S. chosen (without (facts_in p) (u S)) ≡ chosen S)
-                (λ S o. ap chosen (without-united (facts_in p) S o.ascending o.apart)) (answers q) (others p sound))))
+    (each_weaker (IsOther p) (λ S. chosen (without (facts_in p) (u S)) ≡ chosen S)
+    (λ S o. ap chosen (without-united (facts_in p) S o.ascending o.apart)) (answers q) (others p sound))))
 
 pub optima-chosen : (p : Program) (chosen : Atoms → Bool) → IsSound p → map (united (facts_in p)) (filter chosen (optima (left_in p))) ≡ filter (λ S. chosen (without (facts_in p) S)) (optima p)
 optima-chosen p chosen sound =
@@ -95,8 +95,8 @@ optima-chosen p chosen sound =
     sym (ap (filter (λ S. chosen (without (facts_in p) S))) (optima-left p sound)
     ∙ filter-map (λ S. chosen (without (facts_in p) S)) u (optima q)
     ∙ ap (map u) (filter-same (λ S. chosen (without (facts_in p) (u S))) chosen (optima q)
-            (each_weaker (IsOther p) (λ S. chosen (without (facts_in p) (u S)) ≡ chosen S)
-                (λ S o. ap chosen (without-united (facts_in p) S o.ascending o.apart)) (optima q)
+    (each_weaker (IsOther p) (λ S. chosen (without (facts_in p) (u S)) ≡ chosen S)
+    (λ S o. ap chosen (without-united (facts_in p) S o.ascending o.apart)) (optima q)
     (each-filter (IsOther p) (λ S. not (list_any (λ T. betters (cost q T) (cost q S)) (answers q))) (answers q) (others p sound)))))
 
 pub optimum-left : (p : Program) (S : Atoms) (c : List ℤ) → IsSound p → IsOptimum (left_in p) S c → IsOptimum p (united (facts_in p) S) c
@@ -154,9 +154,11 @@ held-stands : (w : Reasoning) (p : Program) (S : Atoms) (K : List Atoms) (a : �
     (has (atoms_of (left_in p)) a ≡ true) × (has (atoms_of p) a ≡ true)
 held-stands w p S K a all h =
     one_passes ((has (atoms_of (left_in p)) a ≡ true) × (has (atoms_of p) a ≡ true)) (λ T. has T a) (S ∷ K)
-        (each_weaker (IsOther p) (λ T. has T a ≡ true → (has (atoms_of (left_in p)) a ≡ true) × (has (atoms_of p) a ≡ true)) (λ T o e.
-    ((stable-subset (left_in p) T o.stable).1 a e, (stable-subset p (united (facts_in p) T) o.whole).1 a
-            (has-united (facts_in p) T a ∙ or_left (has T a) (has (facts_in p) a) e))) (S ∷ K) all) (held-some w S K a h)
+    (each_weaker (IsOther p) (λ T. has T a ≡ true → (has (atoms_of (left_in p)) a ≡ true) × (has (atoms_of p) a ≡ true)) (λ T o e. (
+      (stable-subset (left_in p) T o.stable).1 a e,
+      (stable-subset p (united (facts_in p) T) o.whole).1 a
+          (has-united (facts_in p) T a ∙ or_left (has T a) (has (facts_in p) a) e),
+    )) (S ∷ K) all) (held-some w S K a h)
 
 pub same_both : (h s t : Bool) → (h ≡ true → (s ≡ true) × (t ≡ true)) → (h && t) ≡ (h && s)
 same_both true s t k = (k refl).1 ∙ sym (k refl).0
@@ -178,9 +180,9 @@ common-left w p S K all =
     let F = facts_in p in
     let q = left_in p in
     same_from_has (consequences w p (map (united F) (S ∷ K))) (united F (consequences w q (S ∷ K))) (consequences-ascend w p (map (united F) (S ∷ K)))
-        (united-ascends F (consequences w q (S ∷ K)) (consequences-ascend w q (S ∷ K))) (λ a.
+    (united-ascends F (consequences w q (S ∷ K)) (consequences-ascend w q (S ∷ K))) (λ a.
     has-consequences w p (map (united F) (S ∷ K)) a ∙ common_at w p S K a (has F a) all refl
-        ∙ ap (λ b. b || has F a) (sym (has-consequences w q (S ∷ K) a)) ∙ sym (has-united F (consequences w q (S ∷ K)) a))
+    ∙ ap (λ b. b || has F a) (sym (has-consequences w q (S ∷ K) a)) ∙ sym (has-united F (consequences w q (S ∷ K)) a))
 
 common-of : (w : Reasoning) (p : Program) (K : List Atoms) → AllByRecursion (IsOther p) K →
     consequences_of w p (map (united (facts_in p)) K) ≡ option_map (united (facts_in p)) (consequences_of w (left_in p) K)

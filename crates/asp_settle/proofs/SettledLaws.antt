@@ -104,6 +104,6 @@ pub consequences-left : (p : Program) (w : Reasoning) (chosen : Atoms → Bool) 
 consequences-left p w chosen sound =
     let c = constrained p in
     common-constrained w p (map (united (facts_of p)) (filter chosen (answers (left_of p))))
-        (subst (AllByRecursion (HasAtoms c)) (sym (results.chosen-left c chosen (sound-first p sound)))
-            (each-filter (HasAtoms c) (λ S. chosen (without (facts_of p) S)) (answers c) (answers-within c)))
+    (subst (AllByRecursion (HasAtoms c)) (sym (results.chosen-left c chosen (sound-first p sound)))
+    (each-filter (HasAtoms c) (λ S. chosen (without (facts_of p) S)) (answers c) (answers-within c)))
     ∙ results.consequences-left c w chosen (sound-first p sound)

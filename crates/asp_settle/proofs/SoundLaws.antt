@@ -59,8 +59,8 @@ sound-rule F r e =
     each-flat_map (λ x. is_sound_rule x ≡ true) (λ h. map (λ b. record { head = h; body = b }) (settled_body F r.body)) (settled_head F r.head)
     (each_weaker (λ h. is_sound_head h ≡ true) (λ h. AllByRecursion (λ x. is_sound_rule x ≡ true) (map (λ b. record { head = h; body = b }) (settled_body F r.body))) (λ h sh.
     each-map (λ x. is_sound_rule x ≡ true) (λ b. record { head = h; body = b }) (settled_body F r.body)
-        (each_weaker (λ b. is_sound_body b ≡ true) (λ b. (is_sound_head h && is_sound_body b) ≡ true)
-            (λ b sb. and_from (is_sound_head h) (is_sound_body b) sh sb) (settled_body F r.body) (sound-body F r.body parts.1)))
+    (each_weaker (λ b. is_sound_body b ≡ true) (λ b. (is_sound_head h && is_sound_body b) ≡ true)
+    (λ b sb. and_from (is_sound_head h) (is_sound_body b) sh sb) (settled_body F r.body) (sound-body F r.body parts.1)))
     (settled_head F r.head) (sound-head F r.head parts.0))
 
 sound-output : (F : Atoms) (o : Output) → is_sound_output o ≡ true → AllByRecursion (λ x. is_sound_output x ≡ true) (settled_output F o)

@@ -178,11 +178,15 @@ module _ {S : Type 0} where
       (refl, (r.each id me.0 at).seen, r.few, (λ is. absurd (not is)), (λ _. refl)),
     )
 
-    raised : (w : View) × Numbered (record { words = set s.words 0 (either (eqb found old) (old + 1) found); homes = s.homes; views =
-                set s.views id w }) × raises (step slots 0 old (old + 1) maybe.none) me found (w, me.1)
+    raised : (w : View) × Numbered (record {
+      words = set s.words 0 (either (eqb found old) (old + 1) found);
+      homes = s.homes;
+      views =
+          set s.views id w;
+    }) × raises (step slots 0 old (old + 1) maybe.none) me found (w, me.1)
     raised = exchanged found old (old + 1) (λ n. (w : View) ×
-            Numbered (record { words = set s.words 0 n; homes = s.homes; views = set s.views id w }) ×
-            raises (step slots 0 old (old + 1) maybe.none) me found (w, me.1)) raise_hit raise_miss
+        Numbered (record { words = set s.words 0 n; homes = s.homes; views = set s.views id w }) ×
+        raises (step slots 0 old (old + 1) maybe.none) me found (w, me.1)) raise_hit raise_miss
 
   pub raise_step : (slots id old : ℕ) (me : Me S View) → old < SLOT_COUNT → Allows Numbered slots id me 0 (λ n. either (eqb n old) (old + 1) n) (raises (step slots 0 old (old + 1) maybe.none) me)
   raise_step slots id old me room s r wide at small = let x = raised slots id old me room s r at in (x.0, keeps, tt, x.1, x.2)
@@ -192,7 +196,7 @@ module _ {S : Type 0} where
     one_word = r.one_word;
     few = r.few;
     each = λ j u e. ⊎_elim (each_old j u) (λ (t : fresh v ≡ u). subst (Member (get_or s.words 0 0)) t
-            (record { seen = (r.each id v at).seen; own = tt; distinct = tt })) (at_snoc (set s.views id v) (fresh v) u j e);
+        (record { seen = (r.each id v at).seen; own = tt; distinct = tt })) (at_snoc (set s.views id v) (fresh v) u j e);
     apart = λ i j x y ne ei ej. ⊎_elim
         (λ (p : get_elem? (set s.views id v) i ≡ some x). ⊎_elim
         (λ (q : get_elem? (set s.views id v) j ≡ some y). r.apart i j x y ne (old i x p) (old j y q))
@@ -229,7 +233,7 @@ module _ {S : Type 0} where
       first : Numbered none
       first = same_words s (set s.views other opened)
           (changed s r other w opened count s.homes there (omega arith) r.few (record { seen = omega arith; own = tt; distinct = tt })
-              (λ j u n e. (tt, apart_nil u.own)))
+          (λ j u n e. (tt, apart_nil u.own)))
 
       here : get_elem? none.views id ≡ some v
       here = set_else s.views other id opened (λ e. ne (sym e)) ∙ at

@@ -83,8 +83,8 @@ goes_on front n k i known line a after total lt h so_far =
     let fewer : (k - i) - 1 ≡ k - (i + 1) = omega arith in
     let sign : nat_lt 0 (k - i) ≡ nat_lt i k = grind (arith, nat_tests) in
     let first : signed_at (n - i) (k - i) known line ≡ before (literal_of (nat_lt i k) a)
-        (signed_at (n - (i + 1)) (k - (i + 1)) (with_atom a known) after) =
-        rw (more, ← sign, ← fewer) (first_of_more (n - (i + 1)) (k - i) known line a after h) in
+    (signed_at (n - (i + 1)) (k - (i + 1)) (with_atom a known) after) =
+    rw (more, ← sign, ← fewer) (first_of_more (n - (i + 1)) (k - i) known line a after h) in
     sym (ap (with_front front) first ∙ regroup front (literal_of (nat_lt i k) a) (signed_at (n - (i + 1)) (k - (i + 1)) (with_atom a known) after)) ∙ so_far
 
 pub ends : (e : LineError) (front : List ℤ) (n k i : ℕ) (known : Atoms) (line : List ℕ) (total : Reads (List ℤ)) → i < n → Fails e (atom_at known line)

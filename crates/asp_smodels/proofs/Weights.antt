@@ -19,7 +19,7 @@ pub goes_on : (front : List (ℤ × ℤ)) (ls : List ℤ) (i : ℕ) (d : ℤ) (l
 unfolding weights_at
 goes_on front ls i d line w after total lt h so_far =
     let step : with_front front (weights_at (drop i ls) line) ≡ with_front (front ++ (get_or ls i d, w) ∷ []) (weights_at (drop (i + 1) ls) after) =
-        rw (drop_more ls i d lt, h) (regroup front (get_or ls i d, w) (weights_at (drop (i + 1) ls) after)) in
+    rw (drop_more ls i d lt, h) (regroup front (get_or ls i d, w) (weights_at (drop (i + 1) ls) after)) in
     sym step ∙ so_far
 
 pub ends : (e : LineError) (front : List (ℤ × ℤ)) (ls : List ℤ) (i : ℕ) (d : ℤ) (line : List ℕ) (total : Reads (List (ℤ × ℤ))) → i < length ls → Fails e (weight_at line)

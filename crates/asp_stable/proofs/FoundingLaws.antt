@@ -52,8 +52,8 @@ in_heads p b a stands e =
     let heads : List ℕ = flat_map f (rules_in_force p) in
     let found = in_map (λ c. has heads c ≡ true) (var_of_atom p) heads (var_of_atom p a) (members heads) e in
     let rule = some (λ r. Among (rules_in_force p) r × HasAll (atoms_of p) (head_atoms r.head)) (λ r. has (f r) found.0) (rules_in_force p)
-        (both (rules_in_force p) (each_among (rules_in_force p)) (rules_in_force-heads p))
-        (sym (list_any-flat_map (λ c. eqb c found.0) f (rules_in_force p)) ∙ found.1) in
+    (both (rules_in_force p) (each_among (rules_in_force p)) (rules_in_force-heads p))
+    (sym (list_any-flat_map (λ c. eqb c found.0) f (rules_in_force p)) ∙ found.1) in
     let parts = split rule.0 found.0 (body_eq (normal rule.0.body) b) refl rule.2 in
     let same : found.0 ≡ a = same_atom p found.0 a (member (atoms_of p) (head_atoms rule.0.head) found.0 rule.1.1 parts.1) stands found.2 in
     (rule.0, rule.1.0, (equal_body (normal rule.0.body) b parts.0, subst (λ (c : ℕ). has (head_atoms rule.0.head) c ≡ true) same parts.1))
@@ -137,8 +137,8 @@ all_derived p a flat marks loops size loopless listed derived marked_ S kept giv
         let small = atom_var p c stands in let above = small.0 in let below = small.1 in
         derived S kept gives c stands inside
         (listed_holds (λ v. holds_in a (T v) ≡ true → is_marked marks v ≡ true) loops (var_of_atom p c)
-                (listed (var_of_atom p c) above (omega (arith, below, size)) (sym q)) marked_
-                (gives (T (var_of_atom p c)) small ∙ atom-true p S c stands ∙ inside))
+        (listed (var_of_atom p c) above (omega (arith, below, size)) (sym q)) marked_
+        (gives (T (var_of_atom p c)) small ∙ atom-true p S c stands ∙ inside))
 
 -- with no loops
 pub empty_derived : (p : Program) (a : List (Option Bool)) (flat : List Bool) (loops slice : List ℕ) → length flat ≡ suc (length (atoms_of p)) →
@@ -215,8 +215,8 @@ ranked p ranks sound are S kept (suc n) c low positive stands inside =
     let between : body_holds_between S (least_model p S) (nth_body p j) ≡ true =
     passes_between p S (least_model p S) (is_true (values p S)) (nth_body p j) (nth_weighted p j sound lt)
     (each_literal p (λ l. is_true (values p S) (literal_of p l) ≡ true → holds_between S (least_model p S) l ≡ true)
-            (Below (get_or ranks (var_of_atom p c) 0)) (nth_body p j) (body_stands p j lt) (are j lt (var_of_atom p c) heads positive)
-            (literal (λ b small r s e. ranked p ranks sound are S kept n b small r s e)))
+    (Below (get_or ranks (var_of_atom p c) 0)) (nth_body p j) (body_stands p j lt) (are j lt (var_of_atom p c) heads positive)
+    (literal (λ b small r s e. ranked p ranks sound are S kept n b small r s e)))
     (values_pass p S (nth_body p j) (body_stands p j lt) ∙ held) in
     founded_by p S s.rule c sound s.among s.head inside (sym (body_holds_between-normal S (least_model p S) s.rule.body) ∙ ap (body_holds_between S (least_model p S)) (sym at) ∙ between)
   where
@@ -224,7 +224,7 @@ ranked p ranks sound are S kept (suc n) c low positive stands inside =
     Below top l = l.truth ≡ true → (0 < get_or ranks l.var 0) × (get_or ranks l.var 0 < top)
 
     literal : ((b : ℕ) → get_or ranks (var_of_atom p b) 0 < n → 0 < get_or ranks (var_of_atom p b) 0 → has (atoms_of p) b ≡ true → has S b ≡ true →
-            has (least_model p S) b ≡ true) → (l : ℤ) → has (atoms_of p) (atom_of l) ≡ true →
+        has (least_model p S) b ≡ true) → (l : ℤ) → has (atoms_of p) (atom_of l) ≡ true →
         Below (get_or ranks (var_of_atom p c) 0) (literal_of p l) → is_true (values p S) (literal_of p l) ≡ true →
         holds_between S (least_model p S) l ≡ true
     literal f (pos b) s below e =
@@ -254,8 +254,8 @@ heads_above p ranks heads lits j top is are up above v in_ positive =
     let h = listed_holds (λ v. 0 < get_or ranks v 0 → top < get_or ranks v 0) heads v (ap (λ hs. has hs v) is ∙ in_) above positive in
     subst (λ (ls : List Literal). All (λ l. l.truth ≡ true → (0 < get_or ranks l.var 0) × (get_or ranks l.var 0 < get_or ranks v 0)) ls) are
     (All-weaker (λ (l : Literal). l.truth ≡ true → (0 < get_or ranks l.var 0) × (get_or ranks l.var 0 ≤ top))
-            (λ l. l.truth ≡ true → (0 < get_or ranks l.var 0) × (get_or ranks l.var 0 < get_or ranks v 0))
-            (λ l k t. let small = k t in let b = small.1 in (small.0, omega (arith, b, h))) lits up)
+    (λ l. l.truth ≡ true → (0 < get_or ranks l.var 0) × (get_or ranks l.var 0 < get_or ranks v 0))
+    (λ l k t. let small = k t in let b = small.1 in (small.0, omega (arith, b, h))) lits up)
 
 pub heads_without : (p : Program) (ranks : List ℕ) (heads : List ℕ) (j : ℕ) → heads ≡ heads_of p (nth_body p j) → All (λ v. get_or ranks v 0 ≡ 0) heads → IsRanked p ranks j
 heads_without p ranks heads j is none v in_ positive =
@@ -268,8 +268,8 @@ pub up_more : (ranks : List ℕ) (lits : List Literal) (l : Literal) (i top new 
 up_more ranks lits l i top new lt is up more this =
     All-more (λ l. l.truth ≡ true → (0 < get_or ranks l.var 0) × (get_or ranks l.var 0 ≤ new)) lits i l lt
     (All-weaker (λ (l : Literal). l.truth ≡ true → (0 < get_or ranks l.var 0) × (get_or ranks l.var 0 ≤ top))
-            (λ l. l.truth ≡ true → (0 < get_or ranks l.var 0) × (get_or ranks l.var 0 ≤ new))
-            (λ l k t. let small = k t in let b = small.1 in (small.0, omega (arith, b, more))) (take i lits) up)
+    (λ l. l.truth ≡ true → (0 < get_or ranks l.var 0) × (get_or ranks l.var 0 ≤ new))
+    (λ l k t. let small = k t in let b = small.1 in (small.0, omega (arith, b, more))) (take i lits) up)
     (subst (λ (k : Literal). k.truth ≡ true → (0 < get_or ranks k.var 0) × (get_or ranks k.var 0 ≤ new)) is this)
 
 -- one more atom is listed

@@ -53,7 +53,7 @@ nothing_more (x ∷ xs) = ap (λ ys. x ∷ ys) (nothing_more xs)
 cell_of-same : (cells : List Occurrence) (body k : ℕ) (row : List ℕ) → ends_in cells body ≡ false → with_last (cells ++ cell_of body k row) body (length row) ≡ cells ++ cell_of body k (row ++ k ∷ [])
 cell_of-same cells body k row new =
     cases (has_key row k) refl ∙ sym (ap (λ t. cells ++ cond t (cell (place_of (λ x. eqb x k) (row ++ k ∷ [])) ∷ []) [])
-            (list_any-append (λ x. eqb x k) row (k ∷ []) ∙ ap (λ t. has_key row k || (t || false)) (eq-eqb k k refl)))
+    (list_any-append (λ x. eqb x k) row (k ∷ []) ∙ ap (λ t. has_key row k || (t || false)) (eq-eqb k k refl)))
   where
     cell : ℕ → Occurrence
     cell n = record { body = body; place = n }

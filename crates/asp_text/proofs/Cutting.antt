@@ -31,14 +31,14 @@ cut_none (x ∷ xs) le = (elim (is_lf x) as (λ v. suc (length xs) ≤ cond (not
 pub cut_some : (xs : List ℕ) → position_or_len is_lf xs < length xs → cut xs ≡ Some (take (position_or_len is_lf xs) xs, drop (position_or_len is_lf xs + 1) xs)
 cut_some [] lt = absurd (omega arith)
 cut_some (x ∷ xs) lt = (elim (is_lf x) as (λ v. cond (not v) (1 + at xs) 0 < suc (length xs) →
-            (if v then Some ([], xs) else option_map (onto_cut x) (cut xs)) ≡ Some
-            (take (cond (not v) (1 + at xs) 0) (x ∷ xs), drop (cond (not v) (1 + at xs) 0 + 1) (x ∷ xs))) [
-  | true ↦ λ h. refl
-  | false ↦ λ h.
-      let e : 1 + at xs ≡ suc (at xs) = omega arith in
-      let f : suc (at xs) + 1 ≡ suc (at xs + 1) = omega arith in
-      rw (e, f) (ap (option_map (onto_cut x)) (cut_some xs (omega arith)))
-]) lt
+    (if v then Some ([], xs) else option_map (onto_cut x) (cut xs)) ≡ Some
+    (take (cond (not v) (1 + at xs) 0) (x ∷ xs), drop (cond (not v) (1 + at xs) 0 + 1) (x ∷ xs))) [
+      | true ↦ λ h. refl
+      | false ↦ λ h.
+          let e : 1 + at xs ≡ suc (at xs) = omega arith in
+          let f : suc (at xs) + 1 ≡ suc (at xs + 1) = omega arith in
+          rw (e, f) (ap (option_map (onto_cut x)) (cut_some xs (omega arith)))
+    ]) lt
 
 pub from : (xs : List ℕ) (n : ℕ) → n ≤ position_or_len is_lf xs → position_or_len is_lf xs ≡ n + position_or_len is_lf (drop n xs)
 from xs zero le = sym (zero-add (at xs))
@@ -133,11 +133,11 @@ count_first x xs = omega (arith, sum_by-append (λ (y : ℕ). cond (is_lf y) 1 0
 no_lf : (xs : List ℕ) → cut xs ≡ None → (list_any is_lf xs ≡ false) × (count_by is_lf xs ≡ 0)
 no_lf [] e = (refl, refl)
 no_lf (x ∷ xs) e = rw count_first ((elim (is_lf x) as
-            (λ v. (if v then Some ([], xs) else option_map (onto_cut x) (cut xs)) ≡ None → ((v || list_any is_lf xs) ≡ false) ×
-                (cond v 1 0 + count_by is_lf xs ≡ 0)) [
-  | true ↦ λ h. absurd cc
-  | false ↦ λ h. let n = no_lf xs (from_none x (cut xs) h) in (n.0, omega (arith, n.1))
-]) e)
+    (λ v. (if v then Some ([], xs) else option_map (onto_cut x) (cut xs)) ≡ None → ((v || list_any is_lf xs) ≡ false) ×
+    (cond v 1 0 + count_by is_lf xs ≡ 0)) [
+      | true ↦ λ h. absurd cc
+      | false ↦ λ h. let n = no_lf xs (from_none x (cut xs) h) in (n.0, omega (arith, n.1))
+    ]) e)
 
 -- where no line feed is left
 pub tail_none : (xs : List ℕ) → cut xs ≡ None → (tail xs ≡ xs) × (count_by is_lf xs ≡ 0)
@@ -158,7 +158,7 @@ pub tail_some : (xs : List ℕ) (x : List ℕ × List ℕ) → cut xs ≡ some x
 tail_some [] x e = absurd cc
 tail_some (b ∷ bs) x e =
     let p = (elim (is_lf b) as (λ v. (if v then Some ([], bs) else option_map (onto_cut b) (cut bs)) ≡ some x →
-                PassesAt (v || list_any is_lf bs) (b ∷ bs) (tail bs) (cond v 1 0 + count_by is_lf bs) (suc (length bs)) x.1) [
+    PassesAt (v || list_any is_lf bs) (b ∷ bs) (tail bs) (cond v 1 0 + count_by is_lf bs) (suc (length bs)) x.1) [
       | true ↦ λ h.
           let q : some ([], bs) ≡ some x = h in
           let p : bs ≡ x.1 = ap (λ (z : List ℕ × List ℕ). z.1) (some_is ([], bs) x q) in
@@ -173,10 +173,10 @@ tail_some (b ∷ bs) x e =
 -- a line that was taken
 pub passed : (text line : List ℕ) → Some line ≡ first_line text → Passes text (after_line text)
 passed text line e = (elim (cut text) as (λ o. cut text ≡ o → Some line ≡ option_map (λ (x : List ℕ × List ℕ). without_cr x.0) o →
-            Passes text (unwrap_or (option_map (λ (x : List ℕ × List ℕ). x.1) o) text)) [
-  | None ↦ λ o h. absurd cc
-  | Some x ↦ λ o h. tail_some text x o
-]) refl e
+    Passes text (unwrap_or (option_map (λ (x : List ℕ × List ℕ). x.1) o) text)) [
+      | None ↦ λ o h. absurd cc
+      | Some x ↦ λ o h. tail_some text x o
+    ]) refl e
 
 pub none_passed : (text : List ℕ) → None ≡ first_line text → (cut text ≡ None) × (after_line text ≡ text)
 none_passed text e = (elim (cut text) as (λ o. None ≡ option_map (λ (x : List ℕ × List ℕ). without_cr x.0) o → (o ≡ None) × (unwrap_or (option_map (λ (x : List ℕ × List ℕ). x.1) o) text ≡ text)) [

@@ -43,8 +43,8 @@ same-literal rules x l out = by (unfolded-is rules l)
     by (inr one) =
         let first = in-one rules (atom_of l) one.0 (atom_of l) one.1 (or_left (eqb (atom_of l) (atom_of l)) _ (eq-eqb (atom_of l) (atom_of l) refl)) in
         let second = in-one rules (atom_of l) one.0 (atom_of one.0) one.1
-            (or_right (eqb (atom_of l) (atom_of one.0)) _
-                (or_left (eqb (atom_of one.0) (atom_of one.0)) false (eq-eqb (atom_of one.0) (atom_of one.0) refl))) in
+        (or_right (eqb (atom_of l) (atom_of one.0)) _
+        (or_left (eqb (atom_of one.0) (atom_of one.0)) false (eq-eqb (atom_of one.0) (atom_of one.0) refl))) in
         ap (λ (n : ℕ). eqb n x) one.2 ∙ (aside rules (atom_of one.0) x second out ∙ sym (aside rules (atom_of l) x first out))
 
 abbrev item_atoms : Minimize → List ℕ
@@ -87,4 +87,4 @@ same-mentions p x =
 pub same-atoms : (p : Program) → atoms_of (unfolded p) ≡ atoms_of p
 same-atoms p =
     same_from_has (atoms_of (unfolded p)) (atoms_of p) (IsAscending-set_of (mentions (unfolded p))) (IsAscending-set_of (mentions p))
-        (λ x. has-set_of (mentions (unfolded p)) x ∙ (same-mentions p x ∙ sym (has-set_of (mentions p) x)))
+    (λ x. has-set_of (mentions (unfolded p)) x ∙ (same-mentions p x ∙ sym (has-set_of (mentions p) x)))

@@ -63,8 +63,8 @@ pub same-cost : (p : Program) (S : Atoms) → IsSound p → is_stable p S ≡ tr
 same-cost p S sound stable =
     ap (λ (qs : List ℤ). map (cost_at S (map (unfolded_minimize p.rules) p.minimize)) qs) (same-priorities p.rules [] p.minimize)
     ∙ same_map (cost_at S (map (unfolded_minimize p.rules) p.minimize)) (cost_at S p.minimize) (priorities p.minimize)
-        (each_of (λ q. cost_at S (map (unfolded_minimize p.rules) p.minimize) q ≡ cost_at S p.minimize q)
-            (λ q. same-sum p S p.minimize q sound stable) (priorities p.minimize))
+    (each_of (λ q. cost_at S (map (unfolded_minimize p.rules) p.minimize) q ≡ cost_at S p.minimize q)
+    (λ q. same-sum p S p.minimize q sound stable) (priorities p.minimize))
 
 -- ---- optima
 each-contained : (P : Atoms → Type 0) (Ss : List Atoms) → ((S : Atoms) → Contains Ss S → P S) → AllByRecursion P Ss
@@ -77,7 +77,7 @@ answers-cost p sound = each-contained (λ S. cost (unfolded p) S ≡ cost p S) (
 bettered : (p : Program) (c : List ℤ) → IsSound p → list_any (λ T. betters (cost (unfolded p) T) c) (answers p) ≡ list_any (λ T. betters (cost p T) c) (answers p)
 bettered p c sound = same_any (λ T. betters (cost (unfolded p) T) c) (λ T. betters (cost p T) c) (answers p)
     (each_weaker (λ T. cost (unfolded p) T ≡ cost p T) (λ T. betters (cost (unfolded p) T) c ≡ betters (cost p T) c)
-        (λ T e. ap (λ (d : List ℤ). betters d c) e) (answers p) (answers-cost p sound))
+    (λ T e. ap (λ (d : List ℤ). betters d c) e) (answers p) (answers-cost p sound))
 
 pub same-optima : (p : Program) → IsSound p → optima (unfolded p) ≡ optima p
 same-optima p sound =

@@ -74,7 +74,7 @@ blamed-has : (p : Program) (reasons : List Reason) (literals : List ℤ) (l : Li
     has_literal (map (literal_of p) literals) l ≡ true → has_literal (map (literal_of p) (blamed_by p reasons literals)) l ≡ true
 blamed-has p reasons (x ∷ literals) l h e =
     (elim (is_blamed reasons (literal_of p x)) as (λ b. is_blamed reasons (literal_of p x) ≡ b →
-                has_literal (map (literal_of p) (if b then x ∷ blamed_by p reasons literals else blamed_by p reasons literals)) l ≡ true) [
+    has_literal (map (literal_of p) (if b then x ∷ blamed_by p reasons literals else blamed_by p reasons literals)) l ≡ true) [
       | true ↦ λ q. either_has _ (literal_eq (literal_of p x) l) (has_literal (map (literal_of p) literals) l) e
           (λ same. or_left (literal_eq (literal_of p x) l) _ same)
           (λ k. or_right (literal_eq (literal_of p x) l) _ (blamed-has p reasons literals l h k))
@@ -148,8 +148,8 @@ module _ (b : Board) (is : IsBoard b) (nothing : HasNothing b) (stand : AllByRec
   core-hit : (S : Atoms) → all_hold S (blamed b) ≡ true → (l : Literal) → has_literal rooted l ≡ true → is_blamed b.reasons l ≡ true → is_true (values p S) l ≡ true
   core-hit S holds l root blame =
       let hit : hits (values p S) (map (literal_of p) (blamed b)) ≡ true =
-          hits-literals p S (blamed b) (all-filter (λ l. has (atoms_of p) (atom_of l) ≡ true) (λ l. is_blamed b.reasons (literal_of p l))
-              (wanted b.task) stand) ∙ holds in
+      hits-literals p S (blamed b) (all-filter (λ l. has (atoms_of p) (atom_of l) ≡ true) (λ l. is_blamed b.reasons (literal_of p l))
+      (wanted b.task) stand) ∙ holds in
       hits-has (values p S) (map (literal_of p) (blamed b)) l hit (blamed-has p b.reasons (wanted b.task) l blame root)
 
   -- a stable model that has the core is excused

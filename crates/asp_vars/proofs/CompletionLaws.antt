@@ -296,13 +296,13 @@ unhit-read p S e b listed = by_form b listed (form-stands p b listed)
     mine c =
         one_passes (Unhit v (body_nogoods p c)) (body_eq c) (bodies_of p)
         (each_weaker (λ d. Unhit v (body_nogoods p d)) (λ d. body_eq c d ≡ true → Unhit v (body_nogoods p c))
-                (λ d u same. subst (λ (x : Body). Unhit v (body_nogoods p x)) (sym (same_body c d same)) u) (bodies_of p) (all_unhit p v e).0)
+        (λ d u same. subst (λ (x : Body). Unhit v (body_nogoods p x)) (sym (same_body c d same)) u) (bodies_of p) (all_unhit p v e).0)
 
     wide : (ls : List ℤ) → is_wide (body.All ls) ≡ true → list_any (body_eq (body.All ls)) (bodies_of p) ≡ true → Stands (atoms_of p) (body.All ls) →
         is_true v (literal_of_form p (body.All ls)) ≡ all_hold S ls
     wide ls w h s =
         normal_literal p v S ls w (each_weaker (λ l. has (atoms_of p) (atom_of l) ≡ true) (λ l. is_true v (literal_of p l) ≡ holds S l)
-                (literal-holds p S) ls s) (all_unhit p v e).1 (mine (body.All ls) h)
+        (literal-holds p S) ls s) (all_unhit p v e).1 (mine (body.All ls) h)
 
     by_form : (c : Body) → list_any (body_eq c) (bodies_of p) ≡ true → Stands (atoms_of p) c → is_true v (literal_of_form p c) ≡ body_holds S c
     by_form (body.All []) h s = wide [] refl h s
@@ -329,8 +329,8 @@ body_true : (p : Program) (ls : List ℤ) → IsSound p → list_any (body_eq (b
     AllByRecursion (λ l. has (atoms_of p) (atom_of l) ≡ true) ls → Entailed p (complement (literal_of_form p (body.All ls)) ∷ map (literal_of p) ls)
 body_true p ls sound stands atoms = never p _
     (λ S stable h. not_both (all_hold S ls) (sym
-            (ap (λ b. b && hits (values p S) (map (literal_of p) ls)) (form-false p S (stable-read p S sound stable) (body.All ls) stands)
-                ∙ ap (λ b. not (all_hold S ls) && b) (hits-literals p S ls atoms)) ∙ h))
+    (ap (λ b. b && hits (values p S) (map (literal_of p) ls)) (form-false p S (stable-read p S sound stable) (body.All ls) stands)
+    ∙ ap (λ b. not (all_hold S ls) && b) (hits-literals p S ls atoms)) ∙ h))
 
 pub members_hold : (ls : List ℤ) → AllByRecursion (λ l. (S : Atoms) → all_hold S ls ≡ true → holds S l ≡ true) ls
 members_hold [] = tt
@@ -415,15 +415,15 @@ bodies_fail p S read q (b ∷ bs) stand h = cases (q b) refl (bodies_fail p S re
 
     cases : (t : Bool) → t ≡ q b →
         (hits (values p S) (map (λ c. complement (literal_of_form p c)) (filter q bs)) ≡ true →
-            AllByRecursion (λ c. q c ≡ true → body_holds S c ≡ false) bs) → (q b ≡ true → body_holds S b ≡ false) ×
+        AllByRecursion (λ c. q c ≡ true → body_holds S c ≡ false) bs) → (q b ≡ true → body_holds S b ≡ false) ×
         AllByRecursion (λ c. q c ≡ true → body_holds S c ≡ false) bs
     cases true e f =
         let whole : (is_true (values p S) (complement (literal_of_form p b))
-                && hits (values p S) (map (λ c. complement (literal_of_form p c)) (filter q bs))) ≡ true =
-            ap (λ t. hits (values p S) (map (λ c. complement (literal_of_form p c)) (cond t (b ∷ filter q bs) (filter q bs)))) e ∙ h in (
+        && hits (values p S) (map (λ c. complement (literal_of_form p c)) (filter q bs))) ≡ true =
+        ap (λ t. hits (values p S) (map (λ c. complement (literal_of_form p c)) (cond t (b ∷ filter q bs) (filter q bs)))) e ∙ h in (
           λ _. not_true (body_holds S b) (sym (form-false p S read b stand.0)
-                  ∙ and_left (is_true (values p S) (complement (literal_of_form p b)))
-                  (hits (values p S) (map (λ c. complement (literal_of_form p c)) (filter q bs))) whole),
+              ∙ and_left (is_true (values p S) (complement (literal_of_form p b)))
+              (hits (values p S) (map (λ c. complement (literal_of_form p c)) (filter q bs))) whole),
           f (and_right (is_true (values p S) (complement (literal_of_form p b))) (hits (values p S) (map (λ c. complement (literal_of_form p c)) (filter q bs))) whole),
         )
     cases false e f = (
@@ -441,15 +441,15 @@ atom_entailed p a sound stands = never p _ (λ S stable h. broken S stable h)
         let others : List Literal = map (λ c. complement (literal_of_form p c)) (support_bodies p a) in
         let in_set : has S a ≡ true = sym (atom-true p S a stands) ∙ and_left (is_true (values p S) atom) (hits (values p S) others) h in
         let all_fail : AllByRecursion (λ b. test b ≡ true → body_holds S b ≡ false) (bodies_of p) =
-            bodies_fail p S (stable-read p S sound stable) test (bodies_of p) (bodies_of-themselves p)
-            (and_right (is_true (values p S) atom) (hits (values p S) others) h) in
+        bodies_fail p S (stable-read p S sound stable) test (bodies_of p) (bodies_of-themselves p)
+        (and_right (is_true (values p S) atom) (hits (values p S) others) h) in
         let derived : list_any (λ r. has (derived_heads S S r) a) (rules_in_force p) ≡ true = sym (stable-derived p S a sound stable) ∙ in_set in
         one_passes ⊥ (λ r. has (derived_heads S S r) a) (rules_in_force p)
         (each_weaker (Among (rules_in_force p)) (λ r. has (derived_heads S S r) a ≡ true → ⊥) (λ r m e.
         let parts = derived-parts S r a e in
         let tested : test (normal r.body) ≡ true =
-            m (λ s. has (head_atoms s.head) a && body_eq (normal s.body) (normal r.body))
-            (and_from (has (head_atoms r.head) a) (body_eq (normal r.body) (normal r.body)) parts.1 (body_eq-itself (normal r.body))) in
+        m (λ s. has (head_atoms s.head) a && body_eq (normal s.body) (normal r.body))
+        (and_from (has (head_atoms r.head) a) (body_eq (normal r.body) (normal r.body)) parts.1 (body_eq-itself (normal r.body))) in
         let fails : body_holds S (normal r.body) ≡ false = one_passes (body_holds S (normal r.body) ≡ false) (body_eq (normal r.body)) (bodies_of p)
         (each_weaker (λ b. test b ≡ true → body_holds S b ≡ false) (λ b. body_eq (normal r.body) b ≡ true → body_holds S (normal r.body) ≡ false) (λ b f same.
         let eq : normal r.body ≡ b = same_body (normal r.body) b same in
@@ -468,10 +468,10 @@ completion_entailed p sound =
     (each_both (λ b. list_any (body_eq b) (bodies_of p) ≡ true) (Stands (atoms_of p)) (bodies_of p) (bodies_of-themselves p) (bodies_of-stand p))))
     (each-flat_map (Entailed p) (λ (r : Rule). rule_nogoods p (literal_of_body p r.body) r.head) (rules_in_force p)
     (each_weaker (λ r. Among (rules_in_force p) r × HasAll (atoms_of p) (head_atoms r.head))
-            (λ r. AllByRecursion (Entailed p) (rule_nogoods p (literal_of_body p r.body) r.head)) (λ r h. rule_entailed p r r.head sound h.0 refl h.1)
-            (rules_in_force p)
+    (λ r. AllByRecursion (Entailed p) (rule_nogoods p (literal_of_body p r.body) r.head)) (λ r h. rule_entailed p r r.head sound h.0 refl h.1)
+    (rules_in_force p)
     (each_both (Among (rules_in_force p)) (λ r. HasAll (atoms_of p) (head_atoms r.head)) (rules_in_force p) (each_among (rules_in_force p)) (rules_in_force-heads p)))))
     (each-flat_map (Entailed p) (atom_nogoods p) (atoms_of p)
     (each_weaker (λ a. has (atoms_of p) a ≡ true) (λ a. AllByRecursion (Entailed p) (atom_nogoods p a))
-            (λ a h. each_unless (Entailed p) (has_literal (atom_nogood p a) (F (var_of_atom p a))) (atom_nogood p a) (atom_entailed p a sound h))
-            (atoms_of p) (HasAll-itself (atoms_of p))))
+    (λ a h. each_unless (Entailed p) (has_literal (atom_nogood p a) (F (var_of_atom p a))) (atom_nogood p a) (atom_entailed p a sound h))
+    (atoms_of p) (HasAll-itself (atoms_of p))))

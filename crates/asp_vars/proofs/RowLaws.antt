@@ -61,7 +61,7 @@ head_vars p b =
     (each-flat_map (λ a. IsAtomVar p (var_of_atom p a)) heads (rules_in_force p)
     (each_weaker (λ (r : Rule). AllByRecursion (λ a. has (atoms_of p) a ≡ true) (head_atoms r.head)) (λ r. AllByRecursion (λ a. IsAtomVar p (var_of_atom p a)) (heads r)) (λ r h.
     cases r (body_eq (normal r.body) b) (each_weaker (λ a. has (atoms_of p) a ≡ true) (λ a. IsAtomVar p (var_of_atom p a)) (atom_var p)
-            (head_atoms r.head) h)) (rules_in_force p) (rules_in_force-heads p)))
+    (head_atoms r.head) h)) (rules_in_force p) (rules_in_force-heads p)))
   where
     cases : (r : Rule) (t : Bool) → AllByRecursion (λ a. IsAtomVar p (var_of_atom p a)) (head_atoms r.head) → AllByRecursion (λ a. IsAtomVar p (var_of_atom p a)) (cond t (head_atoms r.head) [])
     cases r true h = h

@@ -169,7 +169,7 @@ rules_in_force-bodies p =
     (of_rules (body_atoms r.body) (back-append (λ a. has A a ≡ true) (head_atoms r.head) (body_atoms r.body) h))) p.rules (HasAll-flat_map heads_and_bodies p.rules))
     (each-flat_map (λ (r : Rule). HasAll (atoms_of p) (body_atoms r.body)) (λ a. external_rule a (last_value p.externals a)) (open_atoms p)
     (each_of (λ a. AllByRecursion (λ (r : Rule). HasAll (atoms_of p) (body_atoms r.body)) (external_rule a (last_value p.externals a)))
-            (λ a. external_bodies (atoms_of p) a (last_value p.externals a)) (open_atoms p)))
+    (λ a. external_bodies (atoms_of p) a (last_value p.externals a)) (open_atoms p)))
 
 -- the atoms of each of them
 pub bodies_of-stand : (p : Program) → AllByRecursion (Stands (atoms_of p)) (bodies_of p)
@@ -186,7 +186,7 @@ pub form-stands : (p : Program) (b : Body) → list_any (body_eq b) (bodies_of p
 form-stands p b =
     one_passes (Stands (atoms_of p) b) (body_eq b) (bodies_of p)
     (each_weaker (Stands (atoms_of p)) (λ c. body_eq b c ≡ true → Stands (atoms_of p) b)
-            (λ c s same. subst (λ (x : Body). Stands (atoms_of p) x) (sym (same_body b c same)) s) (bodies_of p) (bodies_of-stand p))
+    (λ c s same. subst (λ (x : Body). Stands (atoms_of p) x) (sym (same_body b c same)) s) (bodies_of p) (bodies_of-stand p))
 
 pub bodies_of-themselves : (p : Program) → AllByRecursion (λ b. list_any (body_eq b) (bodies_of p) ≡ true) (bodies_of p)
 bodies_of-themselves p =

@@ -91,7 +91,7 @@ form_in p q b (c ∷ bs) e t = elim (either (body_eq b c) (list_any (body_eq b) 
       let same : b ≡ c = same_body b c h in
       let passes : q c ≡ true = ap q (sym same) ∙ t in
       rw passes (or_left (eqb (number_of_form p c) (number_of_form p b)) (has (map (number_of_form p) (filter q bs)) (number_of_form p b))
-              (eq-eqb (number_of_form p c) (number_of_form p b) (ap (number_of_form p) (sym same))))
+      (eq-eqb (number_of_form p c) (number_of_form p b) (ap (number_of_form p) (sym same))))
   | inr h ↦ later (q c) (form_in p q b bs h t)
 ]
   where
@@ -101,7 +101,7 @@ form_in p q b (c ∷ bs) e t = elim (either (body_eq b c) (list_any (body_eq b) 
 
 pub in_forms : (p : Program) (a v : ℕ) → has (supports p a) v ≡ true → (b : Body) ×
     (((list_any (body_eq b) (bodies_of p) ≡ true) × Stands (atoms_of p) b) ×
-        (list_any (λ (r : Rule). has (head_atoms r.head) a && body_eq (normal r.body) b) (rules_in_force p) ≡ true)) × (number_of_form p b ≡ v)
+    (list_any (λ (r : Rule). has (head_atoms r.head) a && body_eq (normal r.body) b) (rules_in_force p) ≡ true)) × (number_of_form p b ≡ v)
 in_forms p a v e =
     let test : Body → Bool = λ c. list_any (λ (r : Rule). has (head_atoms r.head) a && body_eq (normal r.body) c) (rules_in_force p) in
     in_map (λ b. ((list_any (body_eq b) (bodies_of p) ≡ true) × Stands (atoms_of p) b) × (test b ≡ true)) (number_of_form p) (filter test (bodies_of p)) v
@@ -141,7 +141,7 @@ of_supports {X = X} p f a =
     alike (filter test (bodies_of p)) (each-filter (λ b. list_any (body_eq b) (bodies_of p) ≡ true) test (bodies_of p) (bodies_of-themselves p))
   where
     alike : (bs : List Body) → AllByRecursion (λ b. (list_any (body_eq b) (bodies_of p) ≡ true) ×
-            (list_any (λ (r : Rule). has (head_atoms r.head) a && body_eq (normal r.body) b) (rules_in_force p) ≡ true)) bs →
+        (list_any (λ (r : Rule). has (head_atoms r.head) a && body_eq (normal r.body) b) (rules_in_force p) ≡ true)) bs →
         map (λ n. f (form_at p n)) (map (number_of_form p) bs) ≡ map f bs
     alike [] h = refl
     alike (b ∷ bs) h =

@@ -94,8 +94,8 @@ and_turn false false = refl
 pub passed-listed : (b : Board) (floor : Option Atoms) → IsBoard b → sought b.task.goal ≡ None → IsFloor b floor → passed b floor ≡ filter (is_below floor) (listed b.task)
 passed-listed b floor is none low =
     rise-same (passed b floor) (filter (is_below floor) (listed b.task))
-        (rise-filter (is_below floor) (sorted_once b.answers) (sorted-rise [] b.answers tt))
-        (rise-filter (is_below floor) (listed b.task) (listed-rise b.task))
+    (rise-filter (is_below floor) (sorted_once b.answers) (sorted-rise [] b.answers tt))
+    (rise-filter (is_below floor) (listed b.task) (listed-rise b.task))
     (λ S.
     has-filter (is_below floor) (sorted_once b.answers) S
     ∙ ap (λ x. is_below floor S && x) (sorted-has [] b.answers S)
@@ -123,8 +123,8 @@ IsLow-happens b e was leaf low g hit is =
       rising = is.rising;
       contained = λ S answer h fresh.
           is.contained S (ap (λ (t : Task). is_answer t S) (sym same) ∙ answer)
-              (hit (values b.task.program S) (ap (λ (t : Task). hits (values t.program S) (cube_of (happens b e).nodes leaf)) (sym same) ∙ h))
-              (not-excused b e S g fresh);
+          (hit (values b.task.program S) (ap (λ (t : Task). hits (values t.program S) (cube_of (happens b e).nodes leaf)) (sym same) ∙ h))
+          (not-excused b e S g fresh);
     }
 
 no-leaf : (b : Board) (e : Event) (leaf : ℕ) → Guard b e → all_closed b.nodes ≡ true → is_unclosed (status_of (happens b e).nodes leaf) ≡ true → ⊥

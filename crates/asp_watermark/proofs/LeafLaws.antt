@@ -96,7 +96,7 @@ came-split : (nodes : List Node) (n : ℕ) (l : Literal) (leaf : ℕ) → is_unc
     is_unclosed (status_of (split nodes n l) leaf) ≡ true → CameFrom nodes (split nodes n l) leaf
 came-split nodes n l leaf was h =
     here (stood (with_status nodes n status.Forked) (record { cube = cube_of nodes n ++ l ∷ []; status = status_of nodes n })
-            (record { cube = cube_of nodes n ++ complement l ∷ []; status = status.Open }) leaf)
+    (record { cube = cube_of nodes n ++ complement l ∷ []; status = status.Open }) leaf)
   where
     forked : (is_unclosed status.Forked ≡ true) → is_unclosed (status_of nodes n) ≡ true
     forked e = was
@@ -140,9 +140,14 @@ pub nodes-stay : (b : Board) (e : Event) (node : ℕ) → node < length b.nodes 
 nodes-stay b (event.Take s n) node lt = set-longer b.nodes n node (record { cube = cube_of b.nodes n; status = status.Held s }) lt
 nodes-stay b (event.Split s n l) node lt =
     let forked : Node = record { cube = cube_of b.nodes n; status = status.Forked } in
-    omega (arith, lt, length-set b.nodes n forked, length-append (set b.nodes n forked)
-            (record { cube = cube_of b.nodes n ++ l ∷ []; status = status_of b.nodes n } ∷ record
-                { cube = cube_of b.nodes n ++ complement l ∷ []; status = status.Open } ∷ []))
+    omega (
+      arith,
+      lt,
+      length-set b.nodes n forked,
+      length-append (set b.nodes n forked)
+          (record { cube = cube_of b.nodes n ++ l ∷ []; status = status_of b.nodes n } ∷ record
+          { cube = cube_of b.nodes n ++ complement l ∷ []; status = status.Open } ∷ []),
+    )
 nodes-stay b (event.Deliver s S) node lt = lt
 nodes-stay b (event.Improve s S) node lt = lt
 nodes-stay b (event.Close s n c) node lt = set-longer b.nodes n node (record { cube = cube_of b.nodes n; status = status.Closed }) lt
@@ -156,12 +161,12 @@ first-cube nodes n l =
     let forked : Node = record { cube = cube_of nodes n; status = status.Forked } in
     ap (λ k. cube_of (split nodes n l) k) (sym (length-set nodes n forked))
     ∙ ap (λ (x : Node). x.cube) (get_or-append_seam (set nodes n forked) (record { cube = cube_of nodes n ++ l ∷ []; status = status_of nodes n })
-            (record { cube = cube_of nodes n ++ complement l ∷ []; status = status.Open } ∷ []) nowhere)
+    (record { cube = cube_of nodes n ++ complement l ∷ []; status = status.Open } ∷ []) nowhere)
 
 pub second-cube : (nodes : List Node) (n : ℕ) (l : Literal) → cube_of (split nodes n l) (length nodes + 1) ≡ cube_of nodes n ++ complement l ∷ []
 second-cube nodes n l =
     let forked : Node = record { cube = cube_of nodes n; status = status.Forked } in
     ap (λ k. cube_of (split nodes n l) (k + 1)) (sym (length-set nodes n forked))
     ∙ ap (λ (x : Node). x.cube) (get_or-append-add (set nodes n forked)
-            (record { cube = cube_of nodes n ++ l ∷ []; status = status_of nodes n } ∷ record
-                { cube = cube_of nodes n ++ complement l ∷ []; status = status.Open } ∷ []) 1 nowhere)
+    (record { cube = cube_of nodes n ++ l ∷ []; status = status_of nodes n } ∷ record
+    { cube = cube_of nodes n ++ complement l ∷ []; status = status.Open } ∷ []) 1 nowhere)

@@ -95,7 +95,7 @@ within_at p q es place w same x = subst (λ (y : Program). w < length (weighed_b
 pub own_at : (p q : Program) (shapes : List Shape) (rows : List (List Item)) (t : Trailed) (place w : ℕ) (s : Shape) (row : List Item) (l : Literal) →
     AreRows p (weighed_bodies p) shapes rows → p ≡ q → t.vars ≡ var_count q →
     ((e : Entry) → IsExplained q (take place t.entries) (get_or t.entries place e).lit w) → ((e : Entry) → l ≡ (get_or t.entries place e).lit) →
-        s ≡ get_or shapes w s → row ≡ row_at rows w → IsOwn p t place w s row l
+    s ≡ get_or shapes w s → row ≡ row_at rows w → IsOwn p t place w s row l
 own_at p q shapes rows t place w s row l r same v f is i j = record {
   vars = vars;
   within = x.within;

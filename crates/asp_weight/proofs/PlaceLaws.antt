@@ -191,7 +191,7 @@ placed_next shapes rows ps qs vars n s row room l size a e f q = (
       (subst (λ (ss : List Shape). ArePlaces ss (take (n + 1) rows) (put s.var (put_row n ps row) (own_of n))) (sym next_shapes)
       (subst (λ (rs : List (List Item)). ArePlaces (take n shapes ++ s ∷ []) rs (put s.var (put_row n ps row) (own_of n))) (sym next_rows)
       (placed_more (take n shapes) (take n rows) ps s row n a (sym (length-take-le n rows (omega (arith, l))))
-              (length-take-le n shapes (omega (arith, l, room.shaped)) ∙ sym (length-take-le n rows (omega (arith, l))))
+      (length-take-le n shapes (omega (arith, l, room.shaped)) ∙ sym (length-take-le n rows (omega (arith, l))))
       (subst (λ (xs : List Item). All (λ i. i.lit.var < length ps) xs) (sym f) (λ k d h. omega (arith, room.within n l k d h, size)))
       (omega (arith, room.own n l, size, ap (λ (x : Shape). x.var) e))))),
 )

@@ -74,7 +74,7 @@ alike_untouched p a b shapes rows places v w r pl alike h un k d l = alike (get_
 silence_untouched : (p : Program) (a b : List (Option Bool)) (shapes : List Shape) (rows : List (List Item)) (places : List (List Place)) (v w : ℕ) →
     AreRows p (weighed_bodies p) shapes rows → ArePlaces shapes rows places →
     ((u : ℕ) → u ≢ v → value_of a u ≡ value_of b u) → w < length rows → touches w (places_at places v) ≡ false →
-        is_silent_row a (shape_at shapes w) (row_at rows w) ≡ is_silent_row b (shape_at shapes w) (row_at rows w)
+    is_silent_row a (shape_at shapes w) (row_at rows w) ≡ is_silent_row b (shape_at shapes w) (row_at rows w)
 silence_untouched p a b shapes rows places v w r pl alike h un =
     silence_alike a b (shape_at shapes w) (row_at rows w) (alike (shape_at shapes w).var other) (alike_untouched p a b shapes rows places v w r pl alike h un)
   where
@@ -89,12 +89,20 @@ pub can_raise : (p : Program) (a : List (Option Bool)) (shapes : List Shape) (ro
     IsKept p a shapes rows places tallies → v ≤ var_count p → value_of a v ≡ None → CanRaise t tallies (places_at places v)
 can_raise p a shapes rows places tallies v t k h n = record {
   within = within_tallies rows (places_at places v) tallies k.counted.whole (k.placed.within v);
-  reached = λ w l. omega (arith, k.counted.reached w, sums_more p a shapes rows places v w t true k.placed small n,
-          sum_where-le-total (holds_in (set a v (Some t))) true (row_at rows w),
-          fits_anywhere p shapes rows w k.rowed (omega (arith, l, k.counted.whole)));
-  missed = λ w l. omega (arith, k.counted.missed w, sums_more p a shapes rows places v w t false k.placed small n,
-          sum_where-le-total (holds_in (set a v (Some t))) false (row_at rows w),
-          fits_anywhere p shapes rows w k.rowed (omega (arith, l, k.counted.whole)));
+  reached = λ w l. omega (
+    arith,
+    k.counted.reached w,
+    sums_more p a shapes rows places v w t true k.placed small n,
+    sum_where-le-total (holds_in (set a v (Some t))) true (row_at rows w),
+    fits_anywhere p shapes rows w k.rowed (omega (arith, l, k.counted.whole)),
+  );
+  missed = λ w l. omega (
+    arith,
+    k.counted.missed w,
+    sums_more p a shapes rows places v w t false k.placed small n,
+    sum_where-le-total (holds_in (set a v (Some t))) false (row_at rows w),
+    fits_anywhere p shapes rows w k.rowed (omega (arith, l, k.counted.whole)),
+  );
 }
   where
     small : v < length a
@@ -114,10 +122,10 @@ assigned p a shapes rows places tallies v t k h n = record {
         ∙ (ap (λ m. m + sum_in w t (places_at places v)) (k.counted.reached w) ∙ sym (sums_more p a shapes rows places v w t true k.placed small n));
     missed = λ w. raise_all-missed t tallies (places_at places v) w within
         ∙ (ap (λ m. m + sum_in w (not t) (places_at places v)) (k.counted.missed w)
-            ∙ sym (sums_more p a shapes rows places v w t false k.placed small n));
+        ∙ sym (sums_more p a shapes rows places v w t false k.placed small n));
     passed = λ w l.
         subst (ArePassed (set a v (Some t)) (row_at rows w)) (sym (raise_all-start t tallies (places_at places v) w within))
-            (passed_more a v t (row_at rows w) (tally_at tallies w).start small (k.counted.passed w l));
+        (passed_more a v t (row_at rows w) (tally_at tallies w).start small (k.counted.passed w l));
   };
   silence = λ w l q.
       let parts = or_parts (touches w (places_at places v)) (tally_at tallies w).queued (sym (raise_all-queued t tallies (places_at places v) w within) ∙ q) in
@@ -225,7 +233,7 @@ length-fresh n = grind (arith, common_steps)
 
 pub begun : (p : Program) (a : List (Option Bool)) (shapes : List Shape) (rows : List (List Item)) (places : List (List Place)) (tallies : List Tally) (n : ℕ) → IsSound p → var_count p < 2 ^ 31 →
     AreRows p (weighed_bodies p) shapes rows → ArePlaces shapes rows places → a ≡ replicate (var_count p + 1) None → tallies ≡ replicate n fresh →
-        n ≡ length shapes → IsKept p a shapes rows places tallies
+    n ≡ length shapes → IsKept p a shapes rows places tallies
 begun p a shapes rows places tallies n sound few r pl e f g = record {
   sound = sound;
   few = few;
@@ -347,7 +355,7 @@ have_room p vars shapes also rows few r e f = subst (λ (ss : List Shape). HaveR
 pub begun_as : (p q : Program) (a : List (Option Bool)) (shapes also : List Shape) (rows : List (List Item)) (places : List (List Place))
     (tallies : List Tally) (n vars : ℕ) → IsSound p → var_count p < 2 ^ 31 →
     AreRows p (weighed_bodies p) shapes rows → ArePlaces also rows places → also ≡ shapes → a ≡ replicate (vars + 1) None → vars ≡ var_count p →
-        tallies ≡ replicate n fresh → n ≡ length shapes → q ≡ p →
+    tallies ≡ replicate n fresh → n ≡ length shapes → q ≡ p →
     IsKept q a shapes rows places tallies
 begun_as p q a shapes also rows places tallies n vars sound few r pl s e v f g same =
     subst (λ (x : Program). IsKept x a shapes rows places tallies) (sym same)
@@ -375,7 +383,7 @@ none_said p a b shapes also rows places tallies more k e f c q none_queued =
 pub one_said : (p : Program) (a b : List (Option Bool)) (shapes also : List Shape) (rows : List (List Item)) (places : List (List Place))
     (tallies : List Tally) (w : ℕ) (x : Speech) (s : Shape) (row : List Item) (n : Nogood) →
     IsKept p a shapes rows places tallies → b ≡ a → also ≡ shapes → (w < length rows) × Speaks x b (shape_at also w) (row_at rows w) →
-        s ≡ get_or shapes w s → row ≡ row_at rows w → n.lits ≡ spoken x b s row → n.base ≡ base.Pure →
+    s ≡ get_or shapes w s → row ≡ row_at rows w → n.lits ≡ spoken x b s row → n.base ≡ base.Pure →
     (is_silent p a ≡ false) × IsGiven (record { program = p; values = a }) n
 one_said p a b shapes also rows places tallies w x s row n k e f h i j l m =
     (not_silent p a shapes rows places tallies w x k h.0 said, given p a shapes rows w x n k.sound k.rowed h.0 said lits m)

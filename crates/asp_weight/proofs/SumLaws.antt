@@ -146,8 +146,8 @@ silence_alike a b s row e r = ap (λ o. is_silent_row_as o a s row) e ∙ cases 
     sums side (i ∷ xs) q =
         sum_by-cons (weight_if (holds_in a) side) i xs
         ∙ (ap (λ n. n + sum_where (holds_in a) side xs)
-                (ap (λ c. cond c i.weight 0) (ap (λ o. agrees o (on side i.lit))
-                        (same side i (All-head (λ (x : Item). value_of a x.lit.var ≡ value_of b x.lit.var) i xs q))))
+        (ap (λ c. cond c i.weight 0) (ap (λ o. agrees o (on side i.lit))
+        (same side i (All-head (λ (x : Item). value_of a x.lit.var ≡ value_of b x.lit.var) i xs q))))
         ∙ (ap (λ n. weight_if (holds_in b) side i + n) (sums side xs (All-tail (λ (x : Item). value_of a x.lit.var ≡ value_of b x.lit.var) i xs q))
         ∙ sym (sum_by-cons (weight_if (holds_in b) side) i xs)))
       where

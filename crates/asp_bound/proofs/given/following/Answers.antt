@@ -33,7 +33,7 @@ returns-clause-follows c =
     let shown = c.requires.shown ∙ ap (λ (n : ℕ). assignment n c.args.trail.now.entries) c.requires.vars in
     let reaches = subst (λ (l : List ℤ). Reaches c.args.values.now c.args.priced.now.rows c.args.sums.now l x) c.as_slice-limits.ensures c.in-Some.ensures.reaches in
     let explained =
-        implied_explained c.args.priced.now.origin.value c.args.values.now c.args.priced.now.rows c.args.priced.now.columns
-        c.args.priced.now.vars.items c.args.sums.now c.requires.kept c.args.trail.now.entries c.args.cost.now x (complement x.lit) shown reaches
-        c.in-Some.ensures.within refl in
+    implied_explained c.args.priced.now.origin.value c.args.values.now c.args.priced.now.rows c.args.priced.now.columns
+    c.args.priced.now.vars.items c.args.sums.now c.requires.kept c.args.trail.now.entries c.args.cost.now x (complement x.lit) shown reaches
+    c.in-Some.ensures.within refl in
     subst (λ (i : SaidImplied). IsExplained p (Some c.args.cost.now) c.args.trail.now.entries i.lit × (i.name + 1 ≡ 2 ^ 31)) (sym c.follows.ensures) (explained, refl)

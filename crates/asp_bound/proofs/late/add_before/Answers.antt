@@ -22,8 +22,8 @@ pub raise-requires-clause-within : goal.raise-requires-clause-within
 raise-requires-clause-within c =
     subst (λ (r : List Place). All (λ (o : Place). o.level < length c.args.sums.now) r) (sym c.row-row.ensures)
     (left-within c.args.priced.now.origin.value (only (before c.args.trail.now c.args.place) (take c.args.i c.args.raisers.now))
-            c.args.priced.now.rows c.args.priced.now.columns c.args.priced.now.vars.items c.args.sums.now c.requires.kept
-            (get_or c.args.raisers.now c.args.i 0))
+    c.args.priced.now.rows c.args.priced.now.columns c.args.priced.now.vars.items c.args.sums.now c.requires.kept
+    (get_or c.args.raisers.now c.args.i 0))
 
 pub raise-requires-clause-small : goal.raise-requires-clause-small
 raise-requires-clause-small c = λ j lt.
@@ -58,13 +58,13 @@ returns-in-Some c =
     let var = c.requires.raisers.within c.args.i 0 c.requires.within in
     let high : v ≤ c.args.trail.now.vars = var.1 in
     kept_more c.args.priced.now.origin.value (before c.args.trail.now c.args.place) c.args.priced.now.rows c.args.priced.now.columns
-        c.args.priced.now.vars.items c.args.sums.now c.raise.new.sums c.args.raisers.now c.args.i v c.in-Some.truth c.requires.raisers.once
-        c.requires.within refl
+    c.args.priced.now.vars.items c.args.sums.now c.raise.new.sums c.args.raisers.now c.args.i v c.in-Some.truth c.requires.raisers.once
+    c.requires.within refl
     var.0 (omega (arith, high, c.requires.vars)) (sym c.in-Some.ensures) c.requires.kept c.raise.auto.sums (λ j lt.
     omega (arith, ints, c.raise.ensures j lt, raised_as c.args.priced.now.rows v c.in-Some.truth c.row-row.result.now v c.in-Some.truth c.row-row.ensures refl refl j))
 
 pub returns-in_default : goal.returns-in_default
 returns-in_default c =
     kept_same c.args.priced.now.origin.value (before c.args.trail.now c.args.place) c.args.priced.now.rows c.args.priced.now.columns
-        c.args.priced.now.vars.items c.args.sums.now c.args.raisers.now c.args.i (get_or c.args.raisers.now c.args.i 0) c.requires.within refl
-        (sym c.in_default.ensures) c.requires.kept
+    c.args.priced.now.vars.items c.args.sums.now c.args.raisers.now c.args.i (get_or c.args.raisers.now c.args.i 0) c.requires.within refl
+    (sym c.in_default.ensures) c.requires.kept

@@ -29,16 +29,16 @@ loop-literal-preserved c =
     let back = to_z-of_z w128 c.add-least.result (search rules) in
     let made : c.add-least.result ≡ c.loop-literal.least +ℤ c.in_ok-more.more =
     c.add-least.ensures ∙ ap (λ (a : ℤ). a +ℤ to_z w64 (of_z w64 c.in_ok-more.more)) c.loop-literal.least-is
-        ∙ ap (λ (b : ℤ). c.loop-literal.least +ℤ b) (to_z-of_z w64 c.in_ok-more.more (search rules)) in
+    ∙ ap (λ (b : ℤ). c.loop-literal.least +ℤ b) (to_z-of_z w64 c.in_ok-more.more (search rules)) in
     let low = abs-low c.in_ok-more.more (2 ^ 56) c.in_ok-more.ensures.small in
     let high = abs-high c.in_ok-more.more (2 ^ 56) c.in_ok-more.ensures.small in
     record {
       taken = taken-more p c.args.items.now i x c.args.weights.now c.loop-literal.additions.items c.take_addition.new.additions.items
           c.loop-literal.weights c.take_addition.new.weights c.loop-literal.least c.in_ok-more.more _ c.var.result
           (omega arith) (subst
-                  (IsTaken p (drop c.loop-literal.literal-index c.args.items.now) c.args.weights.now c.loop-literal.additions.items
-                      c.loop-literal.weights) c.loop-literal.least-is c.loop-literal.invariant.taken) is up le c.in_ok-more.ensures.additions
-              c.in_ok-more.ensures.weights c.in_ok-more.ensures.least (back ∙ made);
+          (IsTaken p (drop c.loop-literal.literal-index c.args.items.now) c.args.weights.now c.loop-literal.additions.items
+          c.loop-literal.weights) c.loop-literal.least-is c.loop-literal.invariant.taken) is up le c.in_ok-more.ensures.additions
+          c.in_ok-more.ensures.weights c.in_ok-more.ensures.least (back ∙ made);
       low = omega (arith, ints, back, made, c.loop-literal.least-is, c.loop-literal.invariant.low, low);
       high = omega (arith, ints, back, made, c.loop-literal.least-is, c.loop-literal.invariant.high, high);
     }
@@ -49,8 +49,8 @@ narrowed-least-requires-clause-low c =
     let done : drop c.loop-literal.literal-index c.args.items.now ≡ [] = drop_all c.loop-literal.literal-index c.args.items.now (omega arith) in
     let sum = taken-least p c.args.weights.now c.loop-literal.additions.items c.loop-literal.weights c.loop-literal.least
     (subst (λ (xs : List (ℤ × ℤ)). IsTaken p xs c.args.weights.now c.loop-literal.additions.items c.loop-literal.weights c.loop-literal.least) done
-            (subst (IsTaken p (drop c.loop-literal.literal-index c.args.items.now) c.args.weights.now c.loop-literal.additions.items
-                    c.loop-literal.weights) c.loop-literal.least-is c.loop-literal.invariant.taken)) in
+    (subst (IsTaken p (drop c.loop-literal.literal-index c.args.items.now) c.args.weights.now c.loop-literal.additions.items
+    c.loop-literal.weights) c.loop-literal.least-is c.loop-literal.invariant.taken)) in
     omega (arith, ints, c.loop-literal.least-is, sum, c.requires.low)
 
 pub narrowed-least-requires-clause-high : goal.narrowed-least-requires-clause-high
@@ -59,8 +59,8 @@ narrowed-least-requires-clause-high c =
     let done : drop c.loop-literal.literal-index c.args.items.now ≡ [] = drop_all c.loop-literal.literal-index c.args.items.now (omega arith) in
     let sum = taken-least p c.args.weights.now c.loop-literal.additions.items c.loop-literal.weights c.loop-literal.least
     (subst (λ (xs : List (ℤ × ℤ)). IsTaken p xs c.args.weights.now c.loop-literal.additions.items c.loop-literal.weights c.loop-literal.least) done
-            (subst (IsTaken p (drop c.loop-literal.literal-index c.args.items.now) c.args.weights.now c.loop-literal.additions.items
-                    c.loop-literal.weights) c.loop-literal.least-is c.loop-literal.invariant.taken)) in
+    (subst (IsTaken p (drop c.loop-literal.literal-index c.args.items.now) c.args.weights.now c.loop-literal.additions.items
+    c.loop-literal.weights) c.loop-literal.least-is c.loop-literal.invariant.taken)) in
     omega (arith, ints, c.loop-literal.least-is, sum, c.requires.high)
 
 pub returns-clause-additions : goal.returns-clause-additions
@@ -69,8 +69,8 @@ returns-clause-additions c =
     let done : drop c.loop-literal.literal-index c.args.items.now ≡ [] = drop_all c.loop-literal.literal-index c.args.items.now (omega arith) in
     taken-permuted p c.args.weights.now c.loop-literal.additions.items c.loop-literal.weights c.loop-literal.least
     (subst (λ (xs : List (ℤ × ℤ)). IsTaken p xs c.args.weights.now c.loop-literal.additions.items c.loop-literal.weights c.loop-literal.least) done
-            (subst (IsTaken p (drop c.loop-literal.literal-index c.args.items.now) c.args.weights.now c.loop-literal.additions.items
-                    c.loop-literal.weights) c.loop-literal.least-is c.loop-literal.invariant.taken))
+    (subst (IsTaken p (drop c.loop-literal.literal-index c.args.items.now) c.args.weights.now c.loop-literal.additions.items
+    c.loop-literal.weights) c.loop-literal.least-is c.loop-literal.invariant.taken))
 
 pub returns-clause-least : goal.returns-clause-least
 returns-clause-least c =
@@ -78,6 +78,6 @@ returns-clause-least c =
     let done : drop c.loop-literal.literal-index c.args.items.now ≡ [] = drop_all c.loop-literal.literal-index c.args.items.now (omega arith) in
     let sum = taken-least p c.args.weights.now c.loop-literal.additions.items c.loop-literal.weights c.loop-literal.least
     (subst (λ (xs : List (ℤ × ℤ)). IsTaken p xs c.args.weights.now c.loop-literal.additions.items c.loop-literal.weights c.loop-literal.least) done
-            (subst (IsTaken p (drop c.loop-literal.literal-index c.args.items.now) c.args.weights.now c.loop-literal.additions.items
-                    c.loop-literal.weights) c.loop-literal.least-is c.loop-literal.invariant.taken)) in
+    (subst (IsTaken p (drop c.loop-literal.literal-index c.args.items.now) c.args.weights.now c.loop-literal.additions.items
+    c.loop-literal.weights) c.loop-literal.least-is c.loop-literal.invariant.taken)) in
     to_z-of_z w64 c.narrowed-least.result (search rules) ∙ (c.narrowed-least.ensures ∙ (c.loop-literal.least-is ∙ sum))

@@ -21,7 +21,7 @@ take-requires-clause-room c =
     let low : o.level < length c.args.sums.now = c.requires.within c.loop-place.place-index none lt in
     let inside : o.level < length c.loop-place.sums = omega arith in
     lower-fits c.args.sums.now c.loop-place.sums c.args.row.now c.loop-place.place-index c.args.truth none c.rise_by.result (neg_ℤ (pos (2 ^ 60))) lt
-        inside c.loop-place.invariant c.rise_by.ensures (c.requires.room o.level low)
+    inside c.loop-place.invariant c.rise_by.ensures (c.requires.room o.level low)
 
 pub loop-place-preserved : goal.loop-place-preserved
 loop-place-preserved c =
@@ -30,4 +30,4 @@ loop-place-preserved c =
     let low : o.level < length c.args.sums.now = c.requires.within c.loop-place.place-index none lt in
     let inside : o.level < length c.loop-place.sums = omega arith in
     lower-more c.args.sums.now c.loop-place.sums c.take.new.sums c.args.row.now c.loop-place.place-index c.args.truth none c.rise_by.result lt inside
-        c.loop-place.invariant c.rise_by.ensures c.take.ensures
+    c.loop-place.invariant c.rise_by.ensures c.take.ensures

@@ -21,7 +21,7 @@ add-requires-clause-room c =
     let low : o.level < length c.args.sums.now = c.requires.within c.loop-place.place-index none lt in
     let inside : o.level < length c.loop-place.sums = omega arith in
     raise-fits c.args.sums.now c.loop-place.sums c.args.row.now c.loop-place.place-index c.args.truth none c.rise_by.result (pos (2 ^ 60)) lt inside
-        c.loop-place.invariant c.rise_by.ensures (c.requires.room o.level low)
+    c.loop-place.invariant c.rise_by.ensures (c.requires.room o.level low)
 
 pub loop-place-preserved : goal.loop-place-preserved
 loop-place-preserved c =
@@ -30,4 +30,4 @@ loop-place-preserved c =
     let low : o.level < length c.args.sums.now = c.requires.within c.loop-place.place-index none lt in
     let inside : o.level < length c.loop-place.sums = omega arith in
     raise-more c.args.sums.now c.loop-place.sums c.add.new.sums c.args.row.now c.loop-place.place-index c.args.truth none c.rise_by.result lt inside
-        c.loop-place.invariant c.rise_by.ensures c.add.ensures
+    c.loop-place.invariant c.rise_by.ensures c.add.ensures

@@ -19,7 +19,7 @@ pub returns-in_err-state-clause-value : goal.returns-in_err-state-clause-value
 returns-in_err-state-clause-value c =
     let p = err_from_is_err_and c.from_residual.result c.from_residual.ensures.1 in
     rw (p.1, p.2) (walked_fails c.loop-word.state _ c.args.words.now c.loop-word.word-index c.word-item.result c.as_str.result.now (omega arith)
-            c.word-item.is c.as_str.ensures.value c.in_err-state.ensures.value
+    c.word-item.is c.as_str.ensures.value c.in_err-state.ensures.value
     ∙ c.loop-word.invariant.same)
 
 pub returns-clause-value : goal.returns-clause-value

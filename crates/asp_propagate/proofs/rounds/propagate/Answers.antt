@@ -100,7 +100,7 @@ asked-smaller g c =
     let a = c.ask.new in
     let asked =
     subst (λ (x : Bool). Asked (g.P.Propagator.silent p b) (g.P.Propagator.gives p b) (assignment m.trail.vars m.trail.entries) m.store a.store
-            m.trail.entries a.trail.entries x) c.if-branch.true c.in_ok-ask.ensures.ok in
+    m.trail.entries a.trail.entries x) c.if-branch.true c.in_ok-ask.ensures.ok in
     let implied = implies_more m.trail.entries a.trail.entries s.trail.entries c.ask.ensures.goes.implies e.goes.implies in
     let fixpoint = subst (λ (o : Option ℕ). IfNone o (AreAtFixpoint s.store.slots (assignment s.trail.vars s.trail.entries))) c.in-None-found.is c.in_ok-found.ensures.fixpoint in
     let fixpoint = subst (λ (n : ℕ). AreAtFixpoint s.store.slots (assignment n s.trail.entries)) vars fixpoint in

@@ -31,4 +31,4 @@ returns-in_err-judge_numbered-clause-fails g c =
     let p = err_from_is_err_and c.from_residual.result c.from_residual.ensures.1 in
     rw (p.1, p.2) (λ room rest. subst (λ o. FailsAs c.in_err-judge_numbered.field-0.0 o) (c.loop-line.invariant.same room rest)
     (line_fails g.J.Judge.format c.loop-line.lines c.loop-line.reader c.in_err-judge_numbered.field-0.0 c.in-Some.line.number c.in-Some.line.bytes.now
-            c.in-Some.ensures.line c.in-Some.ensures.number c.in_err-judge_numbered.ensures.reader room rest))
+    c.in-Some.ensures.line c.in-Some.ensures.number c.in_err-judge_numbered.ensures.reader room rest))

@@ -13,7 +13,7 @@ pub returns-in_err-atom-clause-literals : goal.returns-in_err-atom-clause-litera
 returns-in_err-atom-clause-literals c =
     let p = err_from_is_err_and c.from_residual-in_err-atom.result c.from_residual-in_err-atom.ensures.1 in
     rw (p.1, p.2) (ends c.in_err-atom.field-0.0 c.loop-i.items.items c.args.count c.args.negated c.loop-i.i c.loop-i.known c.loop-i.rest.now _
-            c.loop-i-test.true c.in_err-atom.ensures.atom c.loop-i.invariant.read)
+    c.loop-i-test.true c.in_err-atom.ensures.atom c.loop-i.invariant.read)
 
 pub loop-i-preserved : goal.loop-i-preserved
 loop-i-preserved c =
@@ -24,7 +24,7 @@ loop-i-preserved c =
     record {
       read = rw pushed
           (rw c.in_ok-atom.ensures.known (goes_on c.loop-i.items.items c.args.count c.args.negated c.loop-i.i c.loop-i.known c.loop-i.rest.now
-                  c.in_ok-atom.atom c.in_ok-atom.after.now _ c.loop-i-test.true c.in_ok-atom.ensures.atom c.loop-i.invariant.read));
+          c.in_ok-atom.atom c.in_ok-atom.after.now _ c.loop-i-test.true c.in_ok-atom.ensures.atom c.loop-i.invariant.read));
       len = omega (arith, c.in_ok-push.ensures.len, c.loop-i.invariant.len);
       known = known_more atom_of (literal_at true) _ c.loop-i.known _ c.loop-i.items.items _ (literal_of sign c.in_ok-atom.atom) c.loop-i.invariant.known taken pushed;
     }
@@ -32,4 +32,4 @@ loop-i-preserved c =
 pub returns-clause-literals : goal.returns-clause-literals
 returns-clause-literals c =
     rw c.from_vec.ensures (is_done c.loop-i.items.items c.args.count c.args.negated c.loop-i.i c.loop-i.known c.loop-i.rest.now _ c.loop-i-test.false
-        c.requires c.loop-i.invariant.read)
+    c.requires c.loop-i.invariant.read)

@@ -12,7 +12,7 @@ pub returns-clause-answers : goal.returns-clause-answers
 returns-clause-answers c =
     let i = c.self.inside in
     seen-listed i.goal (sought i.goal) i.program.value i.known i.answers.sets i.told.items i.atoms.items c.self.invariant.seen
-        ∙ ap (λ (b : Board). listed_by (sought b.task.goal) b.answers) c.self.view_is
+    ∙ ap (λ (b : Board). listed_by (sought b.task.goal) b.answers) c.self.view_is
 
 pub returns-clause-known : goal.returns-clause-known
 returns-clause-known c =
