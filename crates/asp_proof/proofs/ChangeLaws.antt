@@ -73,9 +73,6 @@ lone_here a b S T h k lt = ap (changed S) (toggled_first a (b ∷ T) (lt, below_
 pub lone_there : (a b : ℕ) (S T : Atoms) → IsAscending (a ∷ S) → b < a → changed (a ∷ S) (b ∷ T) ≡ b ∷ changed (a ∷ S) T
 lone_there a b S T h lt = changed_first b (a ∷ S) T (lt, below_trans a b S h.0 (omega arith))
 
-pub both_here : (a : ℕ) (S T : Atoms) → changed (a ∷ S) (a ∷ T) ≡ changed S T
-both_here a S T = ap (changed S) (toggled_gone a T)
-
 -- the first atom of two sets
 pub none_left : (S : Atoms) → length S ≡ 0 → S ≡ []
 none_left [] e = refl
@@ -86,12 +83,6 @@ only_here S T rest a s t h = rw (s, t) (at_end (rw s at h))
   where
     at_end : IsAscending (a ∷ rest) → AreLeft (a ∷ rest) [] rest [] × (changed (a ∷ rest) [] ≡ a ∷ changed rest [])
     at_end k = (record { one = k.1; other = tt; fewer = omega arith }, changed_none (a ∷ rest) k ∙ ap (λ (U : Atoms). a ∷ U) (sym (changed_none rest k.1)))
-
-pub only_there : (S T others : Atoms) (b : ℕ) → S ≡ [] → T ≡ b ∷ others → IsAscending T → AreLeft S T S others × (changed S T ≡ b ∷ changed S others)
-only_there S T others b s t h = rw (s, t) (at_end (rw t at h))
-  where
-    at_end : IsAscending (b ∷ others) → AreLeft [] (b ∷ others) [] others × (changed [] (b ∷ others) ≡ b ∷ changed [] others)
-    at_end k = (record { one = tt; other = k.1; fewer = omega arith }, refl)
 
 pub less_here : (S T rest others : Atoms) (a b : ℕ) → S ≡ a ∷ rest → T ≡ b ∷ others → IsAscending S → IsAscending T → a < b → AreLeft S T rest T × (changed S T ≡ a ∷ changed rest T)
 less_here S T rest others a b s t h k lt = rw (s, t) (both (rw s at h) (rw t at k))
@@ -104,12 +95,6 @@ less_there S T rest others a b s t h k lt = rw (s, t) (both (rw s at h) (rw t at
   where
     both : IsAscending (a ∷ rest) → IsAscending (b ∷ others) → AreLeft (a ∷ rest) (b ∷ others) (a ∷ rest) others × (changed (a ∷ rest) (b ∷ others) ≡ b ∷ changed (a ∷ rest) others)
     both x y = (record { one = x; other = y.1; fewer = omega arith }, lone_there a b rest others x lt)
-
-pub same_here : (S T rest others : Atoms) (a b : ℕ) → S ≡ a ∷ rest → T ≡ b ∷ others → IsAscending S → IsAscending T → b ≡ a → AreLeft S T rest others × (changed S T ≡ changed rest others)
-same_here S T rest others a b s t h k e = rw (s, t, e) (both (rw s at h) (rw (t, e) at k))
-  where
-    both : IsAscending (a ∷ rest) → IsAscending (a ∷ others) → AreLeft (a ∷ rest) (a ∷ others) rest others × (changed (a ∷ rest) (a ∷ others) ≡ changed rest others)
-    both x y = (record { one = x.1; other = y.1; fewer = omega arith }, both_here a rest others)
 
 -- how many they are at most
 length_toggled : (a : ℕ) (S : Atoms) → length (toggled a S) ≤ length S + 1
@@ -131,10 +116,6 @@ last_at S (T ∷ []) zero U size is = sym is
 last_at S (T ∷ []) (suc n) U size is = absurd (omega (arith, size))
 last_at S (T ∷ R ∷ Ts) zero U size is = absurd (omega (arith, size))
 last_at S (T ∷ R ∷ Ts) (suc n) U size is = last_at T (R ∷ Ts) n U (omega (arith, size)) is
-
-pub last_pushed : (S : Atoms) (Ts : List Atoms) (U : Atoms) → last_from S (Ts ++ U ∷ []) ≡ U
-last_pushed S [] U = refl
-last_pushed S (T ∷ Ts) U = last_pushed T Ts U
 
 pub same_change : (S T U : Atoms) → IsAscending T → IsAscending U → changed S T ≡ changed S U → T ≡ U
 same_change S T U t u e = sym (changed_back S T t) ∙ ap (changed S) e ∙ changed_back S U u
