@@ -472,7 +472,7 @@ fn keep(
     requires lits { AreOf compiled.now lits }
     requires levels { HasLevels compiled.now bound.now }
     requires root { IsRoot compiled.now (known_with compiled.now listed.now rows.old.kept.items bound.now) values.old }
-    ensures rows { OnOk result (AllByRecursion (AreOf compiled.now) rows.new.kept.items) }
+    ensures kept { OnOk result (AllByRecursion (AreOf compiled.now) rows.new.kept.items) }
     ensures placed { OnOk result (AllByRecursion (AreOf compiled.now) rows.new.placed.items) }
     ensures known { OnOk result
         (stock (known_with compiled.now listed.now rows.new.kept.items bound.now) rows.new.placed.items ≡ with_placed

@@ -43,7 +43,7 @@ returns-in_ok-keep-in-Known c =
         confirmed = says.2;
         of = c.in_ok-keep-in-Known.ensures.kept;
         of_placed = c.in_ok-keep-in-Known.ensures.placed;
-        known = c.in_ok-keep-in-Known.ensures.known ∙ ap (λ i. with_placed s i c.in-Known.lits) c.place_of.ensures ∙ ap (λ (m : List Literal). with_placed s (place_of c.args.line.now) m) says.0;
+        known = c.in_ok-keep-in-Known.ensures.known ∙ ap (λ i. with_placed s i c.in-Known.lits) c.place_of-place.ensures ∙ ap (λ (m : List Literal). with_placed s (place_of c.args.line.now) m) says.0;
         root = c.in_ok-keep-in-Known.ensures.root;
         closing_is = c.closes-closing.ensures p c.requires.assumed;
       },
