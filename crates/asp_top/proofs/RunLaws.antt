@@ -29,15 +29,20 @@ use Rattle.asp_crew_laws.specs.Reports.{asks_list, IsAsked, IsReport, Says as Sa
 use Rattle.asp_top.specs.declared.status.Status.{Status}
 use Rattle.asp_top.specs.declared.status.Status.TheVariants.{All, NoModel, Partial, Unknown, Enough, Help, Memory, Usage, Refused, ReadFault, TooLong, Unnamed, WriteFault, Parts}
 use Rattle.asp_top.specs.declared.status.Outcome.{Outcome}
-use Rattle.asp_top.specs.Meaning.{has_model, has_model_in, is_some_of, mode_by, mode_of, status_for}
+use Rattle.asp_prepare.specs.declared.prepared.Prepared.{Prepared}
+use Rattle.asp_prepare.specs.declared.prepared.Unready.{Unready}
+use Rattle.asp_prepare.specs.declared.prepared.Unready.TheVariants as unready
+use Rattle.asp_prepare.specs.Meaning.{has_model}
+use Rattle.asp_prepare.specs.Naming.{HasNumbers, WhyNot, ask_of, asked, is_named, prepared_of, searched, set_aside}
+use Rattle.asp_prepare.specs.Told.{report_text, report_with, told_with}
+use Rattle.asp_prepare.proofs.AskedLaws.{asked-sound, limited-has}
+use Rattle.asp_prepare.proofs.ToldLaws.{told-model, told-says, told-text}
+use Rattle.asp_top.specs.Meaning.{status_for}
 use Rattle.asp_named.specs.Named.{has_numbers, named}
 use Rattle.asp_named.proofs.LimitLaws.{sound-named}
-use Rattle.asp_top.specs.Naming.{asked, asked_if, is_named}
 use Rattle.asp_top.specs.Notes.{is_written}
 use Rattle.asp_top.specs.Parting.{Divides, HandingMeans}
-use Rattle.asp_top.specs.Runs.{Around, DeliveryMeans, Does, DoesBy, HasNumbers, IsAnswered, IsDivided, IsExact, IsGiven, IsOver, IsReady, IsSaid, IsSentOn, IsSolved, Means, Prepares, Runs, Says, Solves, TellsClosed, WhyNot, around, ask_of, layout_of, prepared_of, report_text, report_with, searched, set_aside, status_of, told_with}
-use Rattle.asp_top.specs.declared.prepare.Prepared.{Prepared}
-use Rattle.asp_top.proofs.ToldLaws.{told-model, told-says, told-text}
+use Rattle.asp_top.specs.Runs.{Around, DeliveryMeans, Does, DoesBy, EndsUnready, IsAnswered, IsDivided, IsExact, IsGiven, IsOver, IsReady, IsSaid, IsSentOn, IsSolved, Means, Prepares, Runs, Says, Solves, TellsClosed, around, layout_of, status_of, status_unready}
 use Rattle.asp_model.specs.Sound.{IsSound}
 use Rattle.asp_cli.specs.Found.{seeks_consequences}
 use Rattle.asp_cli.specs.declared.Options.{Options}
@@ -139,44 +144,6 @@ runs-memory given a kept reads writes quiet =
     let means : Means given a None Memory = record { none = refl; kept = kept } in
     record { means = means; exact = exact given a None Memory means (λ isn't. quiet); later = (reads, writes) }
 
--- a run that ended at its limit has a model
-recorded-some : (best : Option (Atoms × List ℤ)) (L : List Atoms) → 0 < length L → is_some_of (bests best L) ≡ true
-recorded-some best [] h = absurd (let f : ⊥ = omega (arith, h) in f)
-recorded-some best (S ∷ L) h = refl
-
-listed-some : (L : List Atoms) → 0 < length L → is_some_of L ≡ true
-listed-some [] h = absurd (let f : ⊥ = omega (arith, h) in f)
-listed-some (S ∷ L) h = refl
-
-some-by : (mode : Mode) (r : Found) → reasoning_of mode ≡ None → 0 < length r.answers → has_model_in mode r ≡ true
-some-by Enum r e h = listed-some r.answers h
-some-by Opt r e h = recorded-some r.best r.answers h
-some-by (Consequences w) r e h = absurd (some e)
-  where
-    some : Some w ≡ None → ⊥
-    some e = cc
-
-listed-mode : (all : Bool) (mode : Mode) → asks_list all mode ≡ true → reasoning_of mode ≡ None
-listed-mode all Enum e = refl
-listed-mode all Opt e = refl
-listed-mode all (Consequences w) e = absurd (false≢true e)
-
-limited-has : (p : Program) (ask : Ask) (units : ℕ) (r : Report) → IsReport p ask units r → r.results.end ≡ Limited → has_model r.results ≡ true
-limited-has p ask units r is e =
-    let asked : IsAsked p ask r.results = subst (SaysReport p ask r) e is.says in
-    some-by r.results.mode r.results (ap reasoning_of is.mode_is ∙ listed-mode ask.all_optima ask.mode asked.listing) (omega (arith, asked.some, asked.count))
-
--- no consequences are sought beside a proof
-pub unsought : (o : Option Mode) (p : Program) → seeks_consequences (Some o) ≡ false → reasoning_of (mode_of o p) ≡ None
-unsought None p e = own p.minimize
-  where
-    own : (ms : List Minimize) → reasoning_of (mode_by ms) ≡ None
-    own [] = refl
-    own (m ∷ ms) = refl
-unsought (Some Enum) p e = refl
-unsought (Some Opt) p e = refl
-unsought (Some (Consequences r)) p e = absurd (false≢true (sym e))
-
 written : (given : Options) (a : Around) (report : Option Report) → (s : IsSolved given a report) → (end : End) (model : Bool) → s.done.results.end ≡ end → has_model s.done.results ≡ model
     → Appends a.held a.held' (report_text (asked given s.program) (report_with (set_aside given s.program) s.done) (layout_of given)) → Means given a report (status_for end model)
 written given a report s Finished true e m text = record { solved = s; end_is = e; model_is = m; text = text }
@@ -201,14 +168,6 @@ handed : (given : Options) (a : Around) (s : Status) (report : Option Report) �
     → HandingMeans (parts_text divided.cubes) a.held a.held' a.writes a.writes' s → Means given a report s
 handed given a s report divided (inl m) = subst (Means given a report) (sym m.0) (record { divided = divided; text = m.1 })
 handed given a s report divided (inr m) = subst (Means given a report) (sym m.0.1) (inr (record { divided = divided; text = m.1; cause = m.2 }))
-
--- the program whose answers are sought is within the limits
-asked-sound : (given : Options) (p : Program) → IsSound p → HasNumbers given p → IsSound (asked given p)
-asked-sound given p sound numbers = by (is_named given) refl
-  where
-    by : (b : Bool) → is_named given ≡ b → IsSound (cond b (named p) p)
-    by true e = sound-named p sound (numbers e)
-    by false e = sound
 
 runs-solved : (given : Options) (a : Around) (p : Program) (o : Outcome) → given.split ≡ None → IsGiven given.format given.make a p → IsSound p → HasNumbers given p → a.reads ≤ a.reads' → a.reads' ≡ a.reads
     → Solves given p a.held a.held' a.writes a.writes' o → Runs given a o
@@ -271,25 +230,15 @@ over-unnamed given l l' r r' p ready by_name full = λ h w.
     let means : Means given a None Unnamed = record { untouched = record { none = refl; kept = Keeps-refl h }; program = p; source = ready.source h h w w; by_name = by_name; full = full } in
     record { means = means; exact = exact given a None Unnamed means (λ isn't. ready.quiet); later = (ready.later, omega arith) }
 
-over-why : (given : Options) (l l' : Option (List ℕ)) (r r' : ℕ) (p : Program) (status : Status) → IsReady given l l' r r' p → WhyNot given p status → IsOver given l l' r r' status
-over-why given l l' r r' p Memory ready why = over-memory given l l' r r' Memory refl ready.later ready.quiet
-over-why given l l' r r' p Unnamed ready why = over-unnamed given l l' r r' p ready why.0 why.1
-over-why given l l' r r' p status ready why = absurd why
+over-why : (given : Options) (l l' : Option (List ℕ)) (r r' : ℕ) (p : Program) (why : Unready) → IsReady given l l' r r' p → WhyNot given p why → IsOver given l l' r r' (status_unready why)
+over-why given l l' r r' p unready.Memory ready is = over-memory given l l' r r' Memory refl ready.later ready.quiet
+over-why given l l' r r' p unready.Unnamed ready is = over-unnamed given l l' r r' p ready is.0 is.1
 
 -- a program that is there is compiled, unless memory or numbers are wanting
-pub prepares : (given : Options) (l l' : Option (List ℕ)) (r r' : ℕ) (p : Program) (result : Result Prepared Status) → IsReady given l l' r r' p → IfOk result (λ x. x ≡ prepared_of given p) → OnOk result (HasNumbers given p) → IfErr result (WhyNot given p)
+pub prepares : (given : Options) (l l' : Option (List ℕ)) (r r' : ℕ) (p : Program) (result : Result Prepared Status) → IsReady given l l' r r' p → IfOk result (λ x. x ≡ prepared_of given p) → OnOk result (HasNumbers given p) → IfErr result (EndsUnready given p)
     → Prepares given l l' r r' result
 prepares given l l' r r' p (Ok x) ready same numbers wanting = (p, ready, numbers, same)
-prepares given l l' r r' p (Err status) ready same numbers wanting = over-why given l l' r r' p status ready wanting
-
--- which program's answers are sought
-pub asked-is : (given : Options) (p q : Program) → Some q ≡ asked_if given p → q ≡ asked given p
-asked-is given p q is = by (is_named given) (has_numbers p) is
-  where
-    by : (b n : Bool) → Some q ≡ cond b (cond n (Some (named p)) None) (Some p) → q ≡ cond b (named p) p
-    by true true e = cc
-    by true false e = absurd cc
-    by false n e = cc
+prepares given l l' r r' p (Err status) ready same numbers wanting = subst (IsOver given l l' r r') (sym wanting.2) (over-why given l l' r r' p wanting.0 ready wanting.1)
 
 -- it is solved
 pub runs-ready : (given : Options) (l l' : Option (List ℕ)) (r r' : ℕ) (h h' : Option (List ℕ)) (w w' : ℕ) (p : Program) (o : Outcome) → given.split ≡ None → IsReady given l l' r r' p → HasNumbers given p → Solves given p h h' w w' o

@@ -39,9 +39,10 @@ use Rattle.asp_top.specs.declared.status.Outcome.{Outcome}
 use Rattle.asp_cli.specs.Found.{seeks_consequences}
 use Rattle.asp_model.specs.declared.program.Minimize.{Minimize}
 use Rattle.asp_model.specs.Texts.{shown}
-use Rattle.asp_top.specs.Meaning.{has_model_in, is_some_of, mode_by, mode_of}
-use Rattle.asp_top.specs.Naming.{asked, is_json, is_named, is_settled}
-use Rattle.asp_top.specs.Runs.{Around, HasNumbers, IsGiven, IsSentOn, IsWritten, Means, Runs, ask_of, found_with, is_brief, layout_of, report_text, report_with, set_aside, text_by, text_in, with_known, without_names}
+use Rattle.asp_prepare.specs.Meaning.{has_model_in, is_some_of, mode_by, mode_of}
+use Rattle.asp_prepare.specs.Naming.{HasNumbers, ask_of, asked, is_json, is_named, is_settled, set_aside}
+use Rattle.asp_prepare.specs.Told.{found_with, report_text, report_with, text_by, text_in, with_known, without_names}
+use Rattle.asp_top.specs.Runs.{Around, IsGiven, IsSentOn, IsWritten, Means, Runs, is_brief, layout_of}
 use Rattle.asp_top.specs.Series.{RunsBy, RunsOn}
 use Rattle.asp_json.specs.Json.{json_text, json_with}
 use Rattle.asp_cli.specs.declared.Form.{Form}
@@ -49,8 +50,8 @@ use Rattle.asp_cli.specs.declared.Form.TheVariants.{Text, Json}
 use Rattle.asp_cli.specs.declared.Format.{Format}
 use Rattle.asp_top.specs.Formats.{outcome_for}
 use Rattle.asp_top.specs.Whole.{ArePicked, InForm, IsInput, IsWhole, TellsAll, TellsEnough, TellsNone, Wrote, closing, none_text, told_line}
-use Rattle.asp_top.proofs.PlainLaws.{model-same, text-same}
-use Rattle.asp_top.proofs.ToldLaws.{no-proof}
+use Rattle.asp_prepare.proofs.PlainLaws.{model-same, text-same}
+use Rattle.asp_prepare.proofs.ToldLaws.{no-proof}
 
 -- ---- what is read
 input-told : (f : Format) (left : Option (List ℕ)) (p : Program) → IfSome left (λ t. outcome_for f t ≡ Ok p) → (text : List ℕ) × (outcome_for f text ≡ Ok p) → (text : List ℕ) × (outcome_for f text ≡ Ok p) × IfSome left (λ all. all ≡ text)

@@ -36,15 +36,19 @@ use Rattle.asp_counts.specs.Telling.{AreNumbered}
 use Rattle.asp_crew_laws.specs.declared.report.Report.{Report}
 use Rattle.asp_crew_laws.specs.Reports.{IsReport, Says as SaysReport}
 use Rattle.asp_crew_laws.specs.Proofs.{HasProof}
-use Rattle.asp_top.specs.declared.deliver.Layout.{Layout}
-use Rattle.asp_top.specs.declared.prepare.Prepared.{Prepared}
 use Rattle.asp_top.specs.declared.status.Status.{Status}
 use Rattle.asp_top.specs.declared.status.Status.TheVariants.{All, NoModel, Partial, Unknown, Enough, Help, Memory, Usage, Refused, ReadFault, TooLong, Unnamed, WriteFault, Parts}
 use Rattle.asp_top.specs.declared.status.Outcome.{Outcome}
 use Rattle.asp_top.specs.declared.counts.Tally.{Tally}
 use Rattle.asp_top.specs.Loops.{HasLoops}
-use Rattle.asp_top.specs.Meaning.{has_model, mode_of, status_for}
-use Rattle.asp_top.specs.Naming.{aside_for, asked, is_named, left_for}
+use Rattle.asp_prepare.specs.declared.layout.Layout.{Layout}
+use Rattle.asp_prepare.specs.declared.prepared.Prepared.{Prepared}
+use Rattle.asp_prepare.specs.declared.prepared.Unready.{Unready}
+use Rattle.asp_prepare.specs.declared.prepared.Unready.TheVariants as unready
+use Rattle.asp_prepare.specs.Meaning.{has_model}
+use Rattle.asp_prepare.specs.Naming.{HasNumbers, WhyNot, ask_of, asked, is_named, prepared_of, searched, set_aside}
+use Rattle.asp_prepare.specs.Told.{SaysOf, report_text, report_with, told_with}
+use Rattle.asp_top.specs.Meaning.{status_for}
 use Rattle.asp_top.specs.Notes.{IsNoted, is_answered, is_written, note_of, notes_of}
 use Rattle.asp_top.specs.Parting.{AreParts, Divides}
 use Rattle.asp_top.specs.Progress.{IsTold}
@@ -89,67 +93,7 @@ abbrev pub IsGiven : Format → Option ℕ → Around → Program → Type 0
 IsGiven f None a p = IsRead f a p
 IsGiven f (Some n) a p = (p ≡ ring n) × IsUnasked a
 
--- the text of results, in the form that was asked for; `names` says whether lines tell consequences by name
-abbrev pub text_in : Form → Program → Found → Bool → Bool → List ℕ
-text_in Text p r brief names = printed_text p r brief names
-text_in Json p r brief names = json_text p r brief
-
--- the text of a report: that of its proof, if it has one, and else that of its results
-abbrev pub text_by : Option Proof → Program → Found → Layout → List ℕ
-text_by (Some proof) p r layout = text_of proof
-text_by None p r layout = text_in layout.form p r layout.brief layout.names
-
-abbrev pub report_text : Program → Report → Layout → List ℕ
-report_text p r layout = text_by r.proof p r.results layout
-
--- what is asked of the program by the options
-abbrev pub ask_of : Options → Program → Ask
-ask_of given p = record { mode = mode_of given.mode p; models = given.models; all_optima = given.all_optima; by_name = is_named given }
-
 -- ---- outputs get atoms, and facts and copies are set aside, before the search
--- the program that is searched
-abbrev pub searched : Options → Program → Program
-searched given p = left_for given (asked given p)
-
--- what is set aside before
-abbrev pub set_aside : Options → Program → Aside
-set_aside given p = aside_for given (asked given p)
-
--- what was found, each set with what was set aside
-abbrev pub found_with : Aside → Found → Found
-found_with A r = record r { answers = map (restored A) r.answers; best = option_map (λ best. (restored A best.0, best.1)) r.best; known = option_map (restored A) r.known }
-
--- the report of a search for what is left, as one on the program
-abbrev pub report_with : Aside → Report → Report
-report_with A r = record r { results = found_with A r.results }
-
--- the same where no answer is listed
-abbrev pub told_with : Aside → Report → Report
-told_with A r = record r { results = record r.results { known = option_map (restored A) r.results.known } }
-
--- what is asked by name without the names: what holds in some answer, or in each, of all atoms
-abbrev pub without_names : Ask → Ask
-without_names ask = record ask { by_name = false }
-
--- the report with this set of consequences
-abbrev pub with_known : Option Atoms → Report → Report
-with_known known r = record r { results = record r.results { known = known } }
-
--- The set told shows the same texts as this one where consequences are told by name, and else it is this one.
-abbrev pub ShowsAs : Bool → Program → Option Atoms → Option Atoms → Type 0
-ShowsAs false p known told = told ≡ known
-ShowsAs true p known told = option_map (shown p) told ≡ option_map (shown p) known
-
--- The report says of the program what was asked. By name its set of consequences isn't the program's, but shows the same texts.
-pub record SaysOf (p : Program) (ask : Ask) (r : Report) (end : End) : Type 0 where
-  pub known : Option Atoms
-  pub says : SaysReport p (without_names ask) (with_known known r) end
-  pub same : ShowsAs ask.by_name p known r.results.known
-
--- There are numbers where outputs need atoms.
-abbrev pub HasNumbers : Options → Program → Type 0
-HasNumbers given p = is_named given ≡ true → has_numbers p ≡ true
-
 -- No parts are asked for. The report is that of a run on what is left of the program, with what is asked and the units that were given;
 -- with what was set aside it says of the program what was asked, and has a proof if that was asked for. Where consequences are told by name all
 -- this is about the program with atoms for its outputs, and the texts of those are what is said.
@@ -343,15 +287,14 @@ abbrev pub IsOver : Options → Option (List ℕ) → Option (List ℕ) → ℕ 
 IsOver given left left' reads reads' status =
     (held : Option (List ℕ)) (writes : ℕ) → Runs given (around left left' reads reads' held held writes writes) (record { status = status; report = None })
 
--- what is searched of the program, and what is set aside
-abbrev pub prepared_of : Options → Program → Prepared
-prepared_of given p = record { compiled = searched given p; aside = set_aside given p }
+-- how a run ends of whose program nothing is searched
+abbrev pub status_unready : Unready → Status
+status_unready unready.Memory = Memory
+status_unready unready.Unnamed = Unnamed
 
--- why nothing is searched of a program that is there
-abbrev pub WhyNot : Options → Program → Status → Type 0
-WhyNot given p Memory = Unit {0}
-WhyNot given p Unnamed = (is_named given ≡ true) × (has_numbers p ≡ false)
-WhyNot given p status = ⊥
+-- A run ends so, since nothing is searched of its program.
+abbrev pub EndsUnready : Options → Program → Status → Type 0
+EndsUnready given p status = (why : Unready) × WhyNot given p why × (status ≡ status_unready why)
 
 -- The program is there, and what is searched of it.
 abbrev pub Prepares : Options → Option (List ℕ) → Option (List ℕ) → ℕ → ℕ → Result Prepared Status → Type 0

@@ -8,7 +8,7 @@ use Rattle.asp_counts.specs.Telling.{AreNumbered}
 use Rattle.asp_crew_laws.specs.Proofs.{HasProof}
 use Rattle.asp_crew_laws.specs.Reports.{IsReport}
 use Rattle.asp_top.proofs.RunLaws.{paid-of}
-use Rattle.asp_top.proofs.ToldLaws.{counted-by, from-ok, solves-by}
+use Rattle.asp_top.proofs.DoneLaws.{counted-by, from-ok, solves-by}
 use Rattle.asp_top.specs.Loops.{HasLoops}
 use Rattle.asp_top.proofs.search.solve_by_crew.Goals as goal
 
