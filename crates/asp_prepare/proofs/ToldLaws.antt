@@ -1,6 +1,6 @@
 -- What was found of what is left of a program, told with what was set aside: it is what was asked of the program, and its text.
-use Rattle.std.proofs.Common.{◌≡◌, ℕ, ◌+◌, Bool, true, false, not, ◌&&◌, ◌||◌, cond, List, [], ◌∷◌, ◌++◌, map, filter, length, refl, sym, ap, ◌∙◌, subst, ℤ, Contains, inl, inr}
-use Rattle.std.specs.Prelude.{Option, None, Some, Result, Ok, IfOk, IfSome, option_map, is_some, codes, decimal}
+use Rattle.std.proofs.Common.{◌≡◌, ℕ, ◌+◌, Bool, true, false, not, ◌&&◌, ◌||◌, cond, List, [], ◌∷◌, ◌++◌, map, filter, length, refl, sym, ap, ◌∙◌, subst, ℤ, Contains}
+use Rattle.std.specs.Prelude.{Option, None, Some, IfSome, option_map, is_some, codes, decimal}
 use Rattle.std.specs.List.{join_with_byte}
 use Rattle.std.proofs.lemmas.List.{length-map}
 use Rattle.asp_model.specs.declared.program.Minimize.{Minimize}
@@ -36,7 +36,7 @@ use Rattle.asp_unfold.proofs.SameLaws.{same-answers as same-unfolded, same-conse
 use Rattle.asp_proof.specs.declared.proof.Proof.{Proof}
 use Rattle.asp_crew_laws.specs.declared.report.Report.{Report}
 use Rattle.asp_crew_laws.specs.Runs.{IsBest, IsFound}
-use Rattle.asp_crew_laws.specs.Reports.{HasBest, IsAllFound, IsPart, IsPartOf, IsPriced, IsReport, Says as SaysReport}
+use Rattle.asp_crew_laws.specs.Reports.{HasBest, IsAllFound, IsPart, IsPartOf, IsPriced, Says as SaysReport}
 use Rattle.asp_crew_laws.specs.Proofs.{HasProof, HasProofAt}
 use Rattle.asp_cli.specs.declared.Options.{Options}
 use Rattle.asp_prepare.specs.Meaning.{has_model, has_model_in, mode_by, mode_of}

@@ -2,7 +2,6 @@
 use Rattle.std.proofs.Common.{◌≡◌, ◌∙◌, ℕ, ◌+◌, Bool, true, false, not, ◌&&◌, ◌||◌, cond, List, [], ◌∷◌, ◌++◌, length, map, refl, sym, ap, subst, arith}
 use Rattle.std.specs.Prelude.{ℤ, Contains, Option, None, Some, filter, option_map}
 use Rattle.std.proofs.lemmas.Bool.{false≢true}
-use Rattle.asp_model.specs.declared.program.Minimize.{Minimize}
 use Rattle.asp_model.specs.declared.program.Program.{Program}
 use Rattle.asp_model.specs.declared.results.Ask.{Ask}
 use Rattle.asp_model.specs.declared.results.End.{End}
@@ -28,7 +27,7 @@ use Rattle.asp_read.specs.Queries.{with_query}
 use Rattle.asp_series.specs.declared.ask.Sought.{Sought}
 use Rattle.asp_series.specs.declared.cores.Verdict.{Verdict}
 use Rattle.asp_series.specs.Asking.{IsSought, Judges, Refutes, Tries, one_model, verdict_by}
-use Rattle.asp_prepare.specs.Meaning.{has_model, has_model_in, is_some_of, mode_by, mode_of}
+use Rattle.asp_prepare.specs.Meaning.{has_model, has_model_in, is_some_of, mode_of}
 use Rattle.asp_prepare.specs.Naming.{asked, is_json, is_settled, searched, set_aside}
 use Rattle.asp_prepare.specs.Told.{found_with, report_with, without_names}
 use Rattle.asp_series.specs.Series.{about, is_done, is_refuted}

@@ -1,5 +1,5 @@
 -- What each status means, from what reading, solving and writing did.
-use Rattle.std.proofs.Common.{◌≡◌, ℕ, ◌<◌, ◌≤◌, Bool, true, false, cond, ◌||◌, List, [], ◌∷◌, length, refl, sym, ap, ◌∙◌, subst, inl, inr, arith}
+use Rattle.std.proofs.Common.{◌≡◌, ℕ, ◌<◌, ◌≤◌, Bool, true, false, ◌||◌, List, [], ◌∷◌, length, refl, sym, ap, ◌∙◌, subst, inl, inr, arith}
 use Rattle.std.specs.Prelude.{ℤ, Option, None, Some, Result, Ok, Err, IfErr, IfOk, IfSome, IsErrOf, OnOk, is_some}
 use Rattle.std.proofs.lemmas.Bool.{false≢true}
 use Rattle.std.proofs.KnownBytes.{Keeps-refl}
@@ -9,15 +9,8 @@ use Rattle.asp_read.specs.declared.fault.ReadError.{ReadError}
 use Rattle.asp_read.specs.declared.fault.ReadError.TheVariants as errors
 use Rattle.asp_model.specs.declared.program.Program.{Program}
 use Rattle.asp_model.specs.declared.results.Ask.{Ask}
-use Rattle.asp_model.specs.declared.results.Mode.{Mode}
-use Rattle.asp_model.specs.declared.results.Mode.TheVariants.{Enum, Opt, Consequences}
-use Rattle.asp_model.specs.Found.{Found}
 use Rattle.asp_model.specs.declared.results.End.{End}
 use Rattle.asp_model.specs.declared.results.End.TheVariants.{Finished, Limited, Unfinished}
-use Rattle.asp_model.specs.declared.program.Minimize.{Minimize}
-use Rattle.asp_model.specs.Asked.{reasoning_of}
-use Rattle.asp_model.specs.Sets.{Atoms}
-use Rattle.asp_model.specs.Texts.{bests}
 use Rattle.asp_read.specs.Judging.{most_bytes}
 use Rattle.asp_read.specs.Stream.{ReadsText}
 use Rattle.asp_cli.specs.declared.Format.{Format}
@@ -25,7 +18,7 @@ use Rattle.asp_top.specs.Formats.{StopsFor, outcome_for}
 use Rattle.asp_make.specs.Ring.{ring}
 use Rattle.asp_make.specs.Texts.{parts_text}
 use Rattle.asp_crew_laws.specs.declared.report.Report.{Report}
-use Rattle.asp_crew_laws.specs.Reports.{asks_list, IsAsked, IsReport, Says as SaysReport}
+use Rattle.asp_crew_laws.specs.Reports.{IsReport}
 use Rattle.asp_top.specs.declared.status.Status.{Status}
 use Rattle.asp_top.specs.declared.status.Status.TheVariants.{All, NoModel, Partial, Unknown, Enough, Help, Memory, Usage, Refused, ReadFault, TooLong, Unnamed, WriteFault, Parts}
 use Rattle.asp_top.specs.declared.status.Outcome.{Outcome}
@@ -38,13 +31,11 @@ use Rattle.asp_prepare.specs.Told.{report_text, report_with, told_with}
 use Rattle.asp_prepare.proofs.AskedLaws.{asked-sound, limited-has}
 use Rattle.asp_prepare.proofs.ToldLaws.{told-model, told-says, told-text}
 use Rattle.asp_top.specs.Meaning.{status_for}
-use Rattle.asp_named.specs.Named.{has_numbers, named}
-use Rattle.asp_named.proofs.LimitLaws.{sound-named}
+use Rattle.asp_named.specs.Named.{has_numbers}
 use Rattle.asp_top.specs.Notes.{is_written}
 use Rattle.asp_top.specs.Parting.{Divides, HandingMeans}
 use Rattle.asp_top.specs.Runs.{Around, DeliveryMeans, Does, DoesBy, EndsUnready, IsAnswered, IsDivided, IsExact, IsGiven, IsOver, IsReady, IsSaid, IsSentOn, IsSolved, Means, Prepares, Runs, Says, Solves, TellsClosed, around, layout_of, status_of, status_unready}
 use Rattle.asp_model.specs.Sound.{IsSound}
-use Rattle.asp_cli.specs.Found.{seeks_consequences}
 use Rattle.asp_cli.specs.declared.Options.{Options}
 
 says-at : (f : Format) (a : Around) (text : List ℕ) (said : Result Program ReadError) → a.left ≡ Some text → Says f a said → outcome_for f text ≡ said
