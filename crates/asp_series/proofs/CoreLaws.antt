@@ -1,10 +1,14 @@
 -- Cores: lists of literals, and what holds in a set that has them.
-use Rattle.std.proofs.Common.{◌≡◌, ◌∙◌, ℕ, ◌+◌, ◌≤◌, Bool, true, false, not, ◌||◌, ◌&&◌, cond, List, [], ◌∷◌, ◌++◌, length, take, drop, take-append-drop, refl, sym, ap, subst, arith}
+use Rattle.std.proofs.Common.{◌≡◌, ◌∙◌, ℕ, ◌+◌, ◌≤◌, Bool, true, false, not, ◌||◌, ◌&&◌, cond, List, [], ◌∷◌, ◌++◌, length, refl, sym, ap, subst, arith}
 use Rattle.std.specs.Prelude.{ℤ, Contains, nat_le}
 use Rattle.std.specs.Ordering.{int_eq}
-use Rattle.std.specs.List.{insert, list_all, list_any}
+use Rattle.std.specs.List.{dedup, dedup_from, list_all, list_any}
+use Rattle.std.specs.List.Retain.{DiffersFromLast, IsFiltered}
+use Rattle.std.specs.List.Sorted.{IsPermutation}
 use Rattle.std.proofs.lemmas.Bool.{and_parts, and_from, false≢true, le-leb, leb-true, or_left, or_right}
+use Rattle.std.proofs.lemmas.List.Filters.{dedup_is}
 use Rattle.std.proofs.lemmas.List.Folds.{list_any-append}
+use Rattle.std.proofs.lemmas.List.Sorted.{length_permutation, list_any-IsPermutation}
 use Rattle.asp_model.specs.declared.program.Program.{Program}
 use Rattle.asp_model.specs.Holding.{all_hold, holds}
 use Rattle.asp_model.specs.Models.{answers, is_stable, is_violated, least_model, rules_in_force}
@@ -15,7 +19,7 @@ use Rattle.asp_model.proofs.SetLaws.{same_from_has}
 use Rattle.asp_read.specs.Queries.{with_query}
 use Rattle.asp_unsat.specs.Cores.{is_listed}
 use Rattle.asp_vars.proofs.NumberingLaws.{int_eq_itself, int_eq_same}
-use Rattle.asp_series.specs.Asking.{AreAmong, IsSoundWith, Meets, Refutes}
+use Rattle.asp_series.specs.Asking.{AreAmong, AreSame, IsSoundWith, Meets, Refutes}
 use Rattle.asp_series.specs.Series.{without}
 
 -- ---- literals of lists
@@ -23,20 +27,9 @@ pub either : (P : Type 0) (a b : Bool) → (a || b) ≡ true → (a ≡ true →
 either P true b h one other = one refl
 either P false b h one other = other h
 
-or_turned : (a b e : Bool) → (a || (e || b)) ≡ ((a || b) || e)
-or_turned true b e = refl
-or_turned false true true = refl
-or_turned false true false = refl
-or_turned false false true = refl
-or_turned false false false = refl
-
 or_none : (a : Bool) → (a || false) ≡ a
 or_none true = refl
 or_none false = refl
-
-or_more : (a b c : Bool) → ((a || b) || c) ≡ (a || (b || c))
-or_more true b c = refl
-or_more false b c = refl
 
 pub listed-append : (xs ys : List ℤ) (l : ℤ) → is_listed (xs ++ ys) l ≡ (is_listed xs l || is_listed ys l)
 listed-append xs ys l = list_any-append (λ k. int_eq k l) xs ys
@@ -44,23 +37,44 @@ listed-append xs ys l = list_any-append (λ k. int_eq k l) xs ys
 pub listed-push : (xs : List ℤ) (y l : ℤ) → is_listed (xs ++ y ∷ []) l ≡ (is_listed xs l || int_eq y l)
 listed-push xs y l = listed-append xs (y ∷ []) l ∙ ap (λ (b : Bool). is_listed xs l || b) (or_none (int_eq y l))
 
-pub listed-insert : (xs : List ℤ) (i : ℕ) (y l : ℤ) → is_listed (insert xs i y) l ≡ (is_listed xs l || int_eq y l)
-listed-insert xs i y l =
-    listed-append (take i xs) (y ∷ drop i xs) l ∙ or_turned (is_listed (take i xs) l) (is_listed (drop i xs) l) (int_eq y l)
-    ∙ ap (λ (b : Bool). b || int_eq y l) (sym (listed-append (take i xs) (drop i xs) l) ∙ ap (λ (ls : List ℤ). is_listed ls l) (take-append-drop i xs))
+-- ---- a list in order, each literal once
+or_again : (a b c : Bool) → b ≡ a → (a || c) ≡ (a || (b || c))
+or_again true b c e = refl
+or_again false b c e = ap (λ (x : Bool). x || c) (sym e)
 
--- one more of the others was put in
-pub listed-more : (old now new xs : List ℤ) (y : ℤ) → ((l : ℤ) → is_listed now l ≡ (is_listed old l || is_listed xs l)) → ((l : ℤ) → is_listed new l ≡ (is_listed now l || int_eq y l)) → (l : ℤ)
-    → is_listed new l ≡ (is_listed old l || is_listed (xs ++ y ∷ []) l)
-listed-more old now new xs y was puts l =
-    puts l ∙ ap (λ (b : Bool). b || int_eq y l) (was l) ∙ or_more (is_listed old l) (is_listed xs l) (int_eq y l)
-    ∙ ap (λ (b : Bool). is_listed old l || b) (sym (listed-push xs y l))
+once-by : (k x : ℤ) (xs : List ℤ) (l : ℤ) (b : Bool) → int_eq x k ≡ b → is_listed (dedup_from int_eq k xs) l ≡ is_listed (k ∷ xs) l → is_listed (dedup_from int_eq x xs) l ≡ is_listed (x ∷ xs) l
+    → is_listed (cond b (dedup_from int_eq k xs) (k ∷ dedup_from int_eq x xs)) l ≡ is_listed (k ∷ x ∷ xs) l
+once-by k x xs l true same one other = one ∙ or_again (int_eq k l) (int_eq x l) (is_listed xs l) (ap (λ (y : ℤ). int_eq y l) (int_eq_same x k same))
+once-by k x xs l false differ one other = ap (λ (b : Bool). int_eq k l || b) other
 
--- the literals of two lists were put in
-pub listed-both : (none one two xs ys : List ℤ) → none ≡ [] → ((l : ℤ) → is_listed one l ≡ (is_listed none l || is_listed xs l)) → ((l : ℤ) → is_listed two l ≡ (is_listed one l || is_listed ys l)) → (l : ℤ)
-    → is_listed two l ≡ is_listed (xs ++ ys) l
-listed-both none one two xs ys e first second l =
-    second l ∙ ap (λ (b : Bool). b || is_listed ys l) (first l ∙ ap (λ (ls : List ℤ). is_listed ls l || is_listed xs l) e) ∙ sym (listed-append xs ys l)
+listed-once_from : (k : ℤ) (xs : List ℤ) (l : ℤ) → is_listed (dedup_from int_eq k xs) l ≡ is_listed (k ∷ xs) l
+listed-once_from k [] l = refl
+listed-once_from k (x ∷ xs) l = once-by k x xs l (int_eq x k) refl (listed-once_from k xs l) (listed-once_from x xs l)
+
+listed-once : (xs : List ℤ) (l : ℤ) → is_listed (dedup int_eq xs) l ≡ is_listed xs l
+listed-once [] l = refl
+listed-once (x ∷ xs) l = listed-once_from x xs l
+
+length-by : (k x : ℤ) (xs : List ℤ) (b : Bool) → length (dedup_from int_eq k xs) ≤ length xs + 1 → length (dedup_from int_eq x xs) ≤ length xs + 1 → length (cond b (dedup_from int_eq k xs) (k ∷ dedup_from int_eq x xs)) ≤ length (x ∷ xs) + 1
+length-by k x xs true one other = omega (arith, one)
+length-by k x xs false one other = omega (arith, other)
+
+length-once_from : (k : ℤ) (xs : List ℤ) → length (dedup_from int_eq k xs) ≤ length xs + 1
+length-once_from k [] = omega arith
+length-once_from k (x ∷ xs) = length-by k x xs (int_eq x k) (length-once_from k xs) (length-once_from x xs)
+
+length-once : (xs : List ℤ) → length (dedup int_eq xs) ≤ length xs
+length-once [] = omega arith
+length-once (x ∷ xs) = let few = length-once_from x xs in omega (arith, few)
+
+-- sorted, and repeats dropped
+pub same-once : (all sorted once : List ℤ) → IsPermutation all sorted → IsFiltered (DiffersFromLast int_eq) [] sorted once → AreSame all once
+same-once all sorted once moved kept =
+    let is = dedup_is int_eq sorted once kept in
+    record {
+      same = λ l. ap (λ (ls : List ℤ). is_listed ls l) is ∙ listed-once sorted l ∙ sym (list_any-IsPermutation (λ k. int_eq k l) all sorted moved);
+      few = let a = ap (λ (ls : List ℤ). length ls) is in let b = length-once sorted in let d = length_permutation all sorted moved in omega (arith, a, b, d);
+    }
 
 -- ---- a literal is left out
 

@@ -12,7 +12,7 @@ use Rattle.asp_vars.proofs.PlaceLaws.{at_each}
 use Rattle.asp_model.specs.declared.program.Program.{Program}
 use Rattle.asp_model.specs.Sound.{IsSound}
 use Rattle.asp_print.specs.Named.{printed_text}
-use Rattle.asp_print.specs.Queries.{core_line, query_line, query_text}
+use Rattle.asp_print.specs.Queries.{core_line, query_line}
 use Rattle.asp_read.specs.declared.series.Series.{Series}
 use Rattle.asp_read.specs.Queries.{with_query}
 use Rattle.asp_cli.specs.declared.Options.{Options}
@@ -24,7 +24,7 @@ use Rattle.asp_series.specs.declared.series.Course.{Course}
 use Rattle.asp_series.specs.declared.series.Reply.{Reply}
 use Rattle.asp_series.specs.declared.end.SeriesEnd.{SeriesEnd}
 use Rattle.asp_series.specs.declared.end.SeriesEnd.TheVariants.{All, NoModel, Partial, Unknown, Memory, WriteFault}
-use Rattle.asp_series.specs.Asking.{Breaks, EndMeans, GoesOn, IsAt, IsReason, IsReply, IsSought, StepMeans, answered_of, literals_in, minimal_in, spent_in}
+use Rattle.asp_series.specs.Asking.{Breaks, EndMeans, GoesOn, IsAt, IsReason, IsReply, IsSought, StepMeans, answered_of, literals_in, minimal_in, reply_text, spent_in}
 use Rattle.asp_prepare.specs.Meaning.{has_model}
 use Rattle.asp_prepare.specs.Naming.{set_aside}
 use Rattle.asp_prepare.specs.Told.{found_with}
@@ -58,9 +58,9 @@ reply-is given p query units s c left spent e sound sought rest reason all =
     }
 
 -- what is written of it
-pub reply-text : (given : Options) (p : Program) (query : List ℤ) (units number : ℕ) (y : Reply) → seeks_consequences (Some given.mode) ≡ false → IsReply given p query units y
-    → query_text y.sought.prepared.compiled p.outputs number y.sought.report.results (literals_in y.core) (minimal_in y.core) given.quiet given.names ≡ answered_text given p query number (answered_of y)
-reply-text given p query units number y e reply =
+pub text-answered : (given : Options) (p : Program) (query : List ℤ) (units number : ℕ) (y : Reply) → seeks_consequences (Some given.mode) ≡ false → IsReply given p query units y
+    → reply_text given p number y ≡ answered_text given p query number (answered_of y)
+text-answered given p query units number y e reply =
     let q = with_query p query in
     let r = y.sought.report.results in
     let line : List ℕ → List ℕ = λ (text : List ℕ). query_line number ++ text ++ core_line given.names p.outputs (literals_in y.core) (minimal_in y.core) in

@@ -10,24 +10,24 @@ use Rattle.asp_unsat.specs.Cores.{is_listed}
 use Rattle.asp_vars.proofs.NumberingLaws.{int_eq_same}
 use Rattle.asp_series.specs.declared.cores.Core.{Core}
 use Rattle.asp_series.specs.declared.cores.Shrinking.{Shrinking}
-use Rattle.asp_series.specs.Asking.{AreAmong, IsLeast, IsReason, IsShrunk, Meets, Refutes, Shrinks}
+use Rattle.asp_series.specs.Asking.{AreAmong, AreSame, IsLeast, IsReason, IsShrunk, IsSoundWith, Meets, Refutes, Shrinks}
 use Rattle.asp_series.specs.Series.{without}
-use Rattle.asp_series.proofs.CoreLaws.{among-without, assuming, either, gone, length-without, listed-push, meets-fewer, meets-itself, refutes-itself, refutes-more, without-among}
+use Rattle.asp_series.proofs.CoreLaws.{among-without, assuming, either, gone, length-without, listed-push, meets-fewer, meets-itself, refutes-bare, refutes-itself, refutes-more, sound-with, without-among}
 
 itself : (ls : List ℤ) → AreAmong ls ls
 itself ls = λ l h. h
 
 pub shrinks-needless : (p : Program) (l : ℤ) (s : Shrinking) (core : List ℤ) (spent left : ℕ) → s.is_open ≡ false → core ≡ without l s.core → left ≡ s.left - spent → Refutes p core
-    → Shrinks p l s (record { core = core; left = left; is_open = false })
+    → Shrinks p l s (record { core = core; left = left; is_open = s.is_open })
 shrinks-needless p l s core spent left closed is rest none =
-    subst (λ (ls : List ℤ). Shrinks p l s (record { core = ls; left = left; is_open = false })) (sym is) (record {
+    subst (λ (ls : List ℤ). Shrinks p l s (record { core = ls; left = left; is_open = s.is_open })) (sym is) (record {
       among = among-without l s.core;
       few = length-without l s.core;
       core = λ all. subst (Refutes p) is none;
-      stays = λ e. absurd (false≢true (sym closed ∙ e));
+      stays = λ e. e;
       tried = λ shut h. absurd (false≢true (sym (gone l s.core) ∙ h));
       paid = omega (arith, rest);
-      open_at = λ all e. absurd (false≢true e);
+      open_at = λ all e. absurd (false≢true (sym closed ∙ e));
     })
 
 -- ---- all of them
@@ -49,11 +49,11 @@ shrunk-more p all units tried l s t was step = record {
 }
 
 -- ---- of the program itself
-pub least-reason : (p : Program) (literals all : List ℤ) (units : ℕ) (c : Core) → IsSound p → IsSound (assuming p []) → ((l : ℤ) → is_listed all l ≡ is_listed literals l) → IsLeast (assuming p []) all units c
+pub least-reason : (p : Program) (literals all : List ℤ) (units : ℕ) (c : Core) → IsSound p → IsSound (assuming p []) → AreSame literals all → IsLeast (assuming p []) all units c
     → IsReason true p literals true units (Some c)
 least-reason p literals all units c sound bare same least = record {
   core = (
-    record { among = λ l h. sym (same l) ∙ least.core.among l h; suffices = refutes-itself p [] c.literals sound bare least.core.suffices },
+    record { among = λ l h. sym (same.same l) ∙ least.core.among l h; suffices = refutes-itself p [] c.literals sound bare least.core.suffices },
     λ e l h. meets-itself p [] (without l c.literals) sound bare (least.minimal e l h),
   );
   paid = least.paid;
@@ -62,19 +62,28 @@ least-reason p literals all units c sound bare same least = record {
 }
 
 -- all that was assumed
-pub whole-reason : (p : Program) (literals all : List ℤ) (units : ℕ) → ((l : ℤ) → is_listed all l ≡ is_listed literals l) → Refutes p literals → IsReason false p literals true units (Some (record { literals = all; minimal = false; spent = 0 }))
+pub whole-reason : (p : Program) (literals all : List ℤ) (units : ℕ) → AreSame literals all → Refutes p literals → IsReason false p literals true units (Some (record { literals = all; minimal = false; spent = 0 }))
 whole-reason p literals all units same none = record {
-  core = (record { among = λ l h. sym (same l) ∙ h; suffices = refutes-more p literals all (λ l h. same l ∙ h) none }, λ e. absurd (false≢true e));
+  core = (record { among = λ l h. sym (same.same l) ∙ h; suffices = refutes-more p literals all (λ l h. same.same l ∙ h) none }, λ e. absurd (false≢true e));
   paid = omega arith;
   plain = λ e. refl;
   spends = λ e. absurd (false≢true e);
 }
 
-pub least-reasons : {E : Type 0} (p : Program) (literals all : List ℤ) (units : ℕ) (q : Program) (least : Bool) (r : Result Core E) → IsSound p → IsSound (assuming p []) → q ≡ assuming p [] → least ≡ true
-    → ((l : ℤ) → is_listed all l ≡ is_listed literals l) → IfOk r (IsLeast q all units) → IfOk r (λ c. IsReason least p literals true units (Some c))
-least-reasons p literals all units q least (Err e) sound bare is on same h = tt
-least-reasons p literals all units q least (Ok c) sound bare is on same h =
-    subst (λ (b : Bool). IsReason b p literals true units (Some c)) (sym on) (least-reason p literals all units c sound bare same (subst (λ (x : Program). IsLeast x all units c) is h))
+pub least-reasons : {E : Type 0} (p : Program) (literals all : List ℤ) (units : ℕ) (q : Program) (r : Result Core E) → IsSound p → IsSound (assuming p []) → q ≡ assuming p [] → AreSame literals all
+    → IfOk r (IsLeast q all units) → IfOk r (λ c. IsReason true p literals true units (Some c))
+least-reasons p literals all units q (Err e) sound bare is same h = tt
+least-reasons p literals all units q (Ok c) sound bare is same h = least-reason p literals all units c sound bare same (subst (λ (x : Program). IsLeast x all units c) is h)
+
+pub nothing-assumed : (p : Program) (literals : List ℤ) → IsSound (assuming p literals) → IsSound (assuming p [])
+nothing-assumed p literals sound = (sound-with p literals [] sound (λ l h. absurd (false≢true h)) (omega arith)).itself
+
+-- what the least core is made of
+pub bare-sound : (p q : Program) (literals all : List ℤ) → q ≡ assuming p [] → IsSound (assuming p literals) → AreSame literals all → IsSoundWith q all
+bare-sound p q literals all is sound same = subst (λ (x : Program). IsSoundWith x all) (sym is) (sound-with p literals all sound (λ l h. sym (same.same l) ∙ h) same.few)
+
+pub bare-none : (p q : Program) (literals all : List ℤ) → q ≡ assuming p [] → IsSound p → IsSound (assuming p []) → AreSame literals all → Refutes p literals → Refutes q all
+bare-none p q literals all is sound bare same none = subst (λ (x : Program). Refutes x all) (sym is) (refutes-bare p [] all sound bare (refutes-more p literals all (λ l h. same.same l ∙ h) none))
 
 -- where the query has a model, or isn't finished
 pub no-reason : (least : Bool) (p : Program) (literals : List ℤ) (refuted : Bool) (units : ℕ) → refuted ≡ false → IsReason least p literals refuted units None

@@ -14,6 +14,8 @@ use Rattle.asp_model.specs.Sound.{IsSound}
 use Rattle.asp_read.specs.Queries.{with_query}
 use Rattle.asp_unsat.specs.Cores.{IsCore, is_listed}
 use Rattle.asp_cli.specs.declared.Options.{Options}
+use Rattle.asp_cli.specs.Found.{seeks_consequences}
+use Rattle.asp_print.specs.Queries.{query_text}
 use Rattle.asp_crew_laws.specs.Reports.{IsReport}
 use Rattle.asp_crew_laws.specs.Proofs.{HasProof}
 use Rattle.asp_series.specs.declared.ask.Sought.{Sought}
@@ -42,7 +44,18 @@ pub record Searches (x : Prepared) (ask : Ask) (units : ℕ) (s : Sought) : Type
 abbrev pub IsSought : Options → Program → Ask → ℕ → Sought → Type 0
 IsSought given p ask units s = Searches (prepared_of given p) ask units s
 
+-- The program may be asked with these literals: no consequences are sought, and it is within the limits.
+pub record IsAskable (given : Options) (p : Program) (literals : List ℤ) : Type 0 where
+  pub plain : seeks_consequences (Some given.mode) ≡ false
+  pub itself : IsSound p
+  pub sound : IsSound (with_query p literals)
+
 -- ---- cores
+-- the second has the literals of the first, in any order, and isn't longer
+pub record AreSame (all literals : List ℤ) : Type 0 where
+  pub same : (l : ℤ) → is_listed literals l ≡ is_listed all l
+  pub few : length literals ≤ length all
+
 -- no stable model has all of the literals
 abbrev pub Refutes : Program → List ℤ → Type 0
 Refutes p literals = (S : Atoms) → is_stable p S ≡ true → all_hold S literals ≡ false
@@ -130,6 +143,11 @@ pub record IsReason (least : Bool) (p : Program) (literals : List ℤ) (refuted 
 -- what a reply says
 abbrev pub answered_of : Reply → Answered
 answered_of y = record { done = y.sought.report; core = literals_in y.core; minimal = minimal_in y.core; spent = y.spent }
+
+-- the text of a reply to the query with this number
+abbrev pub reply_text : Options → Program → ℕ → Reply → List ℕ
+reply_text given p number y =
+    query_text y.sought.prepared.compiled p.outputs number y.sought.report.results (literals_in y.core) (minimal_in y.core) given.quiet given.names
 
 -- the reply to a query
 pub record IsReply (given : Options) (p : Program) (query : List ℤ) (units : ℕ) (y : Reply) : Type 0 where

@@ -18,6 +18,19 @@ use asp_read::asked::with_query;
 use std::alloc::{AllocError, Global};
 use std::mem;
 
+/// A program that is asked.
+#[derive(Clone, Copy)]
+pub struct Asking<'a> {
+    /// The options of the run.
+    pub options: &'a Options,
+    /// The program.
+    pub program: &'a Program,
+    /// The literals that are assumed beside those of the program.
+    pub literals: &'a [i32],
+    /// The units that there are.
+    pub units: u64,
+}
+
 /// What was searched, and what was found.
 #[derive(Drop)]
 pub struct Sought {
@@ -80,21 +93,26 @@ fn search_left<W: Watch>(
     }
 }
 
-/// Searches what is left of the program with these literals assumed.
+/// Searches what is left of the program with the literals assumed.
 pub fn seek<W: Watch>(
     alloc: Global,
-    options: &Options,
-    program: &Program,
-    literals: &[i32],
+    asking: &Asking,
     ask: Ask,
-    units: u64,
     counts: &mut Counts,
     watch: &mut W,
 ) -> Result<Sought, AllocError>
-    requires { IsSound (with_query program.now literals.now) }
-    ensures sought { IfOk result (IsSought options.now (with_query program.now literals.now) ask units) }
+    requires { IsSound (with_query asking.now.program.now asking.now.literals.now) }
+    ensures sought { IfOk result (IsSought asking.now.options.now (with_query asking.now.program.now asking.now.literals.now) ask asking.now.units) }
     ensures heard { W.IsAfter watch.old watch.new }
 {
-    let asked = with_query(alloc, program, literals)?;
-    search_left(alloc, options, asked, ask, units, counts, watch)
+    let asked = with_query(alloc, asking.program, asking.literals)?;
+    search_left(
+        alloc,
+        asking.options,
+        asked,
+        ask,
+        asking.units,
+        counts,
+        watch,
+    )
 }

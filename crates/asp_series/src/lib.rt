@@ -4,4 +4,5 @@
 pub mod ask;
 pub mod cores;
 pub mod end;
+pub mod literals;
 pub mod series;

@@ -2,21 +2,18 @@
 ghost use Rattle.std.specs.Prelude.{◌≡◌, ◌≤◌, IfErr, IfOk, OnOk, false, length, option_map, true, Some};
 ghost use Rattle.std.specs.Io.KnownBytes.{Keeps};
 ghost use Rattle.asp_cli.specs.Found.{seeks_consequences};
-ghost use Rattle.asp_model.specs.Sound.{IsSound};
-ghost use Rattle.asp_print.specs.Queries.{query_text};
-ghost use Rattle.asp_read.specs.Queries.{IsSoundSeries, with_query};
-ghost use Rattle.asp_series.specs.Asking.{EndMeans, GoesOn, IsAt, IsReply, StepMeans, answered_of, literals_in, minimal_in, spent_in};
+ghost use Rattle.asp_read.specs.Queries.{IsSoundSeries};
+ghost use Rattle.asp_series.specs.Asking.{EndMeans, GoesOn, IsAskable, IsAt, IsReply, StepMeans, answered_of, literals_in, minimal_in, reply_text, spent_in};
 ghost use Rattle.asp_faults.specs.Writing.{Writes};
 ghost use Rattle.asp_series.specs.Series.{Asks, IsSentOn, TellsClosed, TellsFaults};
 
-use crate::ask::{Sought, about, seek};
+use crate::ask::{Asking, Sought, about, seek};
 use crate::cores::{Core, core_of};
 use crate::end::SeriesEnd;
 use asp_cli::Options;
 use asp_counts::counts::Counts;
 use asp_counts::watch::Watch;
 use asp_io::{Failed, Sink};
-use asp_model::program::Program;
 use asp_model::results::End;
 use asp_prepare::told::has_model;
 use asp_print::{Query, print_query};
@@ -56,32 +53,23 @@ fn spent_in(core: &Option<Core>) -> u64
 // What is found of a query, and its core where it has no answer.
 fn answer<W: Watch>(
     alloc: Global,
-    options: &Options,
-    program: &Program,
-    query: &[i32],
-    units: u64,
+    asking: &Asking,
     counts: &mut Counts,
     watch: &mut W,
 ) -> Result<Reply, AllocError>
-    requires plain { seeks_consequences (Some options.now.mode) ≡ false }
-    requires itself { IsSound program.now }
-    requires sound { IsSound (with_query program.now query.now) }
-    ensures reply { IfOk result (IsReply options.now program.now query.now units) }
+    requires { IsAskable asking.now.options.now asking.now.program.now asking.now.literals.now }
+    ensures reply { IfOk result (IsReply asking.now.options.now asking.now.program.now asking.now.literals.now asking.now.units) }
     ensures heard { W.IsAfter watch.old watch.new }
 {
-    let ask = about(options, program);
-    let sought = seek(alloc, options, program, query, ask, units, counts, watch)?;
-    let left = units - sought.report.spent;
-    match core_of(
-        alloc,
-        options,
-        program,
-        query,
-        &sought.report.results,
-        left,
-        counts,
-        watch,
-    ) {
+    let ask = about(asking.options, asking.program);
+    let sought = seek(alloc, asking, ask, counts, watch)?;
+    let rest = Asking {
+        options: asking.options,
+        program: asking.program,
+        literals: asking.literals,
+        units: asking.units - sought.report.spent,
+    };
+    match core_of(alloc, &rest, &sought.report.results, counts, watch) {
         Ok(core) => {
             let spent = sought.report.spent + spent_in(&core);
             Ok(Reply {
@@ -118,20 +106,18 @@ fn is_minimal(core: &Option<Core>) -> bool
 // Writes the text of a query's results.
 fn write_reply<K: Sink>(
     alloc: Global,
-    options: &Options,
-    program: &Program,
+    asking: &Asking,
     number: u64,
     reply: &Reply,
     sink: &mut K,
 ) -> Result<(), Failed>
-    ensures { Writes (K.held sink.old) (K.held sink.new) (K.faults sink.old) (K.faults sink.new) result
-        (query_text reply.now.sought.prepared.compiled program.now.outputs number reply.now.sought.report.results (literals_in reply.now.core) (minimal_in reply.now.core) options.now.quiet options.now.names) }
+    ensures { Writes (K.held sink.old) (K.held sink.new) (K.faults sink.old) (K.faults sink.new) result (reply_text asking.now.options.now asking.now.program.now number reply.now) }
 {
     let query = Query {
         number,
         core: literals_of(&reply.core),
         minimal: is_minimal(&reply.core),
-        outputs: &program.outputs,
+        outputs: &asking.program.outputs,
     };
     print_query(
         alloc,
@@ -139,25 +125,23 @@ fn write_reply<K: Sink>(
         reply.sought.prepared.compiled.program(),
         query,
         &reply.sought.report.results,
-        options.quiet,
-        options.names,
+        asking.options.quiet,
+        asking.options.names,
     )
 }
 
 // Writes the text of a query's results, and flushes the sink.
 fn tell<K: Sink>(
     alloc: Global,
-    options: &Options,
-    program: &Program,
+    asking: &Asking,
     number: u64,
     reply: &Reply,
     sink: &mut K,
 ) -> Result<(), Failed>
-    ensures writes { Writes (K.held sink.old) (K.held sink.new) (K.faults sink.old) (K.faults sink.new) result
-        (query_text reply.now.sought.prepared.compiled program.now.outputs number reply.now.sought.report.results (literals_in reply.now.core) (minimal_in reply.now.core) options.now.quiet options.now.names) }
+    ensures writes { Writes (K.held sink.old) (K.held sink.new) (K.faults sink.old) (K.faults sink.new) result (reply_text asking.now.options.now asking.now.program.now number reply.now) }
     ensures sent { OnOk result (K.is_sent sink.new ≡ true) }
 {
-    write_reply(alloc, options, program, number, reply, sink)?;
+    write_reply(alloc, asking, number, reply, sink)?;
     sink.flush()
 }
 
@@ -183,22 +167,20 @@ fn go_on(course: Course, reply: &Reply) -> Result<Course, SeriesEnd>
 // Writes what was found of a query, and says what follows.
 fn hand_over<K: Sink>(
     alloc: Global,
-    options: &Options,
-    program: &Program,
-    query: &[i32],
+    asking: &Asking,
     number: u64,
     course: Course,
     reply: &Reply,
     sink: &mut K,
 ) -> Result<Course, SeriesEnd>
-    requires plain { seeks_consequences (Some options.now.mode) ≡ false }
-    requires reply { IsReply options.now program.now query.now course.left reply.now }
-    ensures means { StepMeans options.now program.now query.now number course (K.held sink.old) (K.held sink.new) (K.faults sink.old) (K.faults sink.new) result }
+    requires plain { seeks_consequences (Some asking.now.options.now.mode) ≡ false }
+    requires reply { IsReply asking.now.options.now asking.now.program.now asking.now.literals.now course.left reply.now }
+    ensures means { StepMeans asking.now.options.now asking.now.program.now asking.now.literals.now number course (K.held sink.old) (K.held sink.new) (K.faults sink.old) (K.faults sink.new) result }
     ensures sent_on { OnOk result (K.is_sent sink.new ≡ true) }
     ensures sent { IfErr result (λ s. IsSentOn s (K.is_sent sink.new)) }
     ensures closed { IfErr result (λ s. TellsClosed s (K.is_closed sink.new)) }
 {
-    match tell(alloc, options, program, number, reply, sink) {
+    match tell(alloc, asking, number, reply, sink) {
         Ok(()) => go_on(course, reply),
         Err(Failed) => Err(SeriesEnd::WriteFault(sink.is_closed())),
     }
@@ -207,27 +189,24 @@ fn hand_over<K: Sink>(
 // Asks one query. What was found is written, and sent on, before the next begins.
 fn step<K: Sink, W: Watch>(
     alloc: Global,
-    options: &Options,
-    program: &Program,
-    query: &[i32],
+    asking: &Asking,
     number: u64,
     course: Course,
     sink: &mut K,
     counts: &mut Counts,
     watch: &mut W,
 ) -> Result<Course, SeriesEnd>
-    requires plain { seeks_consequences (Some options.now.mode) ≡ false }
-    requires itself { IsSound program.now }
-    requires sound { IsSound (with_query program.now query.now) }
-    ensures means { StepMeans options.now program.now query.now number course (K.held sink.old) (K.held sink.new) (K.faults sink.old) (K.faults sink.new) result }
+    requires askable { IsAskable asking.now.options.now asking.now.program.now asking.now.literals.now }
+    requires units { course.left ≡ asking.now.units }
+    ensures means { StepMeans asking.now.options.now asking.now.program.now asking.now.literals.now number course (K.held sink.old) (K.held sink.new) (K.faults sink.old) (K.faults sink.new) result }
     ensures sent_on { OnOk result (K.is_sent sink.new ≡ true) }
     ensures sent { IfErr result (λ s. IsSentOn s (K.is_sent sink.new)) }
     ensures closed { IfErr result (λ s. TellsClosed s (K.is_closed sink.new)) }
     ensures heard { W.IsAfter watch.old watch.new }
 {
-    match answer(alloc, options, program, query, course.left, counts, watch) {
+    match answer(alloc, asking, counts, watch) {
         Ok(reply) => {
-            let next = hand_over(alloc, options, program, query, number, course, &reply, sink);
+            let next = hand_over(alloc, asking, number, course, &reply, sink);
             mem::drop(reply);
             next
         }
@@ -259,19 +238,15 @@ fn ask_each<K: Sink, W: Watch>(
     };
     let queries = series.queries.as_slice();
     for i in 0..queries.len() {
-        match step(
-            alloc,
+        let asking = Asking {
             options,
-            &series.program,
-            queries[i].as_slice(),
-            i as u64 + 1,
-            course,
-            sink,
-            counts,
-            watch,
-        ) {
+            program: &series.program,
+            literals: queries[i].as_slice(),
+            units: course.left,
+        };
+        match step(alloc, &asking, i as u64 + 1, course, sink, counts, watch) {
             Ok(next) => course = next,
-            Err(status) => return Err(status),
+            Err(end) => return Err(end),
         }
     }
     Ok(course)

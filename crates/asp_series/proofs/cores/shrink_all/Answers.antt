@@ -10,20 +10,22 @@ use Rattle.asp_series.proofs.cores.shrink_all.Goals as goal
 pub shrink-requires-clause-sound : goal.shrink-requires-clause-sound
 shrink-requires-clause-sound g c =
     let was = c.loop-literal.invariant.shrunk in
-    sound-shrunk c.args.bare.now c.args.literals.now c.loop-literal.state.core c.requires.sound was.among was.few
+    sound-shrunk c.args.asking.now.program.now c.args.asking.now.literals.now c.loop-literal.state.core c.requires.sound was.among was.few
 
 pub loop-literal-preserved : goal.loop-literal-preserved
 loop-literal-preserved g c =
-    let xs = c.args.literals.now in
+    let p = c.args.asking.now.program.now in
+    let xs = c.args.asking.now.literals.now in
+    let left = c.args.state.now.left in
     let i = c.loop-literal.literal-index in
     let back = to_z-of_z w32 (get_or xs i (pos 0)) (search rules) in
     record {
-      shrunk = subst (λ (ls : List ℤ). IsShrunk c.args.bare.now xs c.args.start.left ls c.in_ok-state.state)
+      shrunk = subst (λ (ls : List ℤ). IsShrunk p xs left ls c.shrink.new.state)
           (ap (λ (y : ℤ). take i xs ++ y ∷ []) back ∙ sym (take_more xs i (pos 0) (omega arith)))
-          (shrunk-more c.args.bare.now xs c.args.start.left (take i xs) _ c.loop-literal.state c.in_ok-state.state c.loop-literal.invariant.shrunk c.in_ok-state.ensures.shrinks);
-      heard = g.met.W.Watch.goes_on c.args.watch.now c.loop-literal.watch c.shrink.new.watch c.loop-literal.invariant.heard c.in_ok-state.ensures.heard;
+          (shrunk-more p xs left (take i xs) _ c.loop-literal.state c.shrink.new.state c.loop-literal.invariant.shrunk c.in_ok-shrink.ensures.shrinks);
+      heard = g.met.W.Watch.goes_on c.args.watch.now c.loop-literal.watch c.shrink.new.watch c.loop-literal.invariant.heard c.in_ok-shrink.ensures.heard;
     }
 
 pub returns-clause-shrunk : goal.returns-clause-shrunk
 returns-clause-shrunk g c =
-    shrunk-all c.args.bare.now c.args.literals.now c.args.start.left c.loop-literal.literal-index c.loop-literal.state (omega arith) c.loop-literal.invariant.shrunk
+    shrunk-all c.args.asking.now.program.now c.args.asking.now.literals.now c.args.state.now.left c.loop-literal.literal-index c.loop-literal.state (omega arith) c.loop-literal.invariant.shrunk

@@ -4,10 +4,12 @@ use Rattle.asp_series.specs.Asking.{IsAt}
 use Rattle.asp_series.proofs.SeriesLaws.{asks-flushed, at-more, at-stops, next-query, sound-query}
 use Rattle.asp_series.proofs.series.ask_each.Goals as goal
 
-pub step-requires-clause-sound : goal.step-requires-clause-sound
-step-requires-clause-sound g c =
+pub step-requires-clause-askable : goal.step-requires-clause-askable
+step-requires-clause-askable g c =
+    let sound =
     sound-query c.args.series.now.program c.args.series.now.queries c.as_slice-queries.result.now c.loop-i.i c.index-queries-i.result c.as_slice.result.now c.as_slice-queries.ensures.value c.loop-i-test.true c.index-queries-i.is
-    c.as_slice.ensures.value c.requires.sound.queries
+    c.as_slice.ensures.value c.requires.sound.queries in
+    record { plain = c.requires.plain; itself = c.requires.sound.program; sound = sound }
 
 pub loop-i-preserved : goal.loop-i-preserved
 loop-i-preserved g c =
