@@ -51,7 +51,8 @@ marked_begins vars n es top m o u e =
 pub all_on : (vars : ℕ) (es : List Entry) (lits : List Literal) → IsOrdered vars es → AreContained vars es lits → All (λ l. IsOn es l) lits
 all_on vars es lits o a i d h = holds_on vars es (get_or lits i d) o (a i d h)
 
-pub all_small : (vars n : ℕ) (es : List Entry) (m : Marked) (lits : List Literal) → IsOrdered vars es → AreUpTo n es → m ≡ unmarked (n + 1) → All (λ l. IsOn es l) lits → All (λ l. l.var < length m.marks) lits
+pub all_small : (vars n : ℕ) (es : List Entry) (m : Marked) (lits : List Literal) → IsOrdered vars es → AreUpTo n es → m ≡ unmarked (n + 1) →
+    All (λ l. IsOn es l) lits → All (λ l. l.var < length m.marks) lits
 all_small vars n es m lits o u e a i d h =
     omega (arith, begun_small vars n es (get_or lits i d) o u (a i d h), ap (λ (x : Marked). length x.marks) e, length-clean (n + 1))
 
@@ -60,14 +61,16 @@ pub all_stay : (es : List Entry) (top : ℕ) (m : Marked) (lits : List Literal) 
 all_stay es top m lits a b i d h u = record { on = a i d h; level = b i d h }
 
 -- a variable that was met is open
-begun_open : (es : List Entry) (n v : ℕ) (old new : Marked) (lits : List Literal) → old ≡ unmarked (n + 1) → Noted es old new lits → is_met (mark_of new.marks v) ≡ true → is_open (mark_of new.marks v) ≡ true
+begun_open : (es : List Entry) (n v : ℕ) (old new : Marked) (lits : List Literal) → old ≡ unmarked (n + 1) → Noted es old new lits →
+    is_met (mark_of new.marks v) ≡ true → is_open (mark_of new.marks v) ≡ true
 begun_open es n v old new lits e t h =
     elim (t.changed v) [
       | inl q ↦ absurd (false≢true (ap is_met (sym (q ∙ (ap (λ (x : Marked). mark_of x.marks v) e ∙ clean_at (n + 1) v))) ∙ h))
       | inr c ↦ c.open_now
     ]
 
-pub way_begins : (vars n : ℕ) (es : List Entry) (says : Literal → ℕ → Nogood → Type 0) (from : Nogood) (top : ℕ) (old new : Marked) (b : Base) → IsOrdered vars es → old ≡ unmarked (n + 1) → b ≡ from.base →
+pub way_begins : (vars n : ℕ) (es : List Entry) (says : Literal → ℕ → Nogood → Type 0) (from : Nogood) (top : ℕ) (old new : Marked) (b : Base) →
+    IsOrdered vars es → old ≡ unmarked (n + 1) → b ≡ from.base →
     AreMarked es top new → Noted es old new from.lits → IsOnTheWay es says from top new b
 way_begins vars n es says from top old new b o e q a t = record {
   marked = a;
@@ -97,7 +100,8 @@ open_top top level reason mark.Kept f o p q = absurd (omega (arith, f.1 (omega (
 open_top top level reason mark.Resolved f o p q = absurd (false≢true o)
 open_top top level reason mark.Needed f o p q = absurd (false≢true o)
 
-pub down_begins : (vars n : ℕ) (es : List Entry) (lits : List Literal) (top : ℕ) (old new : Marked) → old ≡ unmarked (n + 1) → All (λ l. IsOn es l) lits → AreMarked es top new → Noted es old new lits →
+pub down_begins : (vars n : ℕ) (es : List Entry) (lits : List Literal) (top : ℕ) (old new : Marked) → old ≡ unmarked (n + 1) →
+    All (λ l. IsOn es l) lits → AreMarked es top new → Noted es old new lits →
     (0 < top → (l : Literal) × (has_literal lits l ≡ true) × (level_in es l.var ≡ top)) → 0 < top → IsDown es (length es) new.marks
 down_begins vars n es lits top old new e on a t f p =
     let k = f p in

@@ -155,7 +155,8 @@ covers_needed es says from marks used v h o c = record {
     met w g = set_cases (λ x. is_met x ≡ true) marks v w mark.Needed h
         (λ q. absurd (false≢true (sym (met_clean (mark_of marks w) g) ∙ (ap (λ (u : ℕ). is_clean (mark_of marks u)) q ∙ o)))) (λ ne. g)
 
-pub way_needed : (es : List Entry) (says : Literal → ℕ → Nogood → Type 0) (from : Nogood) (top : ℕ) (old new : Marked) (b : Base) (lit : Literal) → IsOn es lit → is_clean (mark_of old.marks lit.var) ≡ true →
+pub way_needed : (es : List Entry) (says : Literal → ℕ → Nogood → Type 0) (from : Nogood) (top : ℕ) (old new : Marked) (b : Base) (lit : Literal) →
+    IsOn es lit → is_clean (mark_of old.marks lit.var) ≡ true →
     0 < level_in es lit.var → level_in es lit.var < top → new ≡ record { marks = set old.marks lit.var mark.Needed; lits = old.lits ++ lit ∷ [] } →
     IsOnTheWay es says from top old b → IsOnTheWay es says from top new b
 way_needed es says from top old new b lit on c low high e w = record {
@@ -183,7 +184,8 @@ goes_needed es top old new lit a on c e = record {
     at P w p q = subst (λ (ms : Marked). P (mark_of ms.marks w)) (sym e) (set_cases P old.marks lit.var w mark.Needed (a.small lit on) p q)
 
 -- ---- the first of the marked literals
-pub listed_on : (es : List Entry) (top i : ℕ) (m : Marked) (lit : Literal) → AreMarked es top m → i < length m.lits → lit ≡ get_or m.lits i lit → IsOn es lit × (is_clean (mark_of m.marks lit.var) ≡ false)
+pub listed_on : (es : List Entry) (top i : ℕ) (m : Marked) (lit : Literal) → AreMarked es top m → i < length m.lits → lit ≡ get_or m.lits i lit →
+    IsOn es lit × (is_clean (mark_of m.marks lit.var) ≡ false)
 listed_on es top i m lit a h q = a.within lit (subst (λ (l : Literal). has_literal m.lits l ≡ true) (sym q) (has_at m.lits i lit h))
 
 pub settled_more : (es : List Entry) (top : ℕ) (old new : Marked) (i : ℕ) (lit d : Literal) → AreMarked es top old → Goes es old new → i < length old.lits → lit ≡ get_or old.lits i d →

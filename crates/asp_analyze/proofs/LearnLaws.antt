@@ -85,7 +85,8 @@ resolved_true vars es from to used v o reached hit none (suc n) l i b q s h =
     place : Stands es u.lit i b
     place = subst (λ (k : Literal). Stands es k i b) (sym is) s
 
-    other : ((k : Literal) (j c : ℕ) → is_resolved used k ≡ true → Stands es k j c → j < n → is_true v k ≡ true) → (k : Literal) → has_literal u.nogood.lits k ≡ true → k ≢ complement u.lit → is_true v k ≡ true
+    other : ((k : Literal) (j c : ℕ) → is_resolved used k ≡ true → Stands es k j c → j < n → is_true v k ≡ true) → (k : Literal) →
+        has_literal u.nogood.lits k ≡ true → k ≢ complement u.lit → is_true v k ≡ true
     other before k g ne =
         let e = reason_before vars es u.lit u.nogood o on t.reason k g ne in
         elim (or_cases (has_literal to.lits k) (is_resolved used k) (reached.others at.0 d at.1 k g ne)) [
@@ -93,7 +94,8 @@ resolved_true vars es from to used v o reached hit none (suc n) l i b q s h =
           | inr a ↦ before k e.on.place (level_in es k.var) a e.on.stands (omega (arith, e.before i b place, h))
         ]
 
-    each : ((k : Literal) (j c : ℕ) → is_resolved used k ≡ true → Stands es k j c → j < n → is_true v k ≡ true) → is_true v u.lit ≡ false → (k : Literal) → has_literal u.nogood.lits k ≡ true → (c : Bool) → c ≡ literal_eq k (complement u.lit) → is_true v k ≡ true
+    each : ((k : Literal) (j c : ℕ) → is_resolved used k ≡ true → Stands es k j c → j < n → is_true v k ≡ true) → is_true v u.lit ≡ false →
+        (k : Literal) → has_literal u.nogood.lits k ≡ true → (c : Bool) → c ≡ literal_eq k (complement u.lit) → is_true v k ≡ true
     each before f k g true e = subst (λ (x : Literal). is_true v x ≡ true) (sym (same_literal k (complement u.lit) (sym e))) (is_true-complement v u.lit ∙ ap not f)
     each before f k g false e = other before k g (eq_differ k (complement u.lit) (sym e))
 

@@ -50,7 +50,15 @@ listed_after marks lits more v m h grow here old w c = cases (eqb w v) refl
 pub marks_added : (marks : List Mark) (lits : List Literal) (p room more : ℕ) (l : Literal) (m : Mark) → AreMarks marks lits p room → room ≤ more → l.var < length marks →
     is_clean (mark_of marks l.var) ≡ true → is_clean m ≡ false → AreMarks (set marks l.var m) (lits ++ l ∷ []) (p + ones m) more
 marks_added marks lits p room more l m a r h c k = record {
-  counted = omega (arith, a.counted, length-append lits (l ∷ []), length-set marks l.var m, sum_by-set clear_ones marks l.var m mark.Clean h, ap {B = ℕ} (λ (b : Bool). cond b 1 0) c, ap {B = ℕ} (λ (b : Bool). cond b 1 0) k);
+  counted = omega (
+    arith,
+    a.counted,
+    length-append lits (l ∷ []),
+    length-set marks l.var m,
+    sum_by-set clear_ones marks l.var m mark.Clean h,
+    ap {B = ℕ} (λ (b : Bool). cond b 1 0) c,
+    ap {B = ℕ} (λ (b : Bool). cond b 1 0) k,
+  );
   waiting = omega (arith, a.waiting, sum_by-set ones marks l.var m mark.Clean h, clean_ones (mark_of marks l.var) c);
   roomy = omega (arith, a.roomy, r, length-set marks l.var m);
   listed = listed_after marks lits (lits ++ l ∷ []) l.var m h (has_more lits (l ∷ [])) (l, has_last lits l, refl) a.listed;

@@ -25,7 +25,8 @@ all_front P xs x a i d h = subst P (get_or_append_left xs (x ∷ []) d i h) (a i
 pub can_last : (es : List Entry) (top : ℕ) (m : Marked) (path front : List Look) (last : Look) → path ≡ front ++ last ∷ [] → All (λ f. CanGo es top m f.lit) path → CanGo es top m last.lit
 can_last es top m path front last e a = all_last (λ f. CanGo es top m f.lit) front last (subst (λ (xs : List Look). All (λ f. CanGo es top m f.lit) xs) e a)
 
-pub can_front : (es : List Entry) (top : ℕ) (m : Marked) (path front : List Look) (last : Look) → path ≡ front ++ last ∷ [] → All (λ f. CanGo es top m f.lit) path → All (λ f. CanGo es top m f.lit) front
+pub can_front : (es : List Entry) (top : ℕ) (m : Marked) (path front : List Look) (last : Look) → path ≡ front ++ last ∷ [] →
+    All (λ f. CanGo es top m f.lit) path → All (λ f. CanGo es top m f.lit) front
 can_front es top m path front last e a = all_front (λ f. CanGo es top m f.lit) front last (subst (λ (xs : List Look). All (λ f. CanGo es top m f.lit) xs) e a)
 
 -- one that can go still can later

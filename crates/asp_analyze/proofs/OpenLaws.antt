@@ -144,7 +144,8 @@ base_after-push b [] u = refl
 base_after-push b (w ∷ used) u = base_after-push (joined b w.nogood.base) used u
 
 -- the reason counts among those used, and its literals were met
-covers_opened : (vars : ℕ) (es : List Entry) (says : Literal → ℕ → Nogood → Type 0) (from : Nogood) (old mid new : Marked) (lit : Literal) (id : ℕ) (n : Nogood) (used : List Used) → IsOrdered vars es → AreReasons says es →
+covers_opened : (vars : ℕ) (es : List Entry) (says : Literal → ℕ → Nogood → Type 0) (from : Nogood) (old mid new : Marked) (lit : Literal) (id : ℕ)
+    (n : Nogood) (used : List Used) → IsOrdered vars es → AreReasons says es →
     IsOn es lit → reason_in es lit.var ≡ Some id → says lit id n → Opened es lit old new → Noted es mid new n.lits → mark_of mid.marks lit.var ≡ mark.Resolved →
     ((v : ℕ) → v ≢ lit.var → mark_of mid.marks v ≡ mark_of old.marks v) → Covers es says from old.marks used →
     Covers es says from new.marks (used ++ record { lit = lit; nogood = n } ∷ [])

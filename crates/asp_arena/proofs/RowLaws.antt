@@ -48,7 +48,8 @@ any : Literal
 any = record { var = 0; truth = true }
 
 -- two cells of the span change places
-cells_of-swap_in : (cells : List Literal) (s : Span) (i j : ℕ) → s.start + s.len ≤ length cells → i < s.len → j < s.len → cells_of (swap cells (s.start + i) (s.start + j)) s ≡ swap (cells_of cells s) i j
+cells_of-swap_in : (cells : List Literal) (s : Span) (i j : ℕ) → s.start + s.len ≤ length cells → i < s.len → j < s.len →
+    cells_of (swap cells (s.start + i) (s.start + j)) s ≡ swap (cells_of cells s) i j
 cells_of-swap_in cells s i j w hi hj =
     let x : Literal = get_or cells (s.start + i) any in
     let y : Literal = get_or cells (s.start + j) any in
@@ -60,7 +61,8 @@ cells_of-swap_in cells s i j w hi hj =
     ∙ (ap (λ (z : Literal). set (set (cells_of cells s) i (get_or (cells_of cells s) j any)) j z) (sym (cells_of-at cells s i any hi))
     ∙ swap_is (cells_of cells s) i j any (omega (arith, n, hi)) (omega (arith, n, hj))))))
 
-cells_of-swap_out : (cells : List Literal) (s t : Span) (i j : ℕ) → AreApart t s → s.start + s.len ≤ length cells → i < s.len → j < s.len → cells_of (swap cells (s.start + i) (s.start + j)) t ≡ cells_of cells t
+cells_of-swap_out : (cells : List Literal) (s t : Span) (i j : ℕ) → AreApart t s → s.start + s.len ≤ length cells → i < s.len → j < s.len →
+    cells_of (swap cells (s.start + i) (s.start + j)) t ≡ cells_of cells t
 cells_of-swap_out cells s t i j a w hi hj =
     let x : Literal = get_or cells (s.start + i) any in
     let y : Literal = get_or cells (s.start + j) any in

@@ -64,12 +64,14 @@ spans_set spans cells id s h lt w a = record {
     apart j k d l m (inr n) (inr o) = both j k d (get_or spans j d) (get_or spans k d) (there j d n) (there k d o) (h.apart j k d l m)
 
 -- a span behind all cells, with more of them
-pub spans_put : (spans : List Span) (cells lits : List Literal) (id : ℕ) (s : Span) → AreSpans spans cells → id < length spans → s.start ≡ length cells → s.len ≡ length lits → AreSpans (set spans id s) (cells ++ lits)
+pub spans_put : (spans : List Span) (cells lits : List Literal) (id : ℕ) (s : Span) → AreSpans spans cells → id < length spans →
+    s.start ≡ length cells → s.len ≡ length lits → AreSpans (set spans id s) (cells ++ lits)
 spans_put spans cells lits id s h lt a b =
     spans_set spans (cells ++ lits) id s (spans_append spans cells lits h) lt (omega (arith, a, b, length-append cells lits)) (λ k d l ne. inl (omega (arith, h.within k d l, a)))
 
 -- a span that changes no place
-pub spans_stay : (spans : List Span) (cells : List Literal) (id : ℕ) (s t : Span) → AreSpans spans cells → id < length spans → s ≡ get_or spans id s → t.start ≡ s.start → t.len ≡ s.len → AreSpans (set spans id t) cells
+pub spans_stay : (spans : List Span) (cells : List Literal) (id : ℕ) (s t : Span) → AreSpans spans cells → id < length spans → s ≡ get_or spans id s →
+    t.start ≡ s.start → t.len ≡ s.len → AreSpans (set spans id t) cells
 spans_stay spans cells id s t h lt e a b =
     spans_set spans cells id t h lt (omega (arith, a, b, h.within id s lt, ap (λ (x : Span). x.start) e, ap (λ (x : Span). x.len) e))
     (λ k d l ne. moved (get_or spans k d) (subst (λ (x : Span). AreApart (get_or spans k d) x) (get_or_default spans id d s lt ∙ sym e) (apart_at spans cells k id d h l lt ne)))

@@ -83,7 +83,15 @@ least-of P (Some c) None p q = p
 least-of P (Some c) (Some d) p q = smaller-of P c d p q
 
 pub IsOwnFuel-back : (b c : Board) (s left burnt : ℕ) (u v w : Units) → c ≡ happens b (event.Back s left burnt) → left ≡ v.left → burnt ≡ v.burnt
-    → w ≡ record { program = u.program; left = u.left + v.left; burnt = u.burnt + v.burnt; reasoned = u.reasoned || v.reasoned; known = max u.known v.known; least = least_of u.least v.least } → Fits b v → IsOwnFuel b u → IsOwnFuel c w
+    → w ≡ record {
+      program = u.program;
+      left = u.left + v.left;
+      burnt = u.burnt + v.burnt;
+      reasoned = u.reasoned || v.reasoned;
+      known =
+          max u.known v.known;
+      least = least_of u.least v.least;
+    } → Fits b v → IsOwnFuel b u → IsOwnFuel c w
 IsOwnFuel-back b c s left burnt u v w now l r merged fits is =
     subst (λ (x : Board). IsOwnFuel x w) (sym now) (subst (IsOwnFuel (happens b (event.Back s left burnt))) (sym merged) (record {
       fits = record {

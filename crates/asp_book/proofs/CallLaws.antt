@@ -63,7 +63,8 @@ module _ (v : Knows) (b : Booked) (learnt : Learnt signed v b.journal) (about : 
   board-is = ap (λ (t : Task). replay t b.journal) (task-is v b.task about)
 
   -- the call by which the book became b'
-  pub call-of : (u w : Knows) (m : ℕ) (journal added : List Event) → u ≡ holding b.journal (after_misses m v) → w ≡ given_back journal u → IsJournalOf b.task journal → journal ≡ b.journal ++ added → IsCall v w b.journal added
+  pub call-of : (u w : Knows) (m : ℕ) (journal added : List Event) → u ≡ holding b.journal (after_misses m v) → w ≡ given_back journal u →
+      IsJournalOf b.task journal → journal ≡ b.journal ++ added → IsCall v w b.journal added
   call-of u w m journal added took gave keeps is = record {
     moment = moment_of signed (IsJournalOf (task_of v)) v u w m b.journal added took (gave ∙ ap (λ (l : List Event). given_back l u) is) learnt
         (subst (λ (t : Task). IsJournalOf t (b.journal ++ added)) (sym (task-is v b.task about)) (subst (IsJournalOf b.task) is keeps));

@@ -67,7 +67,8 @@ module _ (v u : Knows) (b : Booked) (n : ℕ) (has : HasTaken v u b n) where
   )
 
   -- ---- what the call tells
-  pub adds : {A E : Type 0} (c : Booked) (events : ℕ → A → List Event) → ((k : ℕ) (x : A) → OnlyBy signed k (events k x)) → (r : Result A E) → IfOk r (λ x. c ≡ with_events b (events n x)) → OnErr r (c ≡ b) → Adds u c.journal
+  pub adds : {A E : Type 0} (c : Booked) (events : ℕ → A → List Event) → ((k : ℕ) (x : A) → OnlyBy signed k (events k x)) → (r : Result A E) →
+      IfOk r (λ x. c ≡ with_events b (events n x)) → OnErr r (c ≡ b) → Adds u c.journal
   adds {A = A} {E = E} c events by r ok err = (
     events_by (events n) r,
     journal-after b c (events n) r ok err ∙ ap (λ (l : List Event). l ++ events_by (events n) r) (sym (ap (λ (x : Knows). x.seen) has.took)),
@@ -83,17 +84,20 @@ module _ (v u : Knows) (b : Booked) (n : ℕ) (has : HasTaken v u b n) where
 
   module _ (w : Knows) (c : Booked) (gave : w ≡ given_back c.journal u) where
     pub stays : {A E : Type 0} (events : ℕ → A → List Event) (r : Result A E) → IfOk r (λ x. c ≡ with_events b (events n x)) → OnErr r (c ≡ b) → Stays v w
-    stays events r ok err = stays_by signed v u w has.misses b.journal (events_by (events n) r) has.took (gave ∙ ap (λ (l : List Event). given_back l u) (journal-after b c (events n) r ok err)) has.learnt
+    stays events r ok err = stays_by signed v u w has.misses b.journal (events_by (events n) r) has.took
+        (gave ∙ ap (λ (l : List Event). given_back l u) (journal-after b c (events n) r ok err)) has.learnt
 
     pub stays_surely : {A : Type 0} (events : ℕ → A → List Event) (x : A) → c ≡ with_events b (events n x) → Stays v w
     stays_surely {A = A} events x is = stays {A = A} {E = Unit {0}} events (Ok x) is tt
 
-    called : {A E : Type 0} (events : ℕ → A → List Event) (r : Result A E) → IsJournalOf c.task c.journal → IfOk r (λ x. c ≡ with_events b (events n x)) → OnErr r (c ≡ b) → IsCall v w b.journal (events_by (events n) r)
+    called : {A E : Type 0} (events : ℕ → A → List Event) (r : Result A E) → IsJournalOf c.task c.journal →
+        IfOk r (λ x. c ≡ with_events b (events n x)) → OnErr r (c ≡ b) → IsCall v w b.journal (events_by (events n) r)
     called events r keeps ok err =
         call-of v b has.learnt has.about has.sound u w has.misses c.journal (events_by (events n) r) has.took gave
         (subst (λ (t : Task). IsJournalOf t c.journal) (task-after b c (events n) r ok err) keeps) (journal-after b c (events n) r ok err)
 
-    pub replies : {A E : Type 0} (events : ℕ → A → List Event) (Says : Board → A → Type 0) (r : Result A E) → IsJournalOf c.task c.journal → IfOk r (λ x. c ≡ with_events b (events n x)) → OnErr r (c ≡ b) → IfOk r (Says (board b))
+    pub replies : {A E : Type 0} (events : ℕ → A → List Event) (Says : Board → A → Type 0) (r : Result A E) → IsJournalOf c.task c.journal →
+        IfOk r (λ x. c ≡ with_events b (events n x)) → OnErr r (c ≡ b) → IfOk r (Says (board b))
         → IfOk r (λ x. (before : List Event) × Says (replay (task_of v) before) x × IsCall v w before (events v.number x))
     replies {A = A} {E = E} events Says (Ok x) keeps ok err says = (
       b.journal,
@@ -102,11 +106,13 @@ module _ (v u : Knows) (b : Booked) (n : ℕ) (has : HasTaken v u b n) where
     )
     replies events Says (Err e) keeps ok err says = tt
 
-    pub done : {A E : Type 0} (events : ℕ → A → List Event) (r : Result A E) → IsJournalOf c.task c.journal → IfOk r (λ x. c ≡ with_events b (events n x)) → OnErr r (c ≡ b) → IfOk r (λ x. (before : List Event) × IsCall v w before (events v.number x))
+    pub done : {A E : Type 0} (events : ℕ → A → List Event) (r : Result A E) → IsJournalOf c.task c.journal →
+        IfOk r (λ x. c ≡ with_events b (events n x)) → OnErr r (c ≡ b) → IfOk r (λ x. (before : List Event) × IsCall v w before (events v.number x))
     done {A = A} {E = E} events (Ok x) keeps ok err = (b.journal, subst (λ k. IsCall v w b.journal (events k x)) number-is (called {A = A} {E = E} events (Ok x) keeps ok err))
     done events (Err e) keeps ok err = tt
 
-    pub refuses : {A E : Type 0} (events : ℕ → A → List Event) (r : Result A E) → IsJournalOf c.task c.journal → IfOk r (λ x. c ≡ with_events b (events n x)) → OnErr r (c ≡ b) → OnErr r ((before : List Event) × IsCall v w before [])
+    pub refuses : {A E : Type 0} (events : ℕ → A → List Event) (r : Result A E) → IsJournalOf c.task c.journal →
+        IfOk r (λ x. c ≡ with_events b (events n x)) → OnErr r (c ≡ b) → OnErr r ((before : List Event) × IsCall v w before [])
     refuses events (Ok x) keeps ok err = tt
     refuses {A = A} {E = E} events (Err e) keeps ok err = (b.journal, called {A = A} {E = E} events (Err e) keeps ok err)
 

@@ -44,7 +44,8 @@ less-front : (xs : List Listing) (x : Listing) (ys : List Listing) → length xs
 less-front xs x ys = omega (arith, length-append xs (x ∷ ys))
 
 -- ---- what the reply says
-pub lists-enough : (by : ℕ) (b : Board) (found front : List Listing) (x : Listing) (ys : List Listing) → found ≡ front ++ x ∷ ys → is_enough (run b (deliveries by front)) ≡ true → Lists by b found (Ok false) front
+pub lists-enough : (by : ℕ) (b : Board) (found front : List Listing) (x : Listing) (ys : List Listing) → found ≡ front ++ x ∷ ys →
+    is_enough (run b (deliveries by front)) ≡ true → Lists by b found (Ok false) front
 lists-enough by b found front x ys is enough = record {
   begins = (x ∷ ys, sym is);
   all = λ e. absurd (false≢true e);

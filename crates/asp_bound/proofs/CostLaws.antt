@@ -52,11 +52,13 @@ items-stand p q =
     let D = map (λ (e : External). e.atom) p.externals in
     let E = map atom_of p.assumptions in
     let standing = A ++ B ++ C ++ D ++ E in
-    let of_items : (xs : List ℕ) → HasAll B xs → HasAll standing xs = λ xs h. HasAll-left (A ++ B ++ C ++ D) E xs (HasAll-left (A ++ B ++ C) D xs (HasAll-left (A ++ B) C xs (HasAll-right A B xs h))) in
+    let of_items : (xs : List ℕ) → HasAll B xs → HasAll standing xs =
+    λ xs h. HasAll-left (A ++ B ++ C ++ D) E xs (HasAll-left (A ++ B ++ C) D xs (HasAll-left (A ++ B) C xs (HasAll-right A B xs h))) in
     among_items p p.minimize q
     (each_weaker (λ (m : Minimize). HasAll B (item_atoms m)) (λ (m : Minimize). AreStanding p m.items) (λ m h.
     each-unmap (λ a. has (atoms_of p) a ≡ true) (λ (item : ℤ × ℤ). atom_of item.0) m.items
-    (each_weaker (λ a. has standing a ≡ true) (λ a. has (atoms_of p) a ≡ true) (λ a e. has-set_of standing a ∙ e) (item_atoms m) (of_items (item_atoms m) h))) p.minimize (HasAll-flat_map item_atoms p.minimize))
+    (each_weaker (λ a. has standing a ≡ true) (λ a. has (atoms_of p) a ≡ true) (λ a e. has-set_of standing a ∙ e) (item_atoms m)
+    (of_items (item_atoms m) h))) p.minimize (HasAll-flat_map item_atoms p.minimize))
 
 pub var-within : (atoms : Atoms) (l : ℤ) (n : ℕ) → has atoms (atom_of l) ≡ true → length atoms ≤ n → (0 < (literal_in atoms l).var) × ((literal_in atoms l).var ≤ n)
 var-within atoms l n h e =
@@ -146,7 +148,8 @@ pub optimistic_at-le : (p : Program) (a : List (Option Bool)) (x : List Bool) (q
     optimistic_at p a q ≤ℤ cost_of_at p x q
 optimistic_at-le p a x q h =
     let each : (v : ℕ) → 0 < v → v ≤ var_count p → least_at p a q v ≤ℤ picked_by (is_true x) (weight_at p q) v = λ v i k.
-    let le : least_at p a q v ≤ℤ cond (get_or x v false) (weight_at p q (T v)) (weight_at p q (F v)) = least-le (value_of a v) (get_or x v false) (weight_at p q (T v)) (weight_at p q (F v)) (λ b e up. h v b i k e up) in
+    let le : least_at p a q v ≤ℤ cond (get_or x v false) (weight_at p q (T v)) (weight_at p q (F v)) =
+    least-le (value_of a v) (get_or x v false) (weight_at p q (T v)) (weight_at p q (F v)) (λ b e up. h v b i k e up) in
     omega (arith, ints, le, picked_by-value (get_or x v false) (weight_at p q (T v)) (weight_at p q (F v))) in
     omega (arith, ints, cost_of_at-sum p x q, sum_to-le (least_at p a q) (picked_by (is_true x) (weight_at p q)) (var_count p) each)
 
@@ -157,7 +160,8 @@ optimistic_at-set_le p a S q h =
     subst P (cost_of_at-values p S q) (optimistic_at-le p a (values p S) q (λ v b i k e up. h v b i k e))
 
 -- where all variables have values, it is what these cost
-optimistic_at-whole : (p : Program) (a : List (Option Bool)) (x : List Bool) (q : ℤ) → ((v : ℕ) → 0 < v → v ≤ var_count p → value_of a v ≡ Some (get_or x v false)) → optimistic_at p a q ≡ cost_of_at p x q
+optimistic_at-whole : (p : Program) (a : List (Option Bool)) (x : List Bool) (q : ℤ) →
+    ((v : ℕ) → 0 < v → v ≤ var_count p → value_of a v ≡ Some (get_or x v false)) → optimistic_at p a q ≡ cost_of_at p x q
 optimistic_at-whole p a x q h =
     let each : (v : ℕ) → 0 < v → v ≤ var_count p → least_at p a q v ≡ picked_by (is_true x) (weight_at p q) v = λ v i k.
     let t = weight_at p q (T v) in
@@ -244,7 +248,8 @@ abs_of (pos a) n k h g m = omega (arith, ints)
 abs_of (negsuc a) n k h g m = omega (arith, ints)
 
 pub weight_in-small : (atoms : Atoms) (items : List (ℤ × ℤ)) (l : Literal) → unsigned_abs (weight_in atoms items l) ≤ size_of items
-weight_in-small atoms items l = abs_of (weight_in atoms items l) (weight_in atoms (absolutes items) l) (size_of items) (weight_in-high atoms items l) (weight_in-low atoms items l) (weight_in-most atoms items l)
+weight_in-small atoms items l = abs_of (weight_in atoms items l) (weight_in atoms (absolutes items) l) (size_of items) (weight_in-high atoms items l)
+    (weight_in-low atoms items l) (weight_in-most atoms items l)
 
 least-high : (o : Option Bool) (t f m n : ℤ) → t ≤ℤ m → (pos 0) ≤ℤ (t +ℤ m) → f ≤ℤ n → (pos 0) ≤ℤ (f +ℤ n) → least o t f ≤ℤ (m +ℤ n)
 least-high (Some true) t f m n a b c d = omega (arith, ints)
@@ -265,7 +270,9 @@ optimistic_at-high p a q =
     let items = items_at p.minimize q in
     let w = weight_in (atoms_of p) items in
     let m = weight_in (atoms_of p) (absolutes items) in
-    let le = sum_to-le (least_at p a q) (picked_by (λ l. true) m) (var_count p) (λ v i k. least-high (value_of a v) (w (T v)) (w (F v)) (m (T v)) (m (F v)) (weight_in-high (atoms_of p) items (T v)) (weight_in-low (atoms_of p) items (T v)) (weight_in-high (atoms_of p) items (F v)) (weight_in-low (atoms_of p) items (F v))) in
+    let le = sum_to-le (least_at p a q) (picked_by (λ l. true) m) (var_count p)
+    (λ v i k. least-high (value_of a v) (w (T v)) (w (F v)) (m (T v)) (m (F v)) (weight_in-high (atoms_of p) items (T v))
+    (weight_in-low (atoms_of p) items (T v)) (weight_in-high (atoms_of p) items (F v)) (weight_in-low (atoms_of p) items (F v))) in
     let P : ℤ → Type 0 = λ x. optimistic_at p a q ≤ℤ x in
     subst P (sum_to-size p items (items-stand p q)) le
 
@@ -278,7 +285,10 @@ optimistic_at-low p a q =
     let w = weight_in (atoms_of p) items in
     let m = weight_in (atoms_of p) (absolutes items) in
     let both : ℕ → ℤ = λ v. least_at p a q v +ℤ picked_by (λ l. true) m v in
-    let le : sum_to (λ v. pos 0) (var_count p) ≤ℤ sum_to both (var_count p) = sum_to-le (λ v. pos 0) both (var_count p) (λ v i k. least-low (value_of a v) (w (T v)) (w (F v)) (m (T v)) (m (F v)) (weight_in-high (atoms_of p) items (T v)) (weight_in-low (atoms_of p) items (T v)) (weight_in-high (atoms_of p) items (F v)) (weight_in-low (atoms_of p) items (F v))) in
+    let le : sum_to (λ v. pos 0) (var_count p) ≤ℤ sum_to both (var_count p) =
+    sum_to-le (λ v. pos 0) both (var_count p) (λ v i k. least-low (value_of a v) (w (T v)) (w (F v)) (m (T v)) (m (F v))
+    (weight_in-high (atoms_of p) items (T v)) (weight_in-low (atoms_of p) items (T v)) (weight_in-high (atoms_of p) items (F v))
+    (weight_in-low (atoms_of p) items (F v))) in
     let split : sum_to both (var_count p) ≡ optimistic_at p a q +ℤ sum_to (picked_by (λ l. true) m) (var_count p) = sum_to-add (least_at p a q) (picked_by (λ l. true) m) (var_count p) in
     omega (arith, ints, le, sum_to-none (var_count p), split, sum_to-size p items (items-stand p q))
 
@@ -286,7 +296,8 @@ optimistic_at-low p a q =
 pub rise_at-small : (p : Program) (q : ℤ) (v : ℕ) (b : Bool) → rise_at p q v b ≤ size_of (items_at p.minimize q) + size_of (items_at p.minimize q)
 rise_at-small p q v b = by_parts b (weight_at p q (T v)) (weight_at p q (F v)) (weight_in-small (atoms_of p) (items_at p.minimize q) (T v)) (weight_in-small (atoms_of p) (items_at p.minimize q) (F v))
   where
-    by_parts : (c : Bool) (t f : ℤ) → unsigned_abs t ≤ size_of (items_at p.minimize q) → unsigned_abs f ≤ size_of (items_at p.minimize q) → rise c t f ≤ size_of (items_at p.minimize q) + size_of (items_at p.minimize q)
+    by_parts : (c : Bool) (t f : ℤ) → unsigned_abs t ≤ size_of (items_at p.minimize q) → unsigned_abs f ≤ size_of (items_at p.minimize q) →
+        rise c t f ≤ size_of (items_at p.minimize q) + size_of (items_at p.minimize q)
     by_parts true (pos x) (pos y) g h = omega (arith, ints, clamps, above-is (pos x -ℤ pos y))
     by_parts true (pos x) (negsuc y) g h = omega (arith, ints, clamps, above-is (pos x -ℤ negsuc y))
     by_parts true (negsuc x) (pos y) g h = omega (arith, ints, clamps, above-is (negsuc x -ℤ pos y))

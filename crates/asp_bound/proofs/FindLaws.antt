@@ -11,11 +11,13 @@ use Rattle.asp_bound.specs.Reach.{reach, lifted}
 use Rattle.asp_bound.specs.Found.{reach_at, IsNear, Passes}
 
 -- what the row of a variable reaches
-pub reached_by : (rows : List (List Place)) (sums bound : List ℤ) (v : ℕ) (b : Bool) (row : List Place) (r : Option ℕ) → row ≡ row_at rows v → r ≡ reach (lifted (λ j. raised row j b) sums) bound → reach_at rows sums bound v b ≡ r
+pub reached_by : (rows : List (List Place)) (sums bound : List ℤ) (v : ℕ) (b : Bool) (row : List Place) (r : Option ℕ) → row ≡ row_at rows v →
+    r ≡ reach (lifted (λ j. raised row j b) sums) bound → reach_at rows sums bound v b ≡ r
 reached_by rows sums bound v b row r e h = sym (h ∙ ap (λ (o : List Place). reach (lifted (λ j. raised o j b) sums) bound) e)
 
 -- An item from a place on is no nearer than the one at that place.
-pub nearer : (column : List Item) (i k : ℕ) (x d : Item) (s l : ℤ) → AllPairs (λ a b. b.most ≤ a.most) column → get_or column i x ≡ x → i ≤ k → k < length column → IsNear s l (get_or column k d).most → IsNear s l x.most
+pub nearer : (column : List Item) (i k : ℕ) (x d : Item) (s l : ℤ) → AllPairs (λ a b. b.most ≤ a.most) column → get_or column i x ≡ x → i ≤ k →
+    k < length column → IsNear s l (get_or column k d).most → IsNear s l x.most
 nearer column i k x d s l falling is le lt near = elim (cases_eq i k) [
   | inl e ↦ subst (λ (y : Item). IsNear s l y.most) (get_or_default column k d x lt ∙ subst (λ (m : ℕ). get_or column m x ≡ x) e is) near
   | inr ne ↦ (
@@ -36,14 +38,16 @@ NearPass a rows sums bound column s l = (i : ℕ) (d : Item) → i < length colu
 abbrev pub FirstPass : List (Option Bool) → List (List Place) → List ℤ → List ℤ → List Item → ℕ → Type 0
 FirstPass a rows sums bound column n = (i : ℕ) (d : Item) → i < n → Passes a rows sums bound (get_or column i d).var
 
-pub near-far : (a : List (Option Bool)) (rows : List (List Place)) (sums bound : List ℤ) (column : List Item) (n : ℕ) (x : Item) (s l : ℤ) (r : Bool) → AllPairs (λ a b. b.most ≤ a.most) column → get_or column n x ≡ x →
+pub near-far : (a : List (Option Bool)) (rows : List (List Place)) (sums bound : List ℤ) (column : List Item) (n : ℕ) (x : Item) (s l : ℤ) (r : Bool)
+    → AllPairs (λ a b. b.most ≤ a.most) column → get_or column n x ≡ x →
     FirstPass a rows sums bound column n → (IsNear s l x.most → r ≡ true) → r ≡ false → NearPass a rows sums bound column s l
 near-far a rows sums bound column n x s l r falling is first near fails = λ i d lt h. elim (cases_lt i n) [
   | inl low ↦ first i d low
   | inr out ↦ absurd (false≢true (sym fails ∙ near (nearer column n i x d s l falling is out lt h)))
 ]
 
-pub first-more : (a : List (Option Bool)) (rows : List (List Place)) (sums bound : List ℤ) (column : List Item) (n : ℕ) (x : Item) → n < length column → get_or column n x ≡ x → FirstPass a rows sums bound column n → Passes a rows sums bound x.var →
+pub first-more : (a : List (Option Bool)) (rows : List (List Place)) (sums bound : List ℤ) (column : List Item) (n : ℕ) (x : Item) →
+    n < length column → get_or column n x ≡ x → FirstPass a rows sums bound column n → Passes a rows sums bound x.var →
     FirstPass a rows sums bound column (n + 1)
 first-more a rows sums bound column n x lt is first here = λ i d low. elim (cases_lt i n) [
   | inl before ↦ first i d before

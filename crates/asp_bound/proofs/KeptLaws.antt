@@ -27,10 +27,12 @@ summed_from p a sums counted each =
     let low : k < length (priorities p.minimize) = omega arith in
     get_or_default sums k d (pos 0) lt ∙ (each k low ∙ sym (get_or-map (optimistic_at p a) (priorities p.minimize) k (pos 0) d low)))
 
-pub sums-count : (p : Program) (a : List (Option Bool)) (rows : List (List Place)) (columns : List (List Item)) (vars : List ℕ) (sums : List ℤ) → IsKept p a rows columns vars sums → length sums ≡ length (priorities p.minimize)
+pub sums-count : (p : Program) (a : List (Option Bool)) (rows : List (List Place)) (columns : List (List Item)) (vars : List ℕ) (sums : List ℤ) →
+    IsKept p a rows columns vars sums → length sums ≡ length (priorities p.minimize)
 sums-count p a rows columns vars sums kept = ap length kept.summed ∙ length-map (priorities p.minimize) (optimistic_at p a)
 
-pub sums-at : (p : Program) (a : List (Option Bool)) (rows : List (List Place)) (columns : List (List Item)) (vars : List ℕ) (sums : List ℤ) → IsKept p a rows columns vars sums → (j : ℕ) → j < length sums → get_or sums j (pos 0) ≡ optimistic_at p a (nth_priority p j)
+pub sums-at : (p : Program) (a : List (Option Bool)) (rows : List (List Place)) (columns : List (List Item)) (vars : List ℕ) (sums : List ℤ) →
+    IsKept p a rows columns vars sums → (j : ℕ) → j < length sums → get_or sums j (pos 0) ≡ optimistic_at p a (nth_priority p j)
 sums-at p a rows columns vars sums kept j lt =
     let low : j < length (priorities p.minimize) = omega (arith, sums-count p a rows columns vars sums kept) in
     ap (λ (s : List ℤ). get_or s j (pos 0)) kept.summed ∙ get_or-map (optimistic_at p a) (priorities p.minimize) j (pos 0) (pos 0) low
@@ -77,7 +79,8 @@ lower-room p a rows columns vars sums kept v b i k j lt = omega (arith, ints, su
 pub columns-within : (p : Program) (a : List (Option Bool)) (rows : List (List Place)) (columns : List (List Item)) (vars : List ℕ) (sums : List ℤ) → IsKept p a rows columns vars sums →
     (j : ℕ) → j < length columns → All (λ (i : Item). (0 < i.var) × (i.var < length a)) (get_or columns j [])
 columns-within p a rows columns vars sums kept j lt =
-    All-weaker (λ (i : Item). (0 < i.var) × (i.var ≤ var_count p)) (λ (i : Item). (0 < i.var) × (i.var < length a)) (λ i h. (h.0, omega (arith, kept.sized, h.1))) (get_or columns j []) (kept.columned.each j lt).within
+    All-weaker (λ (i : Item). (0 < i.var) × (i.var ≤ var_count p)) (λ (i : Item). (0 < i.var) × (i.var < length a))
+    (λ i h. (h.0, omega (arith, kept.sized, h.1))) (get_or columns j []) (kept.columned.each j lt).within
 
 pub held-value : (a : List (Option Bool)) (l : Literal) → holds_in a l ≡ true → value_of a l.var ≡ Some l.truth
 held-value a l e = held_by (value_of a l.var) e
@@ -135,20 +138,23 @@ bare_row p rows vars listed e v i k = cases (row_at rows v) refl
     cases [] q = sym q
     cases (o ∷ r) q = absurd (never vars e (listed.whole v i k (λ z. let bad : o ∷ r ≡ [] = q ∙ z in cc)))
 
-pub bare-told : (p : Program) (a : List (Option Bool)) (rows : List (List Place)) (columns : List (List Item)) (vars : List ℕ) (sums : List ℤ) → IsKept p a rows columns vars sums → eqb (length vars) 0 ≡ true →
+pub bare-told : (p : Program) (a : List (Option Bool)) (rows : List (List Place)) (columns : List (List Item)) (vars : List ℕ) (sums : List ℤ) →
+    IsKept p a rows columns vars sums → eqb (length vars) 0 ≡ true →
     (v : ℕ) (b : Bool) → 0 < v → v ≤ var_count p → value_of a v ≡ None → IsKept p (set a v (Some b)) rows columns vars sums
 bare-told p a rows columns vars sums kept e v b i k none =
     let bare = bare_row p rows vars kept.listed e v i k in
     kept-told p a rows columns vars sums sums kept v b i k none refl (λ j lt. omega (arith, ints, ap (λ (r : List Place). raised r j b) bare))
 
-pub bare-untold : (p : Program) (a : List (Option Bool)) (rows : List (List Place)) (columns : List (List Item)) (vars : List ℕ) (sums : List ℤ) → IsKept p a rows columns vars sums → eqb (length vars) 0 ≡ true →
+pub bare-untold : (p : Program) (a : List (Option Bool)) (rows : List (List Place)) (columns : List (List Item)) (vars : List ℕ) (sums : List ℤ) →
+    IsKept p a rows columns vars sums → eqb (length vars) 0 ≡ true →
     (v : ℕ) (b : Bool) → 0 < v → v ≤ var_count p → value_of a v ≡ Some b → IsKept p (set a v None) rows columns vars sums
 bare-untold p a rows columns vars sums kept e v b i k some =
     let bare = bare_row p rows vars kept.listed e v i k in
     kept-untold p a rows columns vars sums sums kept v b i k some refl (λ j lt. omega (arith, ints, ap (λ (r : List Place). raised r j b) bare))
 
 -- ---- at the start
-pub kept-new : (p : Program) (rows : List (List Place)) (columns : List (List Item)) (vars : List ℕ) (sums : List ℤ) → IsSound p → var_count p < 2 ^ 31 → AreGathered p (priorities p.minimize) rows columns sums →
+pub kept-new : (p : Program) (rows : List (List Place)) (columns : List (List Item)) (vars : List ℕ) (sums : List ℤ) → IsSound p →
+    var_count p < 2 ^ 31 → AreGathered p (priorities p.minimize) rows columns sums →
     All (λ v. (0 < v) × (v < length rows)) vars → HasEach rows (length rows) vars → IsOnce vars → IsKept p (valueless p) rows columns vars sums
 kept-new p rows columns vars sums sound few g within whole once = record {
   sound = sound;
@@ -167,11 +173,14 @@ kept-new p rows columns vars sums sound few g within whole once = record {
 }
 
 -- ---- the same, by what the calls say
-pub kept_as : (p : Program) (a z : List (Option Bool)) (rows : List (List Place)) (columns : List (List Item)) (vars : List ℕ) (sums new : List ℤ) → z ≡ a → new ≡ sums → IsKept p a rows columns vars sums → IsKept p z rows columns vars new
+pub kept_as : (p : Program) (a z : List (Option Bool)) (rows : List (List Place)) (columns : List (List Item)) (vars : List ℕ) (sums new : List ℤ) →
+    z ≡ a → new ≡ sums → IsKept p a rows columns vars sums → IsKept p z rows columns vars new
 kept_as p a z rows columns vars sums new ez en kept = subst (IsKept p z rows columns vars) (sym en) (subst (λ (y : List (Option Bool)). IsKept p y rows columns vars sums) (sym ez) kept)
 
-pub begun_as : (p o : Program) (a : List (Option Bool)) (count : ℕ) (rows made : List (List Place)) (columns : List (List Item)) (vars : List ℕ) (sums : List ℤ) → o ≡ p → count ≡ var_count p → var_count p < 2 ^ 31 → a ≡ replicate (count + 1) None →
-    rows ≡ made → IsSound p → AreGathered p (priorities p.minimize) made columns sums → All (λ v. (0 < v) × (v < length rows)) vars → HasEach rows (length rows) vars → IsOnce vars → IsKept o a rows columns vars sums
+pub begun_as : (p o : Program) (a : List (Option Bool)) (count : ℕ) (rows made : List (List Place)) (columns : List (List Item)) (vars : List ℕ)
+    (sums : List ℤ) → o ≡ p → count ≡ var_count p → var_count p < 2 ^ 31 → a ≡ replicate (count + 1) None →
+    rows ≡ made → IsSound p → AreGathered p (priorities p.minimize) made columns sums → All (λ v. (0 < v) × (v < length rows)) vars →
+    HasEach rows (length rows) vars → IsOnce vars → IsKept o a rows columns vars sums
 begun_as p o a count rows made columns vars sums eo ec few ea er sound g within whole once =
     let gathered = subst (λ (z : List (List Place)). AreGathered p (priorities p.minimize) z columns sums) (sym er) g in
     let kept = kept-new p rows columns vars sums sound few gathered within whole once in

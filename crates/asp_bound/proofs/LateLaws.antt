@@ -85,7 +85,8 @@ none_before t place v o none = cases (value_of (before t place) v) refl
 pub some_before : (t : Trailed) (place v : ℕ) (b : Bool) → holds_in (before t place) (lit_of v b) ≡ true → value_of (before t place) v ≡ Some b
 some_before t place v b h = held-value (before t place) (lit_of v b) h
 
-pub not_before : (t : Trailed) (place v : ℕ) (b : Bool) → IsOrdered t.vars t.entries → value_of (assignment t.vars t.entries) v ≡ Some b → holds_in (before t place) (lit_of v b) ≡ false → value_of (before t place) v ≡ None
+pub not_before : (t : Trailed) (place v : ℕ) (b : Bool) → IsOrdered t.vars t.entries → value_of (assignment t.vars t.entries) v ≡ Some b →
+    holds_in (before t place) (lit_of v b) ≡ false → value_of (before t place) v ≡ None
 not_before t place v b o some h = cases (value_of (before t place) v) refl
   where
     cases : (w : Option Bool) → value_of (before t place) v ≡ w → value_of (before t place) v ≡ None
@@ -116,14 +117,16 @@ pub shown_before : (t : Trailed) (n : ℕ) (a : List (Option Bool)) → n ≡ le
 shown_before t n a e shown = ap (assignment t.vars) (take_all n t.entries (omega (arith, e))) ∙ sym shown
 
 -- what raised the cost before the end of the entries does so now
-pub found_now : (t : Trailed) (n : ℕ) (a : List (Option Bool)) (rows : List (List Place)) (depth : ℕ) (raisers : List ℕ) (found copied : List Literal) → n ≡ length t.entries → a ≡ assignment t.vars t.entries →
+pub found_now : (t : Trailed) (n : ℕ) (a : List (Option Bool)) (rows : List (List Place)) (depth : ℕ) (raisers : List ℕ) (found copied : List Literal)
+    → n ≡ length t.entries → a ≡ assignment t.vars t.entries →
     IsPermutation (raising_of (before t n) rows depth raisers) found → copied ≡ found → IsPermutation (raising_of a rows depth raisers) copied
 found_now t n a rows depth raisers found copied e shown moved is =
     subst (λ (z : List (Option Bool)). IsPermutation (raising_of z rows depth raisers) copied) (shown_before t n a e shown)
     (subst (IsPermutation (raising_of (before t n) rows depth raisers)) (sym is) moved)
 
 -- what was told has them
-pub told_before : (t : Trailed) (place : ℕ) (a : List (Option Bool)) (v : ℕ) (b : Bool) → IsOrdered t.vars t.entries → AreTold a place t.entries → value_of (before t place) v ≡ Some b → value_of a v ≡ Some b
+pub told_before : (t : Trailed) (place : ℕ) (a : List (Option Bool)) (v : ℕ) (b : Bool) → IsOrdered t.vars t.entries → AreTold a place t.entries →
+    value_of (before t place) v ≡ Some b → value_of a v ≡ Some b
 told_before t place a v b o told e =
     let s = stands_before t place (lit_of v b) o e in
     let d : Entry = record { lit = lit_of v b; level = 0; reason = None } in
@@ -166,7 +169,8 @@ none_from a z (x ∷ vs) v e f = none_from a (gain a z x) vs v e (here (cases_eq
     here (inr ne) = other_with z x v (value_of a x) ne ∙ f
 
 -- one that has the value keeps it, and one among them gets it
-some_from : (a z : List (Option Bool)) (vs : List ℕ) (v : ℕ) (b : Bool) → v < length z → value_of a v ≡ Some b → value_of z v ≡ Some b ⊎ list_any (is v) vs ≡ true → value_of (fold (gain a) z vs) v ≡ Some b
+some_from : (a z : List (Option Bool)) (vs : List ℕ) (v : ℕ) (b : Bool) → v < length z → value_of a v ≡ Some b → value_of z v ≡ Some b ⊎
+    list_any (is v) vs ≡ true → value_of (fold (gain a) z vs) v ≡ Some b
 some_from a z [] v b lt e (inl f) = f
 some_from a z [] v b lt e (inr g) = absurd (false≢true g)
 some_from a z (x ∷ vs) v b lt e h = cases (some_from a (gain a z x) vs v b long e) (cases_eq v x)
@@ -182,7 +186,8 @@ some_from a z (x ∷ vs) v b lt e h = cases (some_from a (gain a z x) vs v b lon
     rest ne (inl f) = inl (other_with z x v (value_of a x) ne ∙ f)
     rest ne (inr g) = inr (later_on (eqb x v) g (ne_eqb x v (λ s. ne (sym s))))
 
-    cases : ((value_of (gain a z x) v ≡ Some b) ⊎ (list_any (is v) vs ≡ true) → value_of (fold (gain a) (gain a z x) vs) v ≡ Some b) → (v ≡ x) ⊎ (v ≢ x) → value_of (fold (gain a) (gain a z x) vs) v ≡ Some b
+    cases : ((value_of (gain a z x) v ≡ Some b) ⊎ (list_any (is v) vs ≡ true) → value_of (fold (gain a) (gain a z x) vs) v ≡ Some b) → (v ≡ x) ⊎
+        (v ≢ x) → value_of (fold (gain a) (gain a z x) vs) v ≡ Some b
     cases more (inl s) =
         more
         (inl (ap (λ o. value_of (with_value z x o) v) (ap (value_of a) (sym s) ∙ e) ∙ (ap (λ (w : ℕ). value_of (set z w (Some b)) v) (sym s) ∙ get_or-set_same z v (Some b) None lt)))
@@ -207,7 +212,8 @@ only_open a vs i v once lt e =
 pub raisers_have : (a : List (Option Bool)) (rows : List (List Place)) (vs : List ℕ) → AreRaisers a rows vs → HaveRaisers a rows vs
 raisers_have a rows vs are = record { within = are.within; once = are.once; whole = are.whole }
 
-pub have_before : (a b : List (Option Bool)) (rows : List (List Place)) (vs : List ℕ) → AreRaisers a rows vs → length b ≡ length a → ((v : ℕ) (t : Bool) → value_of b v ≡ Some t → value_of a v ≡ Some t) → HaveRaisers b rows vs
+pub have_before : (a b : List (Option Bool)) (rows : List (List Place)) (vs : List ℕ) → AreRaisers a rows vs → length b ≡ length a →
+    ((v : ℕ) (t : Bool) → value_of b v ≡ Some t → value_of a v ≡ Some t) → HaveRaisers b rows vs
 have_before a b rows vs are long told = record {
   within = All-weaker (λ v. (0 < v) × (v < length a)) (λ v. (0 < v) × (v < length b)) (λ v h. (h.0, omega (arith, h.1, long))) vs are.within;
   once = are.once;
@@ -276,25 +282,29 @@ module _ (p : Program) (a : List (Option Bool)) (rows : List (List Place)) (colu
   }
 
 -- ---- the sums step by step
-pub kept_more : (p : Program) (a : List (Option Bool)) (rows : List (List Place)) (columns : List (List Item)) (vars : List ℕ) (sums new : List ℤ) (vs : List ℕ) (i v : ℕ) (b : Bool) → IsOnce vs → i < length vs → v ≡ get_or vs i 0 → 0 < v → v ≤ var_count p →
+pub kept_more : (p : Program) (a : List (Option Bool)) (rows : List (List Place)) (columns : List (List Item)) (vars : List ℕ) (sums new : List ℤ)
+    (vs : List ℕ) (i v : ℕ) (b : Bool) → IsOnce vs → i < length vs → v ≡ get_or vs i 0 → 0 < v → v ≤ var_count p →
     value_of a v ≡ Some b → IsKept p (only a (take i vs)) rows columns vars sums → length new ≡ length sums →
     ((j : ℕ) → j < length sums → get_or new j (pos 0) ≡ get_or sums j (pos 0) +ℤ pos (raised (row_at rows v) j b)) → IsKept p (only a (take (i + 1) vs)) rows columns vars new
 kept_more p a rows columns vars sums new vs i v b once lt e low high some kept long each =
     subst (λ (z : List (Option Bool)). IsKept p z rows columns vars new) (sym (only_more a vs i v lt e ∙ ap (with_value (only a (take i vs)) v) some))
     (kept-told p (only a (take i vs)) rows columns vars sums new kept v b low high (only_open a vs i v once lt e) long each)
 
-pub kept_same : (p : Program) (a : List (Option Bool)) (rows : List (List Place)) (columns : List (List Item)) (vars : List ℕ) (sums : List ℤ) (vs : List ℕ) (i v : ℕ) → i < length vs → v ≡ get_or vs i 0 → value_of a v ≡ None →
+pub kept_same : (p : Program) (a : List (Option Bool)) (rows : List (List Place)) (columns : List (List Item)) (vars : List ℕ) (sums : List ℤ)
+    (vs : List ℕ) (i v : ℕ) → i < length vs → v ≡ get_or vs i 0 → value_of a v ≡ None →
     IsKept p (only a (take i vs)) rows columns vars sums → IsKept p (only a (take (i + 1) vs)) rows columns vars sums
 kept_same p a rows columns vars sums vs i v lt e none kept =
     subst (λ (z : List (Option Bool)). IsKept p z rows columns vars sums) (sym (only_more a vs i v lt e ∙ ap (with_value (only a (take i vs)) v) none)) kept
 
-pub kept_first : (p : Program) (a : List (Option Bool)) (rows : List (List Place)) (columns : List (List Item)) (vars : List ℕ) (sums : List ℤ) (vs : List ℕ) → length a ≡ var_count p + 1 → IsKept p (replicate (var_count p + 1) None) rows columns vars sums →
+pub kept_first : (p : Program) (a : List (Option Bool)) (rows : List (List Place)) (columns : List (List Item)) (vars : List ℕ) (sums : List ℤ)
+    (vs : List ℕ) → length a ≡ var_count p + 1 → IsKept p (replicate (var_count p + 1) None) rows columns vars sums →
     IsKept p (only a (take 0 vs)) rows columns vars sums
 kept_first p a rows columns vars sums vs sized kept = subst (λ (n : ℕ). IsKept p (replicate n None) rows columns vars sums) (sym sized) kept
 
 -- ---- what follows
 -- its complement's value reaches the bound
-pub follows_reached : (p : Program) (a : List (Option Bool)) (l : Literal) (c : List ℤ) → is_below p (set a l.var (Some l.truth)) c ≡ false → reach (optimistic p (set a l.var (Some l.truth))) c ≡ None → ⊥
+pub follows_reached : (p : Program) (a : List (Option Bool)) (l : Literal) (c : List ℤ) → is_below p (set a l.var (Some l.truth)) c ≡ false →
+    reach (optimistic p (set a l.var (Some l.truth))) c ≡ None → ⊥
 follows_reached p a l c dear none = false≢true (sym dear ∙ (betters-reach (optimistic p (set a l.var (Some l.truth))) c ∙ ap is_none none))
 
 turned : (o : Ordering) → is_lt o ≡ true → is_lt (ordering_reverse o) ≡ false
@@ -310,7 +320,8 @@ not_not true = refl
 not_not false = refl
 
 pub implied_explained : (p : Program) (a : List (Option Bool)) (rows : List (List Place)) (columns : List (List Item)) (vars : List ℕ) (sums : List ℤ) → IsKept p a rows columns vars sums →
-    (es : List Entry) (c : List ℤ) (x : Implied) (l : Literal) → a ≡ assignment (var_count p) es → Reaches a rows sums c x → (0 < x.lit.var) × (x.lit.var < length a) → l ≡ complement x.lit → IsExplained p (Some c) es l
+    (es : List Entry) (c : List ℤ) (x : Implied) (l : Literal) → a ≡ assignment (var_count p) es → Reaches a rows sums c x → (0 < x.lit.var) ×
+    (x.lit.var < length a) → l ≡ complement x.lit → IsExplained p (Some c) es l
 implied_explained p a rows columns vars sums kept es c x l shown r within is_it =
     subst (IsExplained p (Some c) es) (sym is_it) (record {
       cost = c;
@@ -354,7 +365,8 @@ has_entry : (es : List Entry) (k : Literal) → has_literal (map (λ e. e.lit) e
 has_entry [] k h = absurd (false≢true h)
 has_entry (x ∷ es) k h = cases (literal_eq x.lit k) refl h (has_entry es k)
   where
-    cases : (b : Bool) → literal_eq x.lit k ≡ b → (b || has_literal (map (λ e. e.lit) es) k) ≡ true → (has_literal (map (λ e. e.lit) es) k ≡ true → (i : ℕ) × (i < length es) × ((d : Entry) → (get_or es i d).lit ≡ k)) →
+    cases : (b : Bool) → literal_eq x.lit k ≡ b → (b || has_literal (map (λ e. e.lit) es) k) ≡ true →
+        (has_literal (map (λ e. e.lit) es) k ≡ true → (i : ℕ) × (i < length es) × ((d : Entry) → (get_or es i d).lit ≡ k)) →
         (i : ℕ) × (i < length (x ∷ es)) × ((d : Entry) → (get_or (x ∷ es) i d).lit ≡ k)
     cases true q g rest = (zero, omega arith, λ d. same_literal x.lit k q)
     cases false q g rest = let r = rest g in (suc r.0, omega (arith, r.1), λ d. r.2 d)
@@ -373,7 +385,8 @@ module _ (p : Program) (bound : Option (List ℤ)) (es : List Entry) (l : Litera
   unfolding lits
   last_has =
       list_any-append (λ k. literal_eq k (complement l)) (map (λ e. e.lit) es) (complement l ∷ [])
-      ∙ or_right (has_literal (map (λ e. e.lit) es) (complement l)) (has_literal (complement l ∷ []) (complement l)) (or_left (literal_eq (complement l) (complement l)) false (itself l.var (complement l).truth))
+      ∙ or_right (has_literal (map (λ e. e.lit) es) (complement l)) (has_literal (complement l ∷ []) (complement l))
+      (or_left (literal_eq (complement l) (complement l)) false (itself l.var (complement l).truth))
 
   first_has : (k : Literal) → has_literal (map (λ e. e.lit) es) k ≡ true → has_literal lits k ≡ true
   unfolding lits
@@ -414,7 +427,8 @@ module _ (p : Program) (bound : Option (List ℤ)) (es : List Entry) (l : Litera
           let d : Entry = record { lit = k; level = 0; reason = None } in
           (f.0, (get_or es f.0 d).level, f.1, record { within = f.1; lit = f.2; level = λ y. ap (λ (e : Entry). e.level) (same_default es f.0 y d f.1) })
 
-      by_part : (k : Literal) → k ≢ complement l → (b : Bool) → has_literal (map (λ e. e.lit) es) k ≡ b → (b || has_literal (complement l ∷ []) k) ≡ true → (j : ℕ) × (i : ℕ) × (j < length es) × Stands es k j i
+      by_part : (k : Literal) → k ≢ complement l → (b : Bool) → has_literal (map (λ e. e.lit) es) k ≡ b →
+          (b || has_literal (complement l ∷ []) k) ≡ true → (j : ℕ) × (i : ℕ) × (j < length es) × Stands es k j i
       by_part k ne true q h = stands k q
       by_part k ne false q h = absurd (ne (sym (same_literal (complement l) k (one_has (literal_eq (complement l) k) h))))
         where
@@ -447,20 +461,23 @@ raisers_before t place rows raisers o told =
     have_before told.0 (before t place) rows raisers told.1 (length_assigned t.vars (take place t.entries) ∙ sym told.2) (λ v x e. told_before t place told.0 v x o told.3 e)
 
 -- the sums of those that add something are those of all values before the place
-pub kept_before : (p : Program) (t : Trailed) (place : ℕ) (rows : List (List Place)) (columns : List (List Item)) (vars : List ℕ) (sums : List ℤ) (raisers : List ℕ) → t.vars ≡ var_count p → HaveRaisers (before t place) rows raisers →
+pub kept_before : (p : Program) (t : Trailed) (place : ℕ) (rows : List (List Place)) (columns : List (List Item)) (vars : List ℕ) (sums : List ℤ)
+    (raisers : List ℕ) → t.vars ≡ var_count p → HaveRaisers (before t place) rows raisers →
     IsKept p (only (before t place) raisers) rows columns vars sums → IsKept p (before t place) rows columns vars sums
 kept_before p t place rows columns vars sums raisers same are kept =
     kept_whole p (before t place) rows columns vars sums raisers kept (length_assigned t.vars (take place t.entries) ∙ ap (λ (n : ℕ). n + 1) same) are
 
 -- the same of sums that are copied
-pub copied_before : (q : Priced) (t : Trailed) (place : ℕ) (sums left : List ℤ) (raisers : List ℕ) → t.vars ≡ var_count q.origin.value → IsOrdered t.vars t.entries → HaveTold t place q.rows raisers → IsPriced q (only (before t place) raisers) sums → left ≡ sums →
+pub copied_before : (q : Priced) (t : Trailed) (place : ℕ) (sums left : List ℤ) (raisers : List ℕ) → t.vars ≡ var_count q.origin.value →
+    IsOrdered t.vars t.entries → HaveTold t place q.rows raisers → IsPriced q (only (before t place) raisers) sums → left ≡ sums →
     IsPriced q (before t place) left
 copied_before q t place sums left raisers same o told kept e =
     subst (IsPriced q (before t place)) (sym e)
     (kept_before q.origin.value t place q.rows q.columns q.vars.items sums raisers same (raisers_before t place q.rows raisers o told) kept)
 
 -- the tables are the program's whatever the values are
-pub kept_at : (p : Program) (a : List (Option Bool)) (t : Trailed) (place : ℕ) (rows : List (List Place)) (columns : List (List Item)) (vars : List ℕ) (sums : List ℤ) → t.vars ≡ var_count p → IsKept p a rows columns vars sums →
+pub kept_at : (p : Program) (a : List (Option Bool)) (t : Trailed) (place : ℕ) (rows : List (List Place)) (columns : List (List Item)) (vars : List ℕ)
+    (sums : List ℤ) → t.vars ≡ var_count p → IsKept p a rows columns vars sums →
     IsKept p (before t place) rows columns vars (optimistic p (before t place))
 kept_at p a t place rows columns vars sums same kept = record {
   sound = kept.sound;
@@ -475,7 +492,8 @@ kept_at p a t place rows columns vars sums same kept = record {
 }
 
 pub reaches_by : (p : Program) (b : List (Option Bool)) (rows : List (List Place)) (columns : List (List Item)) (vars : List ℕ) (sums : List ℤ) → IsKept p b rows columns vars sums →
-    (c : List ℤ) (x : Implied) (left limits : List ℤ) → IsKept p (set b x.lit.var (Some x.lit.truth)) rows columns vars left → limits ≡ c → IsVar (var_count p) x.lit.var → value_of b x.lit.var ≡ None →
+    (c : List ℤ) (x : Implied) (left limits : List ℤ) → IsKept p (set b x.lit.var (Some x.lit.truth)) rows columns vars left → limits ≡ c →
+    IsVar (var_count p) x.lit.var → value_of b x.lit.var ≡ None →
     Some x.depth ≡ reach (lifted (λ j. 0) left) limits → Reaches b rows sums c x
 reaches_by p b rows columns vars sums kept c x left limits more el var none e = record {
   no_value = none;
@@ -485,7 +503,8 @@ reaches_by p b rows columns vars sums kept c x left limits more el var none e = 
 }
 
 -- with the literal's complement, literals from before the place
-pub written_reason : (t : Trailed) (place : ℕ) (l lit : Literal) (n : List Literal) → IsOrdered t.vars t.entries → lit ≡ complement l → ((k : Literal) → has_literal n k ≡ true → value_of (before t place) k.var ≡ Some k.truth) →
+pub written_reason : (t : Trailed) (place : ℕ) (l lit : Literal) (n : List Literal) → IsOrdered t.vars t.entries → lit ≡ complement l →
+    ((k : Literal) → has_literal n k ≡ true → value_of (before t place) k.var ≡ Some k.truth) →
     IsReason t.entries place l (n ++ lit ∷ [])
 written_reason t place l lit n o is_lit held = subst (λ (k : Literal). IsReason t.entries place l (n ++ k ∷ [])) (sym is_lit) (record {
   has = list_any-append (λ k. literal_eq k (complement l)) n (complement l ∷ [])
@@ -501,16 +520,23 @@ written_reason t place l lit n o is_lit held = subst (λ (k : Literal). IsReason
         one_has true g = refl
         one_has false g = g
 
-pub written : (p : Program) (t : Trailed) (place : ℕ) (rows : List (List Place)) (columns : List (List Item)) (vars : List ℕ) (sums : List ℤ) (raisers : List ℕ) → IsOrdered t.vars t.entries → IsKept p (before t place) rows columns vars sums →
-    HaveRaisers (before t place) rows raisers → (c : List ℤ) (l : Literal) (x : Implied) (n : Nogood) (found : List Literal) (left : List ℤ) → x.lit ≡ complement l → Reaches (before t place) rows sums c x → IsVar (var_count p) x.lit.var →
-    IsPermutation (raising_of (before t place) rows x.depth raisers) found → IsKept p (set (before t place) x.lit.var (Some x.lit.truth)) rows columns vars left → n ≡ record { lits = needed rows c x.depth left found ++ x.lit ∷ []; base = base.Below c } →
+pub written : (p : Program) (t : Trailed) (place : ℕ) (rows : List (List Place)) (columns : List (List Item)) (vars : List ℕ) (sums : List ℤ)
+    (raisers : List ℕ) → IsOrdered t.vars t.entries → IsKept p (before t place) rows columns vars sums →
+    HaveRaisers (before t place) rows raisers → (c : List ℤ) (l : Literal) (x : Implied) (n : Nogood) (found : List Literal) (left : List ℤ) →
+    x.lit ≡ complement l → Reaches (before t place) rows sums c x → IsVar (var_count p) x.lit.var →
+    IsPermutation (raising_of (before t place) rows x.depth raisers) found →
+    IsKept p (set (before t place) x.lit.var (Some x.lit.truth)) rows columns vars left →
+    n ≡ record { lits = needed rows c x.depth left found ++ x.lit ∷ []; base = base.Below c } →
     IsTooDear p (Some c) n × IsReason t.entries place l n.lits
 written p t place rows columns vars sums raisers o kept are c l x n found left is_lit reaches var moved more e =
     let b : List (Option Bool) = before t place in
-    let given = given_with_as p b rows columns vars sums kept raisers are c sums c x n (needed rows c x.depth left found) found left refl refl reaches (var.0, omega (arith, var.1, kept.sized)) moved more refl e in
+    let given = given_with_as p b rows columns vars sums kept raisers are c sums c x n (needed rows c x.depth left found) found left refl refl reaches
+    (var.0, omega (arith, var.1, kept.sized)) moved more refl e in
     let held = found-held p b rows columns vars sums raisers x.depth found kept are moved in (
       record { cost = c; stands = refl; excluded = given.excluded; base = given.base; below = given.below },
-      subst (λ (m : Nogood). IsReason t.entries place l m.lits) (sym e) (written_reason t place l x.lit (needed rows c x.depth left found) o is_lit (λ k h. held.held k (needed-among rows c x.depth found left k h))),
+      subst (λ (m : Nogood). IsReason t.entries place l m.lits) (sym e)
+          (written_reason t place l x.lit (needed rows c x.depth left found) o is_lit
+          (λ k h. held.held k (needed-among rows c x.depth found left k h))),
     )
 
 -- the complement of a literal that followed, before its place
@@ -519,7 +545,9 @@ pub record IsFree (p : Program) (t : Trailed) (place : ℕ) (c : List ℤ) (lit 
   pub dear : is_below p (set (before t place) lit.var (Some lit.truth)) c ≡ false
   pub var : IsVar (var_count p) lit.var
 
-pub free : (p : Program) (t : Trailed) (place : ℕ) (c : List ℤ) (l lit : Literal) → t.vars ≡ var_count p → ((d : Entry) → IsExplained p (Some c) (take place t.entries) (get_or t.entries place d).lit) → ((d : Entry) → l ≡ (get_or t.entries place d).lit) →
+pub free : (p : Program) (t : Trailed) (place : ℕ) (c : List ℤ) (l lit : Literal) → t.vars ≡ var_count p →
+    ((d : Entry) → IsExplained p (Some c) (take place t.entries) (get_or t.entries place d).lit) →
+    ((d : Entry) → l ≡ (get_or t.entries place d).lit) →
     lit ≡ complement l → IsFree p t place c lit
 free p t place c l lit same explained is_l is_lit =
     let d : Entry = record { lit = l; level = 0; reason = None } in

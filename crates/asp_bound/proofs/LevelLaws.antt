@@ -93,7 +93,12 @@ addition_at weights v = addition_of v (weight_true weights v) (weight_false weig
 pub additions_to-few : (weights : List ℤ) (n : ℕ) → length (additions_to weights n) ≤ n
 additions_to-few weights zero = omega arith
 additions_to-few weights (suc n) =
-    omega (arith, length-append (additions_to weights n) (additions_of (suc n) (weight_true weights (suc n)) (weight_false weights (suc n))), additions_to-few weights n, additions-few (suc n) (weight_true weights (suc n)) (weight_false weights (suc n)))
+    omega (
+      arith,
+      length-append (additions_to weights n) (additions_of (suc n) (weight_true weights (suc n)) (weight_false weights (suc n))),
+      additions_to-few weights n,
+      additions-few (suc n) (weight_true weights (suc n)) (weight_false weights (suc n)),
+    )
 
 pub additions_to-all : (P : Addition → Type 0) (weights : List ℤ) (n : ℕ) → ((v : ℕ) → 0 < v → v ≤ n → P (addition_at weights v)) → All P (additions_to weights n)
 additions_to-all P weights zero h = λ k d lt. absurd (omega arith)
@@ -101,7 +106,8 @@ additions_to-all P weights (suc n) h =
     All-append P (additions_to weights n) (additions_of (suc n) (weight_true weights (suc n)) (weight_false weights (suc n)))
     (additions_to-all P weights n (λ v i k. h v i (omega arith))) (additions-all P (suc n) (weight_true weights (suc n)) (weight_false weights (suc n)) (h (suc n) (omega arith) (omega arith)))
 
-additions_to-contains : (weights : List ℤ) (n v : ℕ) → 0 < v → v ≤ n → 0 < most_of (weight_true weights v) (weight_false weights v) → Contains {X = Addition} (additions_to weights n) (addition_at weights v)
+additions_to-contains : (weights : List ℤ) (n v : ℕ) → 0 < v → v ≤ n → 0 < most_of (weight_true weights v) (weight_false weights v) →
+    Contains {X = Addition} (additions_to weights n) (addition_at weights v)
 additions_to-contains weights zero v i k up = absurd (omega arith)
 additions_to-contains weights (suc n) v i k up = elim (cases_eq v (suc n)) [
   | inl e ↦ (
@@ -111,7 +117,8 @@ additions_to-contains weights (suc n) v i k up = elim (cases_eq v (suc n)) [
       Contains-append_right (additions_to weights n) last (addition_at weights (suc n)) (additions-contain (suc n) (weight_true weights (suc n)) (weight_false weights (suc n)) h)) up)
   | inr ne ↦ (
       let within : v ≤ n = omega arith in
-      Contains-append_left (additions_to weights n) (additions_of (suc n) (weight_true weights (suc n)) (weight_false weights (suc n))) (addition_at weights v) (additions_to-contains weights n v i within up))
+      Contains-append_left (additions_to weights n) (additions_of (suc n) (weight_true weights (suc n)) (weight_false weights (suc n)))
+      (addition_at weights v) (additions_to-contains weights n v i within up))
 ]
 
 -- what a variable adds among those up to n, past it and within
@@ -132,7 +139,13 @@ additions_to-sum weights (suc n) v b i k =
       | inl e ↦ (
           let P : ℕ → Type 0 = λ (u : ℕ). sum_by (added_at u b) (additions_to weights (suc n)) ≡ rise b (weight_true weights u) (weight_false weights u) in
           let on : cond (eqb (suc n) (suc n)) (rise b t f) 0 ≡ rise b t f = ap (λ (c : Bool). cond c (rise b t f) 0) (eq-eqb (suc n) (suc n) refl) in
-          subst P (sym e) (omega (arith, sum_by-append (added_at (suc n) b) (additions_to weights n) (additions_of (suc n) t f), additions_to-past weights n (suc n) b (omega arith), additions-sum (suc n) (suc n) b t f, on)))
+          subst P (sym e) (omega (
+            arith,
+            sum_by-append (added_at (suc n) b) (additions_to weights n) (additions_of (suc n) t f),
+            additions_to-past weights n (suc n) b (omega arith),
+            additions-sum (suc n) (suc n) b t f,
+            on,
+          )))
       | inr ne ↦ (
           let within : v ≤ n = omega arith in
           let off : cond (eqb (suc n) v) (rise b t f) 0 ≡ 0 = ap (λ (c : Bool). cond c (rise b t f) 0) (ne_eqb (suc n) v (λ (e : suc n ≡ v). ne (sym e))) in
@@ -144,9 +157,11 @@ pub least_to-is : (p : Program) (q : ℤ) (weights : List ℤ) → AreWeights p 
 least_to-is p q weights are =
     sum_to-same (least_at p (valueless p) q) (least_by weights) (var_count p) (λ v i k.
     ap (λ (o : Option Bool). least o (weight_at p q (T v)) (weight_at p q (F v))) (get_or-replicate (var_count p + 1) v None None (omega arith))
-    ∙ (ap (λ (t : ℤ). least None t (weight_at p q (F v))) (sym (weight_true-is p q weights v are k)) ∙ ap (λ (f : ℤ). least None (weight_true weights v) f) (sym (weight_false-is p q weights v are k))))
+    ∙ (ap (λ (t : ℤ). least None t (weight_at p q (F v))) (sym (weight_true-is p q weights v are k))
+    ∙ ap (λ (f : ℤ). least None (weight_true weights v) f) (sym (weight_false-is p q weights v are k))))
 
-pub least_to-low : (p : Program) (q : ℤ) (weights : List ℤ) → AreWeights p (items_at p.minimize q) weights → size_of (items_at p.minimize q) ≤ 2 ^ 55 → neg_ℤ (pos (2 ^ 60)) ≤ℤ least_to weights (var_count p)
+pub least_to-low : (p : Program) (q : ℤ) (weights : List ℤ) → AreWeights p (items_at p.minimize q) weights →
+    size_of (items_at p.minimize q) ≤ 2 ^ 55 → neg_ℤ (pos (2 ^ 60)) ≤ℤ least_to weights (var_count p)
 least_to-low p q weights are small = omega (arith, ints, least_to-is p q weights are, optimistic_at-low p (valueless p) q)
 
 pub least_to-high : (p : Program) (q : ℤ) (weights : List ℤ) → AreWeights p (items_at p.minimize q) weights → size_of (items_at p.minimize q) ≤ 2 ^ 55 → least_to weights (var_count p) ≤ℤ pos (2 ^ 60)
@@ -159,14 +174,17 @@ additions-few_as weights additions n permuted = omega (arith, length_permutation
 
 pub additions-vars : (weights : List ℤ) (additions : List Addition) (n : ℕ) → IsPermutation (additions_to weights n) additions → All (λ (a : Addition). (0 < a.var) × (a.var ≤ n)) additions
 additions-vars weights additions n permuted =
-    All-permutation (λ (a : Addition). (0 < a.var) × (a.var ≤ n)) (additions_to weights n) additions permuted (additions_to-all (λ (a : Addition). (0 < a.var) × (a.var ≤ n)) weights n (λ v i k. (i, k)))
+    All-permutation (λ (a : Addition). (0 < a.var) × (a.var ≤ n)) (additions_to weights n) additions permuted
+    (additions_to-all (λ (a : Addition). (0 < a.var) × (a.var ≤ n)) weights n (λ v i k. (i, k)))
 
 -- what the values of a variable add, by its weights
-rises-at : (p : Program) (q : ℤ) (weights : List ℤ) (v : ℕ) (b : Bool) → AreWeights p (items_at p.minimize q) weights → v ≤ var_count p → rise b (weight_true weights v) (weight_false weights v) ≡ rise_at p q v b
+rises-at : (p : Program) (q : ℤ) (weights : List ℤ) (v : ℕ) (b : Bool) → AreWeights p (items_at p.minimize q) weights → v ≤ var_count p →
+    rise b (weight_true weights v) (weight_false weights v) ≡ rise_at p q v b
 rises-at p q weights v b are k =
     ap (λ (t : ℤ). rise b t (weight_false weights v)) (weight_true-is p q weights v are k) ∙ ap (λ (f : ℤ). rise b (weight_at p q (T v)) f) (weight_false-is p q weights v are k)
 
-most-small : (p : Program) (q : ℤ) (weights : List ℤ) (v : ℕ) → AreWeights p (items_at p.minimize q) weights → size_of (items_at p.minimize q) ≤ 2 ^ 55 → v ≤ var_count p → most_of (weight_true weights v) (weight_false weights v) < 2 ^ 57
+most-small : (p : Program) (q : ℤ) (weights : List ℤ) (v : ℕ) → AreWeights p (items_at p.minimize q) weights →
+    size_of (items_at p.minimize q) ≤ 2 ^ 55 → v ≤ var_count p → most_of (weight_true weights v) (weight_false weights v) < 2 ^ 57
 most-small p q weights v are small k = omega (arith, rises-at p q weights v true are k, rises-at p q weights v false are k, rise_at-small p q v true, rise_at-small p q v false, small)
 
 contains-item : (additions : List Addition) (a : Addition) → Contains additions a → Contains (map item_of additions) (item_of a)
@@ -180,13 +198,16 @@ falling-items additions falling = λ i k d lt within.
     let right : get_or (map item_of additions) k d ≡ item_of (get_or additions k none) = get_or-map item_of additions k none d inside in
     omega (arith, falling i k none lt inside, ap (λ (x : Item). x.most) left, ap (λ (x : Item). x.most) right)
 
-column-is : (p : Program) (q : ℤ) (weights : List ℤ) (additions : List Addition) → AreWeights p (items_at p.minimize q) weights → size_of (items_at p.minimize q) ≤ 2 ^ 55 → IsPermutation (additions_to weights (var_count p)) additions →
+column-is : (p : Program) (q : ℤ) (weights : List ℤ) (additions : List Addition) → AreWeights p (items_at p.minimize q) weights →
+    size_of (items_at p.minimize q) ≤ 2 ^ 55 → IsPermutation (additions_to weights (var_count p)) additions →
     AllPairs (λ (i k : Addition). k.most ≤ i.most) additions → IsColumn p q (map item_of additions)
 column-is p q weights additions are small permuted falling =
     let n = var_count p in
     record {
       within = All-map (λ (i : Item). (0 < i.var) × (i.var ≤ n)) item_of additions (additions-vars weights additions n permuted);
-      small = All-map (λ (i : Item). i.most < 2 ^ 57) item_of additions (All-permutation (λ (a : Addition). a.most < 2 ^ 57) (additions_to weights n) additions permuted (additions_to-all (λ (a : Addition). a.most < 2 ^ 57) weights n (λ v i k. most-small p q weights v are small k)));
+      small = All-map (λ (i : Item). i.most < 2 ^ 57) item_of additions
+          (All-permutation (λ (a : Addition). a.most < 2 ^ 57) (additions_to weights n) additions permuted
+          (additions_to-all (λ (a : Addition). a.most < 2 ^ 57) weights n (λ v i k. most-small p q weights v are small k)));
       falling = falling-items additions falling;
       whole = λ v b i k up.
           let a : Addition = addition_at weights v in
@@ -202,8 +223,10 @@ linked-items level rows new additions placed = λ i d within.
     let is : get_or (map item_of additions) i d ≡ item_of a = get_or-map item_of additions i none d inside in
     (place_of level i a, subst (λ (x : Item). Contains (row_at new x.var) (place_of level i a)) (sym is) (placed.linked i none inside), refl, refl)
 
-pub gathered : (p : Program) (level : ℕ) (q : ℤ) (weights : List ℤ) (rows new : List (List Place)) (additions : List Addition) → AreWeights p (items_at p.minimize q) weights → size_of (items_at p.minimize q) ≤ 2 ^ 55 →
-    IsPermutation (additions_to weights (var_count p)) additions → AllPairs (λ (i k : Addition). k.most ≤ i.most) additions → ArePlaced level additions rows new → IsGathered p level q rows new (map item_of additions) (least_to weights (var_count p))
+pub gathered : (p : Program) (level : ℕ) (q : ℤ) (weights : List ℤ) (rows new : List (List Place)) (additions : List Addition) →
+    AreWeights p (items_at p.minimize q) weights → size_of (items_at p.minimize q) ≤ 2 ^ 55 →
+    IsPermutation (additions_to weights (var_count p)) additions → AllPairs (λ (i k : Addition). k.most ≤ i.most) additions →
+    ArePlaced level additions rows new → IsGathered p level q rows new (map item_of additions) (least_to weights (var_count p))
 gathered p level q weights rows new additions are small permuted falling placed =
     let n = var_count p in
     record {
@@ -221,7 +244,8 @@ gathered p level q weights rows new additions are small permuted falling placed 
 
 -- the same, by what the calls say
 pub gathered_as : (p : Program) (level : ℕ) (q : ℤ) (weights : List ℤ) (rows new : List (List Place)) (additions : List Addition) (items : List Item) (least : ℤ) (vars : ℕ) → vars ≡ var_count p →
-    AreWeights p (items_at p.minimize q) weights → size_of (items_at p.minimize q) ≤ 2 ^ 55 → IsPermutation (additions_to weights vars) additions → AllPairs (λ (i k : Addition). k.most ≤ i.most) additions →
+    AreWeights p (items_at p.minimize q) weights → size_of (items_at p.minimize q) ≤ 2 ^ 55 → IsPermutation (additions_to weights vars) additions →
+    AllPairs (λ (i k : Addition). k.most ≤ i.most) additions →
     ArePlaced level additions rows new → items ≡ map item_of additions → least ≡ least_to weights vars → IsGathered p level q rows new items least
 gathered_as p level q weights rows new additions items least vars e are small permuted falling placed made sum =
     let all = gathered p level q weights rows new additions are small (subst (λ (n : ℕ). IsPermutation (additions_to weights n) additions) e permuted) falling placed in
@@ -237,7 +261,8 @@ raised-none (o ∷ row) j b all =
     omega (arith, sum_by-cons (λ (x : Place). cond (eqb x.level j) (rise_by b x) 0) o row, off, raised-none row j b (All-tail (λ (x : Place). x.level < j) o row all))
 
 -- what holds of each priority and its place, with one priority more
-each_push : (qs : List ℤ) (q : ℤ) (P : ℕ → ℤ → Type 0) → ((j : ℕ) → j < length qs → P j (get_or qs j (pos 0))) → P (length qs) q → (j : ℕ) → j < length (qs ++ q ∷ []) → P j (get_or (qs ++ q ∷ []) j (pos 0))
+each_push : (qs : List ℤ) (q : ℤ) (P : ℕ → ℤ → Type 0) → ((j : ℕ) → j < length qs → P j (get_or qs j (pos 0))) → P (length qs) q → (j : ℕ) →
+    j < length (qs ++ q ∷ []) → P j (get_or (qs ++ q ∷ []) j (pos 0))
 each_push qs q P before here j lt = elim (cases_lt j (length qs)) [
   | inl low ↦ subst (P j) (sym (get_or_append_left qs (q ∷ []) (pos 0) j low)) (before j low)
   | inr out ↦ (
@@ -245,7 +270,8 @@ each_push qs q P before here j lt = elim (cases_lt j (length qs)) [
       subst (λ (k : ℕ). P k (get_or (qs ++ q ∷ []) k (pos 0))) e (subst (P (length qs)) (sym (get_or_push qs q (pos 0) (length qs) refl)) here))
 ]
 
-linked-grown : (rows new : List (List Place)) (j : ℕ) (column : List Item) → ((v : ℕ) (o : Place) → Contains (row_at rows v) o → Contains (row_at new v) o) → IsLinked rows j column → IsLinked new j column
+linked-grown : (rows new : List (List Place)) (j : ℕ) (column : List Item) →
+    ((v : ℕ) (o : Place) → Contains (row_at rows v) o → Contains (row_at new v) o) → IsLinked rows j column → IsLinked new j column
 linked-grown rows new j column grown linked = λ i d lt.
     let link = linked i d lt in
     (link.0, grown (get_or column i d).var link.0 link.1, link.2, link.3)
@@ -257,7 +283,9 @@ gathered_more p qs q rows new items costs column least g h =
     record {
       count = h.count ∙ g.count;
       small = each_push qs q (λ (j : ℕ) (r : ℤ). size_of (items_at p.minimize r) ≤ 2 ^ 55) g.small h.small;
-      within = λ v. h.within (length (qs ++ q ∷ [])) v (omega (arith, long)) (All-weaker (λ (o : Place). o.level < length qs) (λ (o : Place). o.level < length (qs ++ q ∷ [])) (λ o lt. omega (arith, long, lt)) (row_at rows v) (g.within v));
+      within = λ v. h.within (length (qs ++ q ∷ [])) v (omega (arith, long))
+          (All-weaker (λ (o : Place). o.level < length qs) (λ (o : Place). o.level < length (qs ++ q ∷ [])) (λ o lt. omega (arith, long, lt))
+          (row_at rows v) (g.within v));
       sums = λ j v b lt i k. each_push qs q (λ (j : ℕ) (r : ℤ). raised (row_at new v) j b ≡ rise_at p r v b)
           (λ j lt. h.kept j v b (λ (e : j ≡ length qs). omega arith) ∙ g.sums j v b lt i k)
           (omega (arith, h.sums v b i k, raised-none (row_at rows v) (length qs) b (g.within v))) j lt;
@@ -267,13 +295,15 @@ gathered_more p qs q rows new items costs column least g h =
           (subst (IsColumn p q) (sym (get_or_push items column [] (length qs) g.columned)) h.column);
       linked = record {
         each = λ k within. each_push qs q (λ (j : ℕ) (r : ℤ). IsLinked new j (get_or (items ++ column ∷ []) j []))
-            (λ j lt. subst (IsLinked new j) (sym (get_or_append_left items (column ∷ []) [] j (omega (arith, g.columned, lt)))) (linked-grown rows new j (get_or items j []) h.grown (g.linked.each j (omega (arith, g.columned, lt)))))
+            (λ j lt. subst (IsLinked new j) (sym (get_or_append_left items (column ∷ []) [] j (omega (arith, g.columned, lt))))
+            (linked-grown rows new j (get_or items j []) h.grown (g.linked.each j (omega (arith, g.columned, lt)))))
             (subst (IsLinked new (length qs)) (sym (get_or_push items column [] (length qs) g.columned)) h.linked) k (omega (arith, long, length_push items column, g.columned, within));
       };
       summed =
           let last : optimistic_at p (valueless p) q ≡ least = h.least_is in
           let all = g.summed in
-          let pushed : map (optimistic_at p (valueless p)) (qs ++ q ∷ []) ≡ map (optimistic_at p (valueless p)) qs ++ optimistic_at p (valueless p) q ∷ [] = map_push (optimistic_at p (valueless p)) qs q in
+          let pushed : map (optimistic_at p (valueless p)) (qs ++ q ∷ []) ≡ map (optimistic_at p (valueless p)) qs
+          ++ optimistic_at p (valueless p) q ∷ [] = map_push (optimistic_at p (valueless p)) qs q in
           ap (λ (xs : List ℤ). xs ++ least ∷ []) all ∙ (ap (λ (x : ℤ). map (optimistic_at p (valueless p)) qs ++ x ∷ []) (sym last) ∙ sym pushed);
     }
 

@@ -37,7 +37,8 @@ OfRaising p a d P =
     (j v : ℕ) (b : Bool) → j < d → j < length (priorities p.minimize) → 0 < v → v ≤ var_count p → value_of a v ≡ Some b → 0 < rise_at p (nth_priority p j) v b → P v b
 
 -- Where the first priorities reach the bound, values of all variables that agree with what raises them cost no less.
-pub excluded_at : (p : Program) (a : List (Option Bool)) (c : List ℤ) (d : ℕ) (x : List Bool) → reach (optimistic p a) c ≡ Some d → OfRaising p a d (λ v b. get_or x v false ≡ b) → betters (cost_of p x) c ≡ false
+pub excluded_at : (p : Program) (a : List (Option Bool)) (c : List ℤ) (d : ℕ) (x : List Bool) → reach (optimistic p a) c ≡ Some d →
+    OfRaising p a d (λ v b. get_or x v false ≡ b) → betters (cost_of p x) c ≡ false
 excluded_at p a c d x r agree =
     let qs = priorities p.minimize in
     let same : length (optimistic p a) ≡ length (cost_of p x) = length-map qs (optimistic_at p a) ∙ sym (length-map qs (cost_of_at p x)) in
@@ -162,15 +163,18 @@ kept-without : (p : Program) (a : List (Option Bool)) (rows : List (List Place))
     (l : Literal) (n : List Literal) → AreHeld p a (l ∷ n) → IsKept p (set a l.var None) rows columns vars (without rows sums l)
 kept-without p a rows columns vars sums kept l n h =
     let within : IsVar (var_count p) l.var = h.within l (has-first l n) in
-    kept-untold p a rows columns vars sums (without rows sums l) kept l.var l.truth within.0 within.1 (h.held l (has-first l n)) (length-lowered (λ j. raised_by rows j l) sums) (λ j lt. get_or-lowered (λ j. raised_by rows j l) sums j lt)
+    kept-untold p a rows columns vars sums (without rows sums l) kept l.var l.truth within.0 within.1 (h.held l (has-first l n))
+    (length-lowered (λ j. raised_by rows j l) sums) (λ j lt. get_or-lowered (λ j. raised_by rows j l) sums j lt)
 
 -- what the literals add at most
-pub total-low : (p : Program) (rows : List (List Place)) (columns : List (List Item)) (vars : List ℕ) (n : List Literal) (a : List (Option Bool)) (sums : List ℤ) → IsKept p a rows columns vars sums → AreHeld p a n →
+pub total-low : (p : Program) (rows : List (List Place)) (columns : List (List Item)) (vars : List ℕ) (n : List Literal) (a : List (Option Bool))
+    (sums : List ℤ) → IsKept p a rows columns vars sums → AreHeld p a n →
     (j : ℕ) → j < length sums → pos (total rows j n) ≤ℤ (get_or sums j (pos 0) +ℤ pos (2 ^ 55))
 total-low p rows columns vars [] a sums kept h j lt = sums-low p a rows columns vars sums kept j lt
 total-low p rows columns vars (l ∷ n) a sums kept h j lt =
     let f : ℕ → ℕ = λ j. raised_by rows j l in
-    let rest = total-low p rows columns vars n (set a l.var None) (without rows sums l) (kept-without p a rows columns vars sums kept l n h) (held-without p a l n h) j (omega (arith, length-lowered f sums)) in
+    let rest = total-low p rows columns vars n (set a l.var None) (without rows sums l) (kept-without p a rows columns vars sums kept l n h)
+    (held-without p a l n h) j (omega (arith, length-lowered f sums)) in
     omega (arith, ints, rest, get_or-lowered f sums j lt, sum_by-cons (raised_by rows j) l n)
 
 -- ---- what is needed
@@ -178,7 +182,8 @@ pub needed-among : (rows : List (List Place)) (c : List ℤ) (depth : ℕ) (n : 
 needed-among rows c depth [] sums k h = h
 needed-among rows c depth (l ∷ n) sums k h = by_test (is_shown depth (reach (without rows sums l) c)) (needed-among rows c depth n (without rows sums l) k) (needed-among rows c depth n sums k) h
   where
-    by_test : (t : Bool) → (has_literal (needed rows c depth (without rows sums l) n) k ≡ true → has_literal n k ≡ true) → (has_literal (needed rows c depth sums n) k ≡ true → has_literal n k ≡ true) →
+    by_test : (t : Bool) → (has_literal (needed rows c depth (without rows sums l) n) k ≡ true → has_literal n k ≡ true) →
+        (has_literal (needed rows c depth sums n) k ≡ true → has_literal n k ≡ true) →
         has_literal (cond t (needed rows c depth (without rows sums l) n) (l ∷ needed rows c depth sums n)) k ≡ true → has_literal (l ∷ n) k ≡ true
     by_test true out stays g = has-later l k n (out g)
     by_test false out stays g = elim (or_split (literal_eq l k) (has_literal (needed rows c depth sums n) k) g) [
@@ -212,25 +217,32 @@ covers-without p a d l n x inside h = λ j v b lt low i k e up. elim (cases_eq v
 covers-kept : (p : Program) (a : List (Option Bool)) (d : ℕ) (l : Literal) (n : List Literal) (x : List Bool) → is_true x l ≡ true → Covers p a d (l ∷ n) x → Covers p a d n x
 covers-kept p a d l n x hit h = λ j v b lt low i k e up. elim (h j v b lt low i k e up) [
   | inl has ↦ elim (or_split (literal_eq l (record { var = v; truth = b })) (has_literal n (record { var = v; truth = b })) has) [
-    | inl here ↦ inr (beq_same (get_or x v false) b (hits-has x (l ∷ []) (record { var = v; truth = b }) (and_both (is_true x l) true hit refl) (or_left (literal_eq l (record { var = v; truth = b })) false here)))
+    | inl here ↦ inr (beq_same (get_or x v false) b
+        (hits-has x (l ∷ []) (record { var = v; truth = b }) (and_both (is_true x l) true hit refl)
+        (or_left (literal_eq l (record { var = v; truth = b })) false here)))
     | inr later ↦ inl later
   ]
   | inr agree ↦ inr agree
 ]
 
 -- Values of all variables that hit what is needed cost no less than the bound.
-pub needed-excludes : (p : Program) (rows : List (List Place)) (columns : List (List Item)) (vars : List ℕ) (c : List ℤ) (depth : ℕ) (x : List Bool) (n : List Literal) (a : List (Option Bool)) (sums : List ℤ) → IsKept p a rows columns vars sums → AreHeld p a n → Covers p a depth n x →
+pub needed-excludes : (p : Program) (rows : List (List Place)) (columns : List (List Item)) (vars : List ℕ) (c : List ℤ) (depth : ℕ) (x : List Bool)
+    (n : List Literal) (a : List (Option Bool)) (sums : List ℤ) → IsKept p a rows columns vars sums → AreHeld p a n → Covers p a depth n x →
     (d : ℕ) → reach sums c ≡ Some d → d ≤ depth → hits x (needed rows c depth sums n) ≡ true → betters (cost_of p x) c ≡ false
 needed-excludes p rows columns vars c depth x [] a sums kept h covers d r le hit =
-    excluded_at p a c d x (ap (λ (s : List ℤ). reach s c) (sym kept.summed) ∙ r) (λ j v b lt low i k e up. elim (covers j v b (omega arith) low i k e up) [ inl has ↦ absurd (false≢true has) | inr agree ↦ agree ])
+    excluded_at p a c d x (ap (λ (s : List ℤ). reach s c) (sym kept.summed) ∙ r)
+    (λ j v b lt low i k e up. elim (covers j v b (omega arith) low i k e up) [ inl has ↦ absurd (false≢true has) | inr agree ↦ agree ])
 needed-excludes p rows columns vars c depth x (l ∷ n) a sums kept h covers d r le hit =
     let inside : l.var < length a = omega (arith, kept.sized, (h.within l (has-first l n)).1) in
     by_test (is_shown depth (reach (without rows sums l) c)) refl
     (λ e g.
     let s = shown depth (reach (without rows sums l) c) e in
-    needed-excludes p rows columns vars c depth x n (set a l.var None) (without rows sums l) (kept-without p a rows columns vars sums kept l n h) (held-without p a l n h) (covers-without p a depth l n x inside covers) s.0 s.1 s.2 g)
+    needed-excludes p rows columns vars c depth x n (set a l.var None) (without rows sums l) (kept-without p a rows columns vars sums kept l n h)
+    (held-without p a l n h) (covers-without p a depth l n x inside covers) s.0 s.1 s.2 g)
     (λ g.
-    needed-excludes p rows columns vars c depth x n a sums kept (held-later p a l n h) (covers-kept p a depth l n x (and_left (is_true x l) (hits x (needed rows c depth sums n)) g) covers) d r le (and_right (is_true x l) (hits x (needed rows c depth sums n)) g))
+    needed-excludes p rows columns vars c depth x n a sums kept (held-later p a l n h)
+    (covers-kept p a depth l n x (and_left (is_true x l) (hits x (needed rows c depth sums n)) g) covers) d r le
+    (and_right (is_true x l) (hits x (needed rows c depth sums n)) g))
     hit
   where
     by_test : (t : Bool) → is_shown depth (reach (without rows sums l) c) ≡ t →
@@ -264,7 +276,8 @@ drop-next n i d lt = rw (add-one, drop-cons n i d) refl
 drop-turn : (n : List Literal) (i : ℕ) (l : Literal) → i < length n → l ≡ get_or n i l → drop i n ≡ l ∷ drop (i + 1) n
 drop-turn n i l lt is = drop-next n i l lt ∙ ap (λ (k : Literal). k ∷ drop (i + 1) n) (sym is)
 
-pub needed-next : (rows : List (List Place)) (c : List ℤ) (depth : ℕ) (n : List Literal) (i : ℕ) (l : Literal) (old new whole : List Literal) (before after : List ℤ) → i < length n → l ≡ get_or n i l →
+pub needed-next : (rows : List (List Place)) (c : List ℤ) (depth : ℕ) (n : List Literal) (i : ℕ) (l : Literal) (old new whole : List Literal)
+    (before after : List ℤ) → i < length n → l ≡ get_or n i l →
     ((rest : List Literal) → new ++ needed rows c depth after rest ≡ old ++ needed rows c depth before (l ∷ rest)) →
     old ++ needed rows c depth before (drop i n) ≡ whole → new ++ needed rows c depth after (drop (i + 1) n) ≡ whole
 needed-next rows c depth n i l old new whole before after lt is step e = step (drop (i + 1) n) ∙ (ap (λ (m : List Literal). old ++ needed rows c depth before m) (sym (drop-turn n i l lt is)) ∙ e)
@@ -275,26 +288,31 @@ drop-none [] (suc i) le = refl
 drop-none (l ∷ n) zero le = absurd (omega arith)
 drop-none (l ∷ n) (suc i) le = drop-none n i (omega arith)
 
-pub needed-last : (rows : List (List Place)) (c : List ℤ) (depth : ℕ) (n : List Literal) (i : ℕ) (lits whole : List Literal) (sums : List ℤ) → length n ≤ i → lits ++ needed rows c depth sums (drop i n) ≡ whole → lits ≡ whole
+pub needed-last : (rows : List (List Place)) (c : List ℤ) (depth : ℕ) (n : List Literal) (i : ℕ) (lits whole : List Literal) (sums : List ℤ) →
+    length n ≤ i → lits ++ needed rows c depth sums (drop i n) ≡ whole → lits ≡ whole
 needed-last rows c depth n i lits whole sums le e = sym (append-nil lits) ∙ (ap (λ (m : List Literal). lits ++ needed rows c depth sums m) (sym (drop-none n i le)) ∙ e)
 
-total-next : (rows : List (List Place)) (j : ℕ) (n : List Literal) (i : ℕ) (l : Literal) → i < length n → l ≡ get_or n i l → total rows j (drop i n) ≡ raised_by rows j l + total rows j (drop (i + 1) n)
+total-next : (rows : List (List Place)) (j : ℕ) (n : List Literal) (i : ℕ) (l : Literal) → i < length n → l ≡ get_or n i l →
+    total rows j (drop i n) ≡ raised_by rows j l + total rows j (drop (i + 1) n)
 total-next rows j n i l lt is = ap (total rows j) (drop-turn n i l lt is) ∙ sum_by-cons (raised_by rows j) l (drop (i + 1) n)
 
 -- what the literals from a place on add leaves the sums above a limit
 abbrev pub IsRoom : List (List Place) → List Literal → ℤ → List ℤ → Type 0
 IsRoom rows n m sums = (j : ℕ) → j < length sums → (m +ℤ pos (total rows j n)) ≤ℤ get_or sums j (pos 0)
 
-pub room-first : (rows : List (List Place)) (n : List Literal) (i : ℕ) (l : Literal) (m : ℤ) (sums : List ℤ) → i < length n → l ≡ get_or n i l → IsRoom rows (drop i n) m sums → (j : ℕ) → j < length sums → (m +ℤ pos (raised (row_at rows l.var) j l.truth)) ≤ℤ get_or sums j (pos 0)
+pub room-first : (rows : List (List Place)) (n : List Literal) (i : ℕ) (l : Literal) (m : ℤ) (sums : List ℤ) → i < length n → l ≡ get_or n i l →
+    IsRoom rows (drop i n) m sums → (j : ℕ) → j < length sums → (m +ℤ pos (raised (row_at rows l.var) j l.truth)) ≤ℤ get_or sums j (pos 0)
 room-first rows n i l m sums lt is room j low = omega (arith, ints, room j low, total-next rows j n i l lt is)
 
-pub room-next : (rows : List (List Place)) (n : List Literal) (i : ℕ) (l : Literal) (m : ℤ) (before after : List ℤ) → i < length n → l ≡ get_or n i l → length after ≡ length before → IsRoom rows (drop i n) m before →
+pub room-next : (rows : List (List Place)) (n : List Literal) (i : ℕ) (l : Literal) (m : ℤ) (before after : List ℤ) → i < length n →
+    l ≡ get_or n i l → length after ≡ length before → IsRoom rows (drop i n) m before →
     ((j : ℕ) → j < length before → get_or before j (pos 0) ≤ℤ (get_or after j (pos 0) +ℤ pos (raised (row_at rows l.var) j l.truth))) → IsRoom rows (drop (i + 1) n) m after
 room-next rows n i l m before after lt is long room least j low =
     let inside : j < length before = omega (arith, long, low) in
     omega (arith, ints, room j inside, total-next rows j n i l lt is, least j inside)
 
-pub high-next : (m : ℤ) (before after : List ℤ) → length after ≡ length before → ((j : ℕ) → j < length before → get_or before j (pos 0) <ℤ m) → ((j : ℕ) → j < length before → get_or after j (pos 0) ≤ℤ get_or before j (pos 0)) →
+pub high-next : (m : ℤ) (before after : List ℤ) → length after ≡ length before → ((j : ℕ) → j < length before → get_or before j (pos 0) <ℤ m) →
+    ((j : ℕ) → j < length before → get_or after j (pos 0) ≤ℤ get_or before j (pos 0)) →
     (j : ℕ) → j < length after → get_or after j (pos 0) <ℤ m
 high-next m before after long high fallen j low =
     let inside : j < length before = omega (arith, long, low) in

@@ -92,14 +92,17 @@ raising_of a rows d vs = flat_map (raising_at a rows d) vs
 raising_by-has : (row : List Place) (d v : ℕ) (b : Bool) (o : Option Bool) → o ≡ Some b → raises row d b ≡ true → has_literal (raising_by row d v o) (record { var = v; truth = b }) ≡ true
 raising_by-has row d v b o e up = subst (λ o. has_literal (raising_by row d v o) (record { var = v; truth = b }) ≡ true) (sym e) (one_has (raises row d b) v b up)
 
-raising-has : (a : List (Option Bool)) (rows : List (List Place)) (d : ℕ) (vs : List ℕ) (v : ℕ) (b : Bool) → list_any (λ x. eqb x v) vs ≡ true → value_of a v ≡ Some b → raises (row_at rows v) d b ≡ true → has_literal (raising_of a rows d vs) (record { var = v; truth = b }) ≡ true
+raising-has : (a : List (Option Bool)) (rows : List (List Place)) (d : ℕ) (vs : List ℕ) (v : ℕ) (b : Bool) → list_any (λ x. eqb x v) vs ≡ true →
+    value_of a v ≡ Some b → raises (row_at rows v) d b ≡ true → has_literal (raising_of a rows d vs) (record { var = v; truth = b }) ≡ true
 raising-has a rows d vs v b among e up =
     let l : Literal = record { var = v; truth = b } in
     list_any-flat_map (λ k. literal_eq k l) (raising_at a rows d) vs ∙ among-any vs v (λ x. has_literal (raising_at a rows d x) l) among (raising_by-has (row_at rows v) d v b (value_of a v) e up)
 
 -- all that raise the first priorities are among them
-pub raising-whole : (p : Program) (a : List (Option Bool)) (rows : List (List Place)) (columns : List (List Item)) (vars : List ℕ) (sums : List ℤ) (vs : List ℕ) (d : ℕ) → IsKept p a rows columns vars sums → HaveRaisers a rows vs →
-    (j v : ℕ) (b : Bool) → j < d → j < length (priorities p.minimize) → 0 < v → v ≤ var_count p → value_of a v ≡ Some b → 0 < rise_at p (nth_priority p j) v b → has_literal (raising_of a rows d vs) (record { var = v; truth = b }) ≡ true
+pub raising-whole : (p : Program) (a : List (Option Bool)) (rows : List (List Place)) (columns : List (List Item)) (vars : List ℕ) (sums : List ℤ)
+    (vs : List ℕ) (d : ℕ) → IsKept p a rows columns vars sums → HaveRaisers a rows vs →
+    (j v : ℕ) (b : Bool) → j < d → j < length (priorities p.minimize) → 0 < v → v ≤ var_count p → value_of a v ≡ Some b →
+    0 < rise_at p (nth_priority p j) v b → has_literal (raising_of a rows d vs) (record { var = v; truth = b }) ≡ true
 raising-whole p a rows columns vars sums vs d kept are j v b lt low i k e up =
     let raise : 0 < raised (row_at rows v) j b = omega (arith, kept.rowed.sums j v b low i k) in
     let raises_it : raises (row_at rows v) d b ≡ true = raised-raises (row_at rows v) j d b lt raise in
@@ -121,7 +124,9 @@ raising_by-hold a row d v (Some b) e = by_test (raises row d b)
 pub raising-hold : (a : List (Option Bool)) (rows : List (List Place)) (d : ℕ) (vs : List ℕ) → list_all (holds_in a) (raising_of a rows d vs) ≡ true
 raising-hold a rows d [] = refl
 raising-hold a rows d (v ∷ vs) =
-    list_all-append (holds_in a) (raising_at a rows d v) (raising_of a rows d vs) ∙ and_both (list_all (holds_in a) (raising_at a rows d v)) (list_all (holds_in a) (raising_of a rows d vs)) (raising_by-hold a (row_at rows v) d v (value_of a v) refl) (raising-hold a rows d vs)
+    list_all-append (holds_in a) (raising_at a rows d v) (raising_of a rows d vs)
+    ∙ and_both (list_all (holds_in a) (raising_at a rows d v)) (list_all (holds_in a) (raising_of a rows d vs))
+    (raising_by-hold a (row_at rows v) d v (value_of a v) refl) (raising-hold a rows d vs)
 
 -- ---- so they are violated, or unit with one more
 pub violated-loud : (a : List (Option Bool)) (n : List Literal) → list_all (holds_in a) n ≡ true → is_at_fixpoint a n ≡ false
@@ -131,16 +136,21 @@ weaker-all : (f g : Literal → Bool) (n : List Literal) → ((k : Literal) → 
 weaker-all f g [] h e = refl
 weaker-all f g (k ∷ n) h e = and_both (g k) (list_all g n) (h k (and_left (f k) (list_all f n) e)) (weaker-all f g n h (and_right (f k) (list_all f n) e))
 
-pub unit-loud : (a : List (Option Bool)) (n : List Literal) (v : ℕ) (b : Bool) → list_all (holds_in a) n ≡ true → value_of a v ≡ None → is_at_fixpoint a (n ++ record { var = v; truth = b } ∷ []) ≡ false
+pub unit-loud : (a : List (Option Bool)) (n : List Literal) (v : ℕ) (b : Bool) → list_all (holds_in a) n ≡ true → value_of a v ≡ None →
+    is_at_fixpoint a (n ++ record { var = v; truth = b } ∷ []) ≡ false
 unit-loud a n v b h none =
     let l : Literal = record { var = v; truth = b } in
     let test : Literal → Bool = λ k. literal_eq k l || holds_in a k in
     let others : list_all test (n ++ l ∷ []) ≡ true =
-    list_all-append test n (l ∷ []) ∙ and_both (list_all test n) (list_all test (l ∷ [])) (weaker-all (holds_in a) test n (λ k e. or_right (literal_eq k l) (holds_in a k) e) h) (and_both (test l) true (or_left (literal_eq l l) (holds_in a l) (itself v b)) refl) in
+    list_all-append test n (l ∷ []) ∙ and_both (list_all test n) (list_all test (l ∷ []))
+    (weaker-all (holds_in a) test n (λ k e. or_right (literal_eq k l) (holds_in a k) e) h)
+    (and_both (test l) true (or_left (literal_eq l l) (holds_in a l) (itself v b)) refl) in
     let free : is_open a l ≡ true = ap is_none none in
     let here : (is_open a l && list_all test (n ++ l ∷ [])) ≡ true = and_both (is_open a l) (list_all test (n ++ l ∷ [])) free others in
     let unit : is_unit a (n ++ l ∷ []) ≡ true =
-    list_any-append (λ x. is_open a x && list_all (λ k. literal_eq k x || holds_in a k) (n ++ l ∷ [])) n (l ∷ []) ∙ or_right (list_any (λ x. is_open a x && list_all (λ k. literal_eq k x || holds_in a k) (n ++ l ∷ [])) n) ((is_open a l && list_all test (n ++ l ∷ [])) || false) (or_left (is_open a l && list_all test (n ++ l ∷ [])) false here) in
+    list_any-append (λ x. is_open a x && list_all (λ k. literal_eq k x || holds_in a k) (n ++ l ∷ [])) n (l ∷ [])
+    ∙ or_right (list_any (λ x. is_open a x && list_all (λ k. literal_eq k x || holds_in a k) (n ++ l ∷ [])) n)
+    ((is_open a l && list_all test (n ++ l ∷ [])) || false) (or_left (is_open a l && list_all test (n ++ l ∷ [])) false here) in
     and_right_false (not (is_violated a (n ++ l ∷ []))) (not (is_unit a (n ++ l ∷ []))) (ap not unit)
   where
     and_right_false : (x y : Bool) → y ≡ false → (x && y) ≡ false
@@ -160,7 +170,8 @@ raising_by-within P row d v (Some b) h = by_test (raises row d b)
 raising-within : (P : ℕ → Type 0) (a : List (Option Bool)) (rows : List (List Place)) (d : ℕ) (vs : List ℕ) → All P vs → All (λ (l : Literal). P l.var) (raising_of a rows d vs)
 raising-within P a rows d [] h = λ k e lt. absurd (omega arith)
 raising-within P a rows d (v ∷ vs) h =
-    All-append (λ (l : Literal). P l.var) (raising_at a rows d v) (raising_of a rows d vs) (raising_by-within P (row_at rows v) d v (value_of a v) (All-head P v vs h)) (raising-within P a rows d vs (All-tail P v vs h))
+    All-append (λ (l : Literal). P l.var) (raising_at a rows d v) (raising_of a rows d vs)
+    (raising_by-within P (row_at rows v) d v (value_of a v) (All-head P v vs h)) (raising-within P a rows d vs (All-tail P v vs h))
 
 -- ---- each holds, and stands once
 times_by : (row : List Place) (d u v : ℕ) (o : Option Bool) → times v (raising_by row d u o) ≤ cond (eqb u v) 1 0
@@ -174,12 +185,14 @@ times_by row d u v (Some b) = by_test (raises row d b)
 raising-times : (a : List (Option Bool)) (rows : List (List Place)) (d : ℕ) (vs : List ℕ) (v : ℕ) → times v (raising_of a rows d vs) ≤ count_by (λ x. eqb x v) vs
 raising-times a rows d [] v = omega arith
 raising-times a rows d (u ∷ vs) v =
-    let split : times v (raising_of a rows d (u ∷ vs)) ≡ times v (raising_at a rows d u) + times v (raising_of a rows d vs) = sum_by-append (λ (l : Literal). cond (eqb l.var v) 1 0) (raising_at a rows d u) (raising_of a rows d vs) in
+    let split : times v (raising_of a rows d (u ∷ vs)) ≡ times v (raising_at a rows d u) + times v (raising_of a rows d vs) =
+    sum_by-append (λ (l : Literal). cond (eqb l.var v) 1 0) (raising_at a rows d u) (raising_of a rows d vs) in
     let first : times v (raising_at a rows d u) ≤ cond (eqb u v) 1 0 = times_by (row_at rows u) d u v (value_of a u) in
     let counted : count_by (λ x. eqb x v) (u ∷ vs) ≡ cond (eqb u v) 1 0 + count_by (λ x. eqb x v) vs = sum_by-cons (λ (x : ℕ). cond (eqb x v) 1 0) u vs in
     omega (arith, split, first, counted, raising-times a rows d vs v)
 
-pub found-held : (p : Program) (a : List (Option Bool)) (rows : List (List Place)) (columns : List (List Item)) (vars : List ℕ) (sums : List ℤ) (vs : List ℕ) (d : ℕ) (found : List Literal) → IsKept p a rows columns vars sums → HaveRaisers a rows vs →
+pub found-held : (p : Program) (a : List (Option Bool)) (rows : List (List Place)) (columns : List (List Item)) (vars : List ℕ) (sums : List ℤ)
+    (vs : List ℕ) (d : ℕ) (found : List Literal) → IsKept p a rows columns vars sums → HaveRaisers a rows vs →
     IsPermutation (raising_of a rows d vs) found → AreHeld p a found
 found-held p a rows columns vars sums vs d found kept are moved =
     let lits : List Literal = raising_of a rows d vs in
@@ -190,17 +203,21 @@ found-held p a rows columns vars sums vs d found kept are moved =
       once = λ v. omega (arith, raising-times a rows d vs v, are.once v);
     })
 
-found-whole : (p : Program) (a : List (Option Bool)) (rows : List (List Place)) (columns : List (List Item)) (vars : List ℕ) (sums : List ℤ) (vs : List ℕ) (d : ℕ) (found : List Literal) → IsKept p a rows columns vars sums → HaveRaisers a rows vs →
+found-whole : (p : Program) (a : List (Option Bool)) (rows : List (List Place)) (columns : List (List Item)) (vars : List ℕ) (sums : List ℤ)
+    (vs : List ℕ) (d : ℕ) (found : List Literal) → IsKept p a rows columns vars sums → HaveRaisers a rows vs →
     IsPermutation (raising_of a rows d vs) found → OfRaising p a d (λ v b. has_literal found (record { var = v; truth = b }) ≡ true)
 found-whole p a rows columns vars sums vs d found kept are moved = λ j v b lt low i k e up.
-    sym (list_any-IsPermutation (λ (l : Literal). literal_eq l (record { var = v; truth = b })) (raising_of a rows d vs) found moved) ∙ raising-whole p a rows columns vars sums vs d kept are j v b lt low i k e up
+    sym (list_any-IsPermutation (λ (l : Literal). literal_eq l (record { var = v; truth = b })) (raising_of a rows d vs) found moved)
+    ∙ raising-whole p a rows columns vars sums vs d kept are j v b lt low i k e up
 
 -- ---- what is given
 abbrev nogood_of : List ℤ → List Literal → Nogood
 nogood_of c n = record { lits = n; base = base.Below c }
 
 pub given-now : (p : Program) (a : List (Option Bool)) (rows : List (List Place)) (columns : List (List Item)) (vars : List ℕ) (sums : List ℤ) → IsKept p a rows columns vars sums →
-    (vs : List ℕ) → HaveRaisers a rows vs → (c : List ℤ) (d : ℕ) (n : Nogood) (found : List Literal) → IsPermutation (raising_of a rows d vs) found → reach sums c ≡ Some d → n ≡ record { lits = needed rows c d sums found ++ []; base = base.Below c } → IsGivenBy (record { program = p; values = a }) c n
+    (vs : List ℕ) → HaveRaisers a rows vs → (c : List ℤ) (d : ℕ) (n : Nogood) (found : List Literal) → IsPermutation (raising_of a rows d vs) found →
+    reach sums c ≡ Some d → n ≡ record { lits = needed rows c d sums found ++ []; base = base.Below c } →
+    IsGivenBy (record { program = p; values = a }) c n
 given-now p a rows columns vars sums kept vs are c d n found moved r e =
     let lits : List Literal = needed rows c d sums found in
     let plain : lits ++ [] ≡ lits = append-nil lits in
@@ -236,7 +253,8 @@ held-told p a n u t none h = record {
 }
 
 -- With one more value, each that raises the cost is that one, which x has, or a literal's.
-covers-told : (p : Program) (a : List (Option Bool)) (d : ℕ) (n : List Literal) (u : ℕ) (t : Bool) (x : List Bool) → u < length a → is_true x (record { var = u; truth = t }) ≡ true → OfRaising p a d (λ v b. has_literal n (record { var = v; truth = b }) ≡ true) →
+covers-told : (p : Program) (a : List (Option Bool)) (d : ℕ) (n : List Literal) (u : ℕ) (t : Bool) (x : List Bool) → u < length a →
+    is_true x (record { var = u; truth = t }) ≡ true → OfRaising p a d (λ v b. has_literal n (record { var = v; truth = b }) ≡ true) →
     Covers p (set a u (Some t)) d n x
 covers-told p a d n u t x inside hit whole = λ j v b lt low i k e up. elim (cases_eq v u) [
   | inl is ↦ (
@@ -247,7 +265,9 @@ covers-told p a d n u t x inside hit whole = λ j v b lt low i k e up. elim (cas
 ]
 
 pub given-with : (p : Program) (a : List (Option Bool)) (rows : List (List Place)) (columns : List (List Item)) (vars : List ℕ) (sums : List ℤ) → IsKept p a rows columns vars sums →
-    (vs : List ℕ) → HaveRaisers a rows vs → (c : List ℤ) (x : Implied) (n : Nogood) (found : List Literal) (left : List ℤ) → IsPermutation (raising_of a rows x.depth vs) found → IsKept p (set a x.lit.var (Some x.lit.truth)) rows columns vars left → Reaches a rows sums c x → 0 < x.lit.var → x.lit.var ≤ var_count p →
+    (vs : List ℕ) → HaveRaisers a rows vs → (c : List ℤ) (x : Implied) (n : Nogood) (found : List Literal) (left : List ℤ) →
+    IsPermutation (raising_of a rows x.depth vs) found → IsKept p (set a x.lit.var (Some x.lit.truth)) rows columns vars left →
+    Reaches a rows sums c x → 0 < x.lit.var → x.lit.var ≤ var_count p →
     n ≡ record { lits = needed rows c x.depth left found ++ x.lit ∷ []; base = base.Below c } → IsGivenBy (record { program = p; values = a }) c n
 given-with p a rows columns vars sums kept vs are c x n found left moved more r i k e =
     let d = x.depth in
@@ -262,20 +282,24 @@ given-with p a rows columns vars sums kept vs are c x n found left moved more r 
       excluded = λ y hit.
           let both : (hits y lits && hits y one) ≡ true = sym (list_all-append (is_true y) lits one) ∙ hit in
           let last : is_true y x.lit ≡ true = and_left (is_true y x.lit) true (and_right (hits y lits) (hits y one) both) in
-          needed-excludes p rows columns vars c d y found told left more (held-told p a found x.lit.var x.lit.truth r.no_value held) (covers-told p a d found x.lit.var x.lit.truth y inside last whole) d (ap (λ (s : List ℤ). reach s c) more.summed ∙ reached) (omega arith) (and_left (hits y lits) (hits y one) both);
+          needed-excludes p rows columns vars c d y found told left more (held-told p a found x.lit.var x.lit.truth r.no_value held)
+          (covers-told p a d found x.lit.var x.lit.truth y inside last whole) d (ap (λ (s : List ℤ). reach s c) more.summed ∙ reached)
+          (omega arith) (and_left (hits y lits) (hits y one) both);
     } in
     let is : IsGivenBy (record { program = p; values = a }) c (record { lits = lits ++ one; base = base.Below c }) = record {
       base = refl;
       excluded = excluded;
       below = excludes_below p c (lits ++ one) excluded;
-      within = All-push (λ (l : Literal). IsVar (var_count p) l.var) lits x.lit (all-has (λ (l : Literal). IsVar (var_count p) l.var) lits (λ k g. held.within k (needed-among rows c d found left k g))) (i, k);
+      within = All-push (λ (l : Literal). IsVar (var_count p) l.var) lits x.lit
+          (all-has (λ (l : Literal). IsVar (var_count p) l.var) lits (λ k g. held.within k (needed-among rows c d found left k g))) (i, k);
       wanted = unit-loud a lits x.lit.var x.lit.truth (hold-has a lits (λ k g. held.held k (needed-among rows c d found left k g))) r.no_value;
     } in
     subst (IsGivenBy (record { program = p; values = a }) c) (sym e) is
 
 -- ---- the same, by what the calls say
 pub given_now_as : (p : Program) (a : List (Option Bool)) (rows : List (List Place)) (columns : List (List Item)) (vars : List ℕ) (sums : List ℤ) → IsKept p a rows columns vars sums →
-    (vs : List ℕ) → HaveRaisers a rows vs → (c s limits : List ℤ) (d : ℕ) (n : Nogood) (lits found : List Literal) (left : List ℤ) → s ≡ sums → limits ≡ c → Some d ≡ reach (lifted (λ j. 0) s) limits → IsPermutation (raising_of a rows d vs) found → left ≡ s →
+    (vs : List ℕ) → HaveRaisers a rows vs → (c s limits : List ℤ) (d : ℕ) (n : Nogood) (lits found : List Literal) (left : List ℤ) → s ≡ sums →
+    limits ≡ c → Some d ≡ reach (lifted (λ j. 0) s) limits → IsPermutation (raising_of a rows d vs) found → left ≡ s →
     lits ≡ needed rows limits d left found → n ≡ record { lits = lits ++ []; base = base.Below c } → IsGivenBy (record { program = p; values = a }) c n
 given_now_as p a rows columns vars sums kept vs are c s limits d n lits found left es el r moved same elits e =
     let is : lits ≡ needed rows c d sums found = elits ∙ (ap (λ (k : List ℤ). needed rows k d left found) el ∙ ap (λ (z : List ℤ). needed rows c d z found) (same ∙ es)) in
@@ -291,25 +315,34 @@ kept_raised p a rows columns vars sums kept v b row s left i k none er es long e
     omega (arith, ints, each j inside, ap (λ (z : List ℤ). get_or z j (pos 0)) es, ap (λ (r : List Place). raised r j b) er))
 
 pub given_with_as : (p : Program) (a : List (Option Bool)) (rows : List (List Place)) (columns : List (List Item)) (vars : List ℕ) (sums : List ℤ) → IsKept p a rows columns vars sums →
-    (vs : List ℕ) → HaveRaisers a rows vs → (c s limits : List ℤ) (x : Implied) (n : Nogood) (lits found : List Literal) (left : List ℤ) → s ≡ sums → limits ≡ c → Reaches a rows s limits x → (0 < x.lit.var) × (x.lit.var < length a) → IsPermutation (raising_of a rows x.depth vs) found →
-    IsKept p (set a x.lit.var (Some x.lit.truth)) rows columns vars left → lits ≡ needed rows limits x.depth left found → n ≡ record { lits = lits ++ x.lit ∷ []; base = base.Below c } → IsGivenBy (record { program = p; values = a }) c n
+    (vs : List ℕ) → HaveRaisers a rows vs → (c s limits : List ℤ) (x : Implied) (n : Nogood) (lits found : List Literal) (left : List ℤ) → s ≡ sums →
+    limits ≡ c → Reaches a rows s limits x → (0 < x.lit.var) × (x.lit.var < length a) → IsPermutation (raising_of a rows x.depth vs) found →
+    IsKept p (set a x.lit.var (Some x.lit.truth)) rows columns vars left → lits ≡ needed rows limits x.depth left found →
+    n ≡ record { lits = lits ++ x.lit ∷ []; base = base.Below c } → IsGivenBy (record { program = p; values = a }) c n
 given_with_as p a rows columns vars sums kept vs are c s limits x n lits found left es el r within moved more elits e =
     let reaches : Reaches a rows sums c x = subst (λ (l : List ℤ). Reaches a rows sums l x) el (subst (λ (z : List ℤ). Reaches a rows z limits x) es r) in
     let is : lits ≡ needed rows c x.depth left found = elits ∙ ap (λ (k : List ℤ). needed rows k x.depth left found) el in
-    given-with p a rows columns vars sums kept vs are c x n found left moved more reaches within.0 (omega (arith, kept.sized, within.1)) (e ∙ ap (λ (ls : List Literal). nogood_of c (ls ++ x.lit ∷ [])) is)
+    given-with p a rows columns vars sums kept vs are c x n found left moved more reaches within.0 (omega (arith, kept.sized, within.1))
+    (e ∙ ap (λ (ls : List Literal). nogood_of c (ls ++ x.lit ∷ [])) is)
 
 -- ---- what the search for what is needed asks for
-left-vars : (p : Program) (a : List (Option Bool)) (rows : List (List Place)) (columns : List (List Item)) (vars : List ℕ) (left : List ℤ) (found : List Literal) → IsKept p a rows columns vars left → AreHeld p a found → All (λ (l : Literal). (0 < l.var) × (l.var < length rows)) found
-left-vars p a rows columns vars left found kept held = all-has (λ (l : Literal). (0 < l.var) × (l.var < length rows)) found (λ k g. ((held.within k g).0, omega (arith, kept.rowed.count, (held.within k g).1)))
+left-vars : (p : Program) (a : List (Option Bool)) (rows : List (List Place)) (columns : List (List Item)) (vars : List ℕ) (left : List ℤ)
+    (found : List Literal) → IsKept p a rows columns vars left → AreHeld p a found → All (λ (l : Literal). (0 < l.var) × (l.var < length rows)) found
+left-vars p a rows columns vars left found kept held =
+    all-has (λ (l : Literal). (0 < l.var) × (l.var < length rows)) found
+    (λ k g. ((held.within k g).0, omega (arith, kept.rowed.count, (held.within k g).1)))
 
-pub left-within : (p : Program) (a : List (Option Bool)) (rows : List (List Place)) (columns : List (List Item)) (vars : List ℕ) (left : List ℤ) → IsKept p a rows columns vars left → (v : ℕ) → All (λ (o : Place). o.level < length left) (row_at rows v)
+pub left-within : (p : Program) (a : List (Option Bool)) (rows : List (List Place)) (columns : List (List Item)) (vars : List ℕ) (left : List ℤ) →
+    IsKept p a rows columns vars left → (v : ℕ) → All (λ (o : Place). o.level < length left) (row_at rows v)
 left-within p a rows columns vars left kept v = subst (λ (n : ℕ). All (λ (o : Place). o.level < n) (row_at rows v)) (sym (sums-count p a rows columns vars left kept)) (kept.rowed.within v)
 
-left-low : (p : Program) (a : List (Option Bool)) (rows : List (List Place)) (columns : List (List Item)) (vars : List ℕ) (left : List ℤ) (found : List Literal) → IsKept p a rows columns vars left → AreHeld p a found →
+left-low : (p : Program) (a : List (Option Bool)) (rows : List (List Place)) (columns : List (List Item)) (vars : List ℕ) (left : List ℤ)
+    (found : List Literal) → IsKept p a rows columns vars left → AreHeld p a found →
     (j : ℕ) → j < length left → (neg_ℤ (pos (2 ^ 60)) +ℤ pos (total rows j found)) ≤ℤ get_or left j (pos 0)
 left-low p a rows columns vars left found kept held j lt = omega (arith, ints, total-low p rows columns vars found a left kept held j lt)
 
-pub may_fall : (p : Program) (a : List (Option Bool)) (rows : List (List Place)) (columns : List (List Item)) (vars : List ℕ) (left : List ℤ) (found : List Literal) → IsKept p a rows columns vars left → AreHeld p a found → MayFall rows left found
+pub may_fall : (p : Program) (a : List (Option Bool)) (rows : List (List Place)) (columns : List (List Item)) (vars : List ℕ) (left : List ℤ)
+    (found : List Literal) → IsKept p a rows columns vars left → AreHeld p a found → MayFall rows left found
 may_fall p a rows columns vars left found kept held = record {
   vars = left-vars p a rows columns vars left found kept held;
   within = left-within p a rows columns vars left kept;

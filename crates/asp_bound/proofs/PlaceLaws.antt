@@ -19,7 +19,8 @@ rise_by-place j i true x = refl
 rise_by-place j i false x = refl
 
 -- what holds of a variable's row after a place was added to the row of u
-placed_row : (old new : List (List Place)) (u v : ℕ) (o : Place) → u < length old → new ≡ set old u (row_at old u ++ o ∷ []) → (Q : List Place → Type 0) → (u ≢ v → Q (row_at old v)) → (u ≡ v → Q (row_at old v ++ o ∷ [])) → Q (row_at new v)
+placed_row : (old new : List (List Place)) (u v : ℕ) (o : Place) → u < length old → new ≡ set old u (row_at old u ++ o ∷ []) →
+    (Q : List Place → Type 0) → (u ≢ v → Q (row_at old v)) → (u ≡ v → Q (row_at old v ++ o ∷ [])) → Q (row_at new v)
 placed_row old new u v o lt made Q out inside =
     let with' : List Place = row_at old u ++ o ∷ [] in
     let P : ℕ → Type 0 = λ (m : ℕ). row_at (set old u with') m ≡ row_at old m ++ o ∷ [] in
@@ -39,7 +40,8 @@ placed-none j rows = record {
   linked = λ i d lt. absurd (omega arith);
 }
 
-sums-push : (j i : ℕ) (xs : List Addition) (rows old new : List (List Place)) (x : Addition) (v : ℕ) (b : Bool) → x.var < length old → raised (row_at old v) j b ≡ raised (row_at rows v) j b + sum_by (added_at v b) xs →
+sums-push : (j i : ℕ) (xs : List Addition) (rows old new : List (List Place)) (x : Addition) (v : ℕ) (b : Bool) → x.var < length old →
+    raised (row_at old v) j b ≡ raised (row_at rows v) j b + sum_by (added_at v b) xs →
     new ≡ set old x.var (row_at old x.var ++ place_of j i x ∷ []) → raised (row_at new v) j b ≡ raised (row_at rows v) j b + sum_by (added_at v b) (xs ++ x ∷ [])
 sums-push j i xs rows old new x v b lt before made =
     let o : Place = place_of j i x in
@@ -63,7 +65,9 @@ linked-push j i xs old new x long lt before made k d within =
       | inl less ↦ (
           let y : Addition = get_or xs k d in
           let had : Contains (row_at old y.var) (place_of j k y) = before k d less in
-          subst Q (sym (get_or_append_left xs (x ∷ []) d k less)) (placed_row old new x.var y.var o lt made (λ (ps : List Place). Contains ps (place_of j k y)) (λ ne. had) (λ e. Contains-append_left (row_at old y.var) (o ∷ []) (place_of j k y) had)))
+          subst Q (sym (get_or_append_left xs (x ∷ []) d k less))
+          (placed_row old new x.var y.var o lt made (λ (ps : List Place). Contains ps (place_of j k y)) (λ ne. had)
+          (λ e. Contains-append_left (row_at old y.var) (o ∷ []) (place_of j k y) had)))
       | inr out ↦ (
           let e : length xs ≡ k = omega (arith, length_push xs x) in
           let last : Contains (row_at new x.var) o = placed_row old new x.var x.var o lt made (λ (ps : List Place). Contains ps o) (λ ne. absurd (ne refl)) (λ e. Contains-push (row_at old x.var) o) in
@@ -71,12 +75,14 @@ linked-push j i xs old new x long lt before made k d within =
           subst Q (sym (get_or_push xs x d k e)) here)
     ]
 
-placed-push : (j i : ℕ) (xs : List Addition) (rows old new : List (List Place)) (x : Addition) → length xs ≡ i → x.var < length old → ArePlaced j xs rows old → new ≡ set old x.var (row_at old x.var ++ place_of j i x ∷ []) → ArePlaced j (xs ++ x ∷ []) rows new
+placed-push : (j i : ℕ) (xs : List Addition) (rows old new : List (List Place)) (x : Addition) → length xs ≡ i → x.var < length old →
+    ArePlaced j xs rows old → new ≡ set old x.var (row_at old x.var ++ place_of j i x ∷ []) → ArePlaced j (xs ++ x ∷ []) rows new
 placed-push j i xs rows old new x long lt before made =
     let o : Place = place_of j i x in
     record {
       count = ap length made ∙ (length-set old x.var (row_at old x.var ++ o ∷ []) ∙ before.count);
-      within = λ n v low all. placed_row old new x.var v o lt made (All (λ (p : Place). p.level < n)) (λ ne. before.within n v low all) (λ e. All-push (λ (p : Place). p.level < n) (row_at old v) o (before.within n v low all) low);
+      within = λ n v low all. placed_row old new x.var v o lt made (All (λ (p : Place). p.level < n)) (λ ne. before.within n v low all)
+          (λ e. All-push (λ (p : Place). p.level < n) (row_at old v) o (before.within n v low all) low);
       kept = λ k v b ne. placed_row old new x.var v o lt made (λ (ps : List Place). raised ps k b ≡ raised (row_at rows v) k b) (λ out. before.kept k v b ne) (λ e.
           let off : cond (eqb j k) (rise_by b o) 0 ≡ 0 = ap (λ (c : Bool). cond c (rise_by b o) 0) (ne_eqb j k (λ (q : j ≡ k). ne (sym q))) in
           omega (arith, raised-push (row_at old v) o k b, off, before.kept k v b ne));
@@ -88,4 +94,5 @@ placed-push j i xs rows old new x long lt before made =
 pub placed-more : (j i : ℕ) (xs : List Addition) (rows old new : List (List Place)) (d : Addition) → i < length xs → (get_or xs i d).var < length old → ArePlaced j (take i xs) rows old →
     new ≡ set old (get_or xs i d).var (row_at old (get_or xs i d).var ++ place_of j i (get_or xs i d) ∷ []) → ArePlaced j (take (i + 1) xs) rows new
 placed-more j i xs rows old new d within lt before made =
-    subst (λ (ys : List Addition). ArePlaced j ys rows new) (sym (take_more xs i d within)) (placed-push j i (take i xs) rows old new (get_or xs i d) (length-take-le i xs (omega arith)) lt before made)
+    subst (λ (ys : List Addition). ArePlaced j ys rows new) (sym (take_more xs i d within))
+    (placed-push j i (take i xs) rows old new (get_or xs i d) (length-take-le i xs (omega arith)) lt before made)

@@ -149,7 +149,8 @@ none-by v [] h = refl
 none-by v (x ∷ vs) h = ap (λ (b : Bool). b || list_any (is v) vs) (ne_eqb x v (h zero (omega arith))) ∙ none-by v vs (λ k lt. h (suc k) (omega arith))
 
 -- All of them but one stay, where only its value changes.
-stay : (a : List (Option Bool)) (rows : List (List Place)) (v : ℕ) (o : Option Bool) (vs : List ℕ) → All (λ x. x ≢ v) vs → All (λ x. is_raiser a rows x ≡ true) vs → All (λ x. is_raiser (set a v o) rows x ≡ true) vs
+stay : (a : List (Option Bool)) (rows : List (List Place)) (v : ℕ) (o : Option Bool) (vs : List ℕ) → All (λ x. x ≢ v) vs →
+    All (λ x. is_raiser a rows x ≡ true) vs → All (λ x. is_raiser (set a v o) rows x ≡ true) vs
 stay a rows v o [] ne h = λ k d lt. absurd (omega arith)
 stay a rows v o (x ∷ vs) ne h =
     All-cons (λ y. is_raiser (set a v o) rows y ≡ true) x vs
@@ -208,7 +209,8 @@ raisers-untold a rows vs l are lt some = cases (is_raising (row_at rows l.var) l
     same : is_raiser (set a l.var None) rows l.var ≡ false
     same = raiser-same a rows l.var None lt
 
-    kept : (us : List ℕ) → All (λ x. (0 < x) × (x < length a)) us → All (λ x. x ≢ l.var) us → All (λ x. is_raiser a rows x ≡ true) us → IsOnce us → ((w : ℕ) → w ≢ l.var → list_any (is w) vs ≡ true → list_any (is w) us ≡ true) → AreRaisers (set a l.var None) rows us
+    kept : (us : List ℕ) → All (λ x. (0 < x) × (x < length a)) us → All (λ x. x ≢ l.var) us → All (λ x. is_raiser a rows x ≡ true) us → IsOnce us →
+        ((w : ℕ) → w ≢ l.var → list_any (is w) vs ≡ true → list_any (is w) us ≡ true) → AreRaisers (set a l.var None) rows us
     kept us within ne raising once more = record {
       within = within-set a l.var None us within;
       raising = stay a rows l.var None us ne raising;
@@ -231,14 +233,16 @@ raising-some : (row : List Place) (o : Option Bool) → is_raising_by row o ≡ 
 raising-some row None h e = false≢true h
 raising-some row (Some b) h e = false≢true (sym (ap (λ (r : List Place). is_raising r b) e) ∙ h)
 
-pub raisers-few : (p : Program) (a : List (Option Bool)) (rows : List (List Place)) (vars vs : List ℕ) → length a ≡ var_count p + 1 → AreVars p rows vars → AreRaisers a rows vs → length vs ≤ length vars
+pub raisers-few : (p : Program) (a : List (Option Bool)) (rows : List (List Place)) (vars vs : List ℕ) → length a ≡ var_count p + 1 →
+    AreVars p rows vars → AreRaisers a rows vs → length vs ≤ length vars
 raisers-few p a rows vars vs sized listed are = few-among vs vars are.once (λ k d lt.
     let v : ℕ = get_or vs k d in
     let within = are.within k d lt in
     listed.whole v within.0 (omega (arith, sized, within.1)) (raising-some (row_at rows v) (value_of a v) (are.raising k d lt)))
 
 -- there is room for one more that gets a value and raises the cost
-pub raisers-room : (p : Program) (a : List (Option Bool)) (rows : List (List Place)) (vars vs : List ℕ) (l : Literal) → length a ≡ var_count p + 1 → AreVars p rows vars → AreRaisers a rows vs → 0 < l.var → l.var < length a → value_of a l.var ≡ None →
+pub raisers-room : (p : Program) (a : List (Option Bool)) (rows : List (List Place)) (vars vs : List ℕ) (l : Literal) → length a ≡ var_count p + 1 →
+    AreVars p rows vars → AreRaisers a rows vs → 0 < l.var → l.var < length a → value_of a l.var ≡ None →
     is_raising (row_at rows l.var) l.truth ≡ true → length vs < length vars
 raisers-room p a rows vars vs l sized listed are i lt none up =
     let more = raisers-told a rows vs l are i lt none in
@@ -265,7 +269,8 @@ abbrev line : List ℕ → ℕ → Line
 line vs n = record { vars = vs; room = n }
 
 -- one is taken out
-pub removed_as : (vs new ss : List ℕ) (v i cap kept : ℕ) (l : Line) → line vs cap ≡ l → IsOnce l.vars → ss ≡ vs → (i < length ss) × (get_or ss i 0 ≡ v) → new ≡ take i vs ++ drop (suc i) vs → kept ≡ cap → line new kept ≡ line (without v l.vars) l.room
+pub removed_as : (vs new ss : List ℕ) (v i cap kept : ℕ) (l : Line) → line vs cap ≡ l → IsOnce l.vars → ss ≡ vs → (i < length ss) ×
+    (get_or ss i 0 ≡ v) → new ≡ take i vs ++ drop (suc i) vs → kept ≡ cap → line new kept ≡ line (without v l.vars) l.room
 removed_as vs new ss v i cap kept l e once es at en ec =
     subst (λ (k : Line). IsOnce k.vars → line new kept ≡ line (without v k.vars) k.room) e
     (λ o.
@@ -281,7 +286,8 @@ absent_as vs ss v cap l e es none =
 abbrev pub Keeps : List (Option Bool) → List (List Place) → List ℕ → Line → Type 0
 Keeps a rows vars k = AreRaisers a rows k.vars × (length vars ≤ k.room)
 
-pub told_as : (a z : List (Option Bool)) (rows : List (List Place)) (vars : List ℕ) (old new : Line) (row : List Place) (u : ℕ) (l : Literal) → AreRaisers a rows old.vars → length vars ≤ old.room → 0 < l.var → l.var < length a → value_of a l.var ≡ None →
+pub told_as : (a z : List (Option Bool)) (rows : List (List Place)) (vars : List ℕ) (old new : Line) (row : List Place) (u : ℕ) (l : Literal) →
+    AreRaisers a rows old.vars → length vars ≤ old.room → 0 < l.var → l.var < length a → value_of a l.var ≡ None →
     z ≡ set a l.var (Some l.truth) → row ≡ row_at rows u → u ≡ l.var → new ≡ record old { vars = joined row l old.vars } → Keeps z rows vars new
 told_as a z rows vars old new row u l are room i lt none ez er eu en =
     let is_row : row ≡ row_at rows l.var = er ∙ ap (row_at rows) eu in
@@ -289,7 +295,8 @@ told_as a z rows vars old new row u l are room i lt none ez er eu en =
     let told : Keeps (set a l.var (Some l.truth)) rows vars (record old { vars = joined (row_at rows l.var) l old.vars }) = (raisers-told a rows old.vars l are i lt none, room) in
     subst (λ (y : List (Option Bool)). Keeps y rows vars new) (sym ez) (subst (λ (k : Line). Keeps (set a l.var (Some l.truth)) rows vars k) (sym made) told)
 
-pub untold_as : (a z : List (Option Bool)) (rows : List (List Place)) (vars : List ℕ) (old new : Line) (row : List Place) (u : ℕ) (l : Literal) → AreRaisers a rows old.vars → length vars ≤ old.room → l.var < length a → value_of a l.var ≡ Some l.truth →
+pub untold_as : (a z : List (Option Bool)) (rows : List (List Place)) (vars : List ℕ) (old new : Line) (row : List Place) (u : ℕ) (l : Literal) →
+    AreRaisers a rows old.vars → length vars ≤ old.room → l.var < length a → value_of a l.var ≡ Some l.truth →
     z ≡ set a l.var None → row ≡ row_at rows u → u ≡ l.var → new ≡ record old { vars = left row l old.vars } → Keeps z rows vars new
 untold_as a z rows vars old new row u l are room lt some ez er eu en =
     let is_row : row ≡ row_at rows l.var = er ∙ ap (row_at rows) eu in
@@ -298,20 +305,25 @@ untold_as a z rows vars old new row u l are room lt some ez er eu en =
     subst (λ (y : List (Option Bool)). Keeps y rows vars new) (sym ez) (subst (λ (k : Line). Keeps (set a l.var None) rows vars k) (sym made) told)
 
 -- where the variable has no place
-pub bare_told_as : (a z : List (Option Bool)) (rows : List (List Place)) (vars : List ℕ) (old : Line) (l : Literal) → AreRaisers a rows old.vars → length vars ≤ old.room → 0 < l.var → l.var < length a → value_of a l.var ≡ None → row_at rows l.var ≡ [] →
+pub bare_told_as : (a z : List (Option Bool)) (rows : List (List Place)) (vars : List ℕ) (old : Line) (l : Literal) → AreRaisers a rows old.vars →
+    length vars ≤ old.room → 0 < l.var → l.var < length a → value_of a l.var ≡ None → row_at rows l.var ≡ [] →
     z ≡ set a l.var (Some l.truth) → Keeps z rows vars old
 bare_told_as a z rows vars old l are room i lt none bare ez = told_as a z rows vars old old [] l.var l are room i lt none ez (sym bare) refl refl
 
-pub bare_untold_as : (a z : List (Option Bool)) (rows : List (List Place)) (vars : List ℕ) (old : Line) (l : Literal) → AreRaisers a rows old.vars → length vars ≤ old.room → l.var < length a → value_of a l.var ≡ Some l.truth → row_at rows l.var ≡ [] →
+pub bare_untold_as : (a z : List (Option Bool)) (rows : List (List Place)) (vars : List ℕ) (old : Line) (l : Literal) → AreRaisers a rows old.vars →
+    length vars ≤ old.room → l.var < length a → value_of a l.var ≡ Some l.truth → row_at rows l.var ≡ [] →
     z ≡ set a l.var None → Keeps z rows vars old
 bare_untold_as a z rows vars old l are room lt some bare ez = untold_as a z rows vars old old [] l.var l are room lt some ez (sym bare) refl refl
 
-pub room_as : (p : Program) (a : List (Option Bool)) (rows : List (List Place)) (vars : List ℕ) (old : Line) (row : List Place) (u : ℕ) (l : Literal) → length a ≡ var_count p + 1 → AreVars p rows vars → AreRaisers a rows old.vars → length vars ≤ old.room → 0 < l.var → l.var < length a → value_of a l.var ≡ None →
+pub room_as : (p : Program) (a : List (Option Bool)) (rows : List (List Place)) (vars : List ℕ) (old : Line) (row : List Place) (u : ℕ) (l : Literal)
+    → length a ≡ var_count p + 1 → AreVars p rows vars → AreRaisers a rows old.vars → length vars ≤ old.room → 0 < l.var → l.var < length a →
+    value_of a l.var ≡ None →
     row ≡ row_at rows u → u ≡ l.var → is_raising row l.truth ≡ true → length old.vars < old.room
 room_as p a rows vars old row u l sized listed are room i lt none er eu up =
     omega (arith, room, raisers-room p a rows vars old.vars l sized listed are i lt none (ap (λ (r : List Place). is_raising r l.truth) (sym (er ∙ ap (row_at rows) eu)) ∙ up))
 
-pub begun_as : (a : List (Option Bool)) (n : ℕ) (rows : List (List Place)) (vars : List ℕ) (new : Line) (room : ℕ) → a ≡ replicate n None → new ≡ line [] room → room ≡ length vars → Keeps a rows vars new
+pub begun_as : (a : List (Option Bool)) (n : ℕ) (rows : List (List Place)) (vars : List ℕ) (new : Line) (room : ℕ) → a ≡ replicate n None →
+    new ≡ line [] room → room ≡ length vars → Keeps a rows vars new
 begun_as a n rows vars new room ea en er =
     let begun : Keeps (replicate n None) rows vars (line [] room) = (raisers-new n rows, omega (arith, er)) in
     subst (λ (y : List (Option Bool)). Keeps y rows vars new) (sym ea) (subst (λ (k : Line). Keeps (replicate n None) rows vars k) (sym en) begun)

@@ -11,7 +11,9 @@ use Rattle.asp_bound.specs.Starts.{AreStarts}
 abbrev pub KeepsAll : Program → List (List Place) → List (List Item) → List ℕ → List ℤ → List ℕ → Line → List (Option Bool) → Type 0
 KeepsAll p rows columns vars sums starts raisers a = IsKept p a rows columns vars sums × AreStarts a columns starts × AreRaisers a rows raisers.vars × (length vars ≤ raisers.room)
 
-pub kept_shown : (p : Program) (v a : List (Option Bool)) (rows : List (List Place)) (columns : List (List Item)) (vars : List ℕ) (sums : List ℤ) (starts : List ℕ) (raisers : Line) → a ≡ v → KeepsAll p rows columns vars sums starts raisers v → KeepsAll p rows columns vars sums starts raisers a
+pub kept_shown : (p : Program) (v a : List (Option Bool)) (rows : List (List Place)) (columns : List (List Item)) (vars : List ℕ) (sums : List ℤ)
+    (starts : List ℕ) (raisers : Line) → a ≡ v → KeepsAll p rows columns vars sums starts raisers v →
+    KeepsAll p rows columns vars sums starts raisers a
 kept_shown p v a rows columns vars sums starts raisers e all = subst (KeepsAll p rows columns vars sums starts raisers) (sym e) all
 
 abbrev bounded : Program → Option (List ℤ) → List (Option Bool) → Bounded

@@ -58,11 +58,13 @@ not_stays : (o : Option Bool) (x y : Bool) → o ≡ None → (x ≡ false) ⊎ 
 not_stays o x y e (inl f) = subst (λ o. (not (is_none o) || (x && y)) ≡ false) (sym e) (and_left x y f)
 not_stays o x y e (inr f) = subst (λ o. (not (is_none o) || (x && y)) ≡ false) (sym e) (and_right x y f)
 
-either : (p : Program) (a : List (Option Bool)) (c : List ℤ) (v : ℕ) (b : Bool) → is_below p (set a v (Some b)) c ≡ false → (is_below p (set a v (Some true)) c ≡ false) ⊎ (is_below p (set a v (Some false)) c ≡ false)
+either : (p : Program) (a : List (Option Bool)) (c : List ℤ) (v : ℕ) (b : Bool) → is_below p (set a v (Some b)) c ≡ false →
+    (is_below p (set a v (Some true)) c ≡ false) ⊎ (is_below p (set a v (Some false)) c ≡ false)
 either p a c v true e = inl e
 either p a c v false e = inr e
 
-pub loud-with : (p : Program) (a : List (Option Bool)) (c : List ℤ) (v : ℕ) (b : Bool) (d : ℕ) → 0 < v → v ≤ var_count p → value_of a v ≡ None → reach (optimistic p (set a v (Some b))) c ≡ Some d → is_silent p (Some c) a ≡ false
+pub loud-with : (p : Program) (a : List (Option Bool)) (c : List ℤ) (v : ℕ) (b : Bool) (d : ℕ) → 0 < v → v ≤ var_count p → value_of a v ≡ None →
+    reach (optimistic p (set a v (Some b))) c ≡ Some d → is_silent p (Some c) a ≡ false
 loud-with p a c v b d i k none e =
     and_right (is_below p a c) (each_to (stays p a c) (var_count p)) (each_to-not (stays p a c) (var_count p) v i k
     (not_stays (value_of a v) (is_below p (set a v (Some true)) c) (is_below p (set a v (Some false)) c) none
@@ -98,7 +100,8 @@ one_of a rows sums c v true none (inr by) = by.0
 one_of a rows sums c v false none (inr by) = by.1
 
 -- no value of a variable without one reaches the bound
-none_reaches : (p : Program) (a : List (Option Bool)) (rows : List (List Place)) (columns : List (List Item)) (vars : List ℕ) (sums c : List ℤ) → IsKept p a rows columns vars sums → ArePassed a rows columns sums c → reach sums c ≡ None →
+none_reaches : (p : Program) (a : List (Option Bool)) (rows : List (List Place)) (columns : List (List Item)) (vars : List ℕ) (sums c : List ℤ) →
+    IsKept p a rows columns vars sums → ArePassed a rows columns sums c → reach sums c ≡ None →
     (v : ℕ) (b : Bool) → 0 < v → v ≤ var_count p → value_of a v ≡ None → (r : Option ℕ) → reach_at rows sums c v b ≡ r → is_none r ≡ true
 none_reaches p a rows columns vars sums c kept passed below v b i k none None e = refl
 none_reaches p a rows columns vars sums c kept passed below v b i k none (Some d) e =
@@ -124,14 +127,18 @@ stays_by : (o : Option Bool) (x y : Bool) → (o ≡ None → x ≡ true) → (o
 stays_by None x y f g = and_both x y (f refl) (g refl)
 stays_by (Some b) x y f g = refl
 
-pub silent-now : (p : Program) (a : List (Option Bool)) (rows : List (List Place)) (columns : List (List Item)) (vars : List ℕ) (sums c : List ℤ) → IsKept p a rows columns vars sums → reach sums c ≡ None → ArePassed a rows columns sums c →
+pub silent-now : (p : Program) (a : List (Option Bool)) (rows : List (List Place)) (columns : List (List Item)) (vars : List ℕ) (sums c : List ℤ) →
+    IsKept p a rows columns vars sums → reach sums c ≡ None → ArePassed a rows columns sums c →
     is_silent p (Some c) a ≡ true
 silent-now p a rows columns vars sums c kept below passed =
     let now : is_below p a c ≡ true = betters-reach (optimistic p a) c ∙ ap is_none (ap (λ s. reach s c) (sym kept.summed) ∙ below) in
     let with_value : (v : ℕ) (b : Bool) → 0 < v → v ≤ var_count p → value_of a v ≡ None → is_below p (set a v (Some b)) c ≡ true = λ v b i k none.
-    betters-reach (optimistic p (set a v (Some b))) c ∙ (ap is_none (sym (reach_at-set p a rows columns vars sums kept c v b i k none)) ∙ none_reaches p a rows columns vars sums c kept passed below v b i k none (reach_at rows sums c v b) refl) in
+    betters-reach (optimistic p (set a v (Some b))) c
+    ∙ (ap is_none (sym (reach_at-set p a rows columns vars sums kept c v b i k none))
+    ∙ none_reaches p a rows columns vars sums c kept passed below v b i k none (reach_at rows sums c v b) refl) in
     and_both (is_below p a c) (each_to (stays p a c) (var_count p)) now
-    (each_to-all (stays p a c) (var_count p) (λ v i k. stays_by (value_of a v) (is_below p (set a v (Some true)) c) (is_below p (set a v (Some false)) c) (with_value v true i k) (with_value v false i k)))
+    (each_to-all (stays p a c) (var_count p) (λ v i k. stays_by (value_of a v) (is_below p (set a v (Some true)) c)
+    (is_below p (set a v (Some false)) c) (with_value v true i k) (with_value v false i k)))
 
 -- ---- the same, by what the calls say
 pub loud_now_as : (p : Program) (a : List (Option Bool)) (rows : List (List Place)) (columns : List (List Item)) (vars : List ℕ) (sums : List ℤ) → IsKept p a rows columns vars sums →
@@ -140,7 +147,8 @@ loud_now_as p a rows columns vars sums kept bound c s limits d eb es el e =
     sym (ap (λ (b : Option (List ℤ)). is_silent p b a) eb ∙ loud-now p a c d (ap (λ (x : List ℤ). reach x c) (sym kept.summed) ∙ reached_now sums c s limits (Some d) es el e))
 
 pub loud_with_as : (p : Program) (a : List (Option Bool)) (rows : List (List Place)) (columns : List (List Item)) (vars : List ℕ) (sums : List ℤ) → IsKept p a rows columns vars sums →
-    (bound : Option (List ℤ)) (c s limits : List ℤ) (x : Implied) → bound ≡ Some c → s ≡ sums → limits ≡ c → Reaches a rows s limits x → (0 < x.lit.var) × (x.lit.var < length a) → false ≡ is_silent p bound a
+    (bound : Option (List ℤ)) (c s limits : List ℤ) (x : Implied) → bound ≡ Some c → s ≡ sums → limits ≡ c → Reaches a rows s limits x →
+    (0 < x.lit.var) × (x.lit.var < length a) → false ≡ is_silent p bound a
 loud_with_as p a rows columns vars sums kept bound c s limits x eb es el r within =
     let reaches : Reaches a rows sums c x = subst (λ (l : List ℤ). Reaches a rows sums l x) el (subst (λ (z : List ℤ). Reaches a rows z limits x) es r) in
     sym (ap (λ (b : Option (List ℤ)). is_silent p b a) eb ∙ loud-implied p a rows columns vars sums kept c x reaches within.0 (omega (arith, kept.sized, within.1)))

@@ -15,7 +15,8 @@ use Rattle.asp_bound.specs.Starts.{AreStarts, AreLinked}
 abbrev pub AreBack : (Place → ℕ) → List ℕ → List Place → ℕ → Type 0
 AreBack f starts row n = (k : ℕ) (d : Place) → k < n → get_or starts (get_or row k d).level 0 ≤ f (get_or row k d)
 
-pub back-more : (f : Place → ℕ) (starts new : List ℕ) (row : List Place) (n : ℕ) (x : Place) → n < length row → x.level < length starts → get_or row n x ≡ x → AreBack f starts row n → new ≡ set starts x.level (min (get_or starts x.level 0) (f x)) → AreBack f new row (n + 1)
+pub back-more : (f : Place → ℕ) (starts new : List ℕ) (row : List Place) (n : ℕ) (x : Place) → n < length row → x.level < length starts →
+    get_or row n x ≡ x → AreBack f starts row n → new ≡ set starts x.level (min (get_or starts x.level 0) (f x)) → AreBack f new row (n + 1)
 back-more f starts new row n x lt low is before made = λ k d within.
     let y : Place = get_or row k d in
     let w : ℕ = min (get_or starts x.level 0) (f x) in
@@ -47,7 +48,8 @@ some-told a v u b lt h = elim (cases_eq v u) [
   | inr ne ↦ subst (λ (o : Option Bool). IsSome o) (sym (get_or-set_other a v u (Some b) None (λ (e : u ≡ v). ne (sym e)))) h
 ]
 
-pub starts-told : (a z : List (Option Bool)) (columns : List (List Item)) (starts : List ℕ) (v : ℕ) (b : Bool) → AreStarts a columns starts → v < length a → z ≡ set a v (Some b) → AreStarts z columns starts
+pub starts-told : (a z : List (Option Bool)) (columns : List (List Item)) (starts : List ℕ) (v : ℕ) (b : Bool) → AreStarts a columns starts →
+    v < length a → z ≡ set a v (Some b) → AreStarts z columns starts
 starts-told a z columns starts v b are lt e =
     let told : AreStarts (set a v (Some b)) columns starts = record {
       count = are.count;
@@ -55,7 +57,8 @@ starts-told a z columns starts v b are lt e =
     } in
     subst (λ (y : List (Option Bool)). AreStarts y columns starts) (sym e) told
 
-pub starts-untold : (a : List (Option Bool)) (rows : List (List Place)) (columns : List (List Item)) (starts new : List ℕ) (v : ℕ) → AreStarts a columns starts → AreLinked rows columns → length new ≡ length starts →
+pub starts-untold : (a : List (Option Bool)) (rows : List (List Place)) (columns : List (List Item)) (starts new : List ℕ) (v : ℕ) →
+    AreStarts a columns starts → AreLinked rows columns → length new ≡ length starts →
     ((j : ℕ) → get_or new j 0 ≤ get_or starts j 0) → All (λ (o : Place). get_or new o.level 0 ≤ o.index) (row_at rows v) → AreStarts (set a v None) columns new
 starts-untold a rows columns starts new v are linked long lower taken = record {
   count = long ∙ are.count;

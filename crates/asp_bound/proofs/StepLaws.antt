@@ -14,7 +14,8 @@ use Rattle.asp_bound.specs.Reach.{reach_by, reach, depth, lifted}
 
 -- ---- a place more
 
-pub raised-more : (row : List Place) (i j : ℕ) (b : Bool) (d : Place) → i < length row → raised (take (i + 1) row) j b ≡ raised (take i row) j b + cond (eqb (get_or row i d).level j) (rise_by b (get_or row i d)) 0
+pub raised-more : (row : List Place) (i j : ℕ) (b : Bool) (d : Place) → i < length row →
+    raised (take (i + 1) row) j b ≡ raised (take i row) j b + cond (eqb (get_or row i d).level j) (rise_by b (get_or row i d)) 0
 raised-more row i j b d lt =
     ap (λ (xs : List Place). raised xs j b) (take_more row i d lt) ∙ sum_by_push (λ (o : Place). cond (eqb o.level j) (rise_by b o) 0) (take i row) (get_or row i d)
 
@@ -22,9 +23,12 @@ pub raised-take : (row : List Place) (i j : ℕ) (b : Bool) → raised (take i r
 raised-take row i j b = sum_by-take-le (λ (o : Place). cond (eqb o.level j) (rise_by b o) 0) row i
 
 -- at the place's own priority, and at another
-pub raised-here : (row : List Place) (i : ℕ) (b : Bool) (d : Place) → i < length row → raised (take (i + 1) row) (get_or row i d).level b ≡ raised (take i row) (get_or row i d).level b + rise_by b (get_or row i d)
+pub raised-here : (row : List Place) (i : ℕ) (b : Bool) (d : Place) → i < length row →
+    raised (take (i + 1) row) (get_or row i d).level b ≡ raised (take i row) (get_or row i d).level b + rise_by b (get_or row i d)
 raised-here row i b d lt =
-    raised-more row i (get_or row i d).level b d lt ∙ ap (λ (t : Bool). raised (take i row) (get_or row i d).level b + cond t (rise_by b (get_or row i d)) 0) (eq-eqb (get_or row i d).level (get_or row i d).level refl)
+    raised-more row i (get_or row i d).level b d lt ∙ ap
+    (λ (t : Bool). raised (take i row) (get_or row i d).level b + cond t (rise_by b (get_or row i d)) 0)
+    (eq-eqb (get_or row i d).level (get_or row i d).level refl)
 
 -- what the place adds, within what the row does
 pub raised-within : (row : List Place) (i : ℕ) (b : Bool) (d : Place) → i < length row → raised (take i row) (get_or row i d).level b + rise_by b (get_or row i d) ≤ raised row (get_or row i d).level b
@@ -34,7 +38,8 @@ raised-within row i b d lt = omega (arith, raised-here row i b d lt, raised-take
 abbrev pub IsRaised : List ℤ → List ℤ → List Place → ℕ → Bool → Type 0
 IsRaised old new row i b = (j : ℕ) → j < length new → get_or new j (pos 0) ≡ get_or old j (pos 0) +ℤ pos (raised (take i row) j b)
 
-pub raise-more : (old new last : List ℤ) (row : List Place) (i : ℕ) (b : Bool) (d : Place) (rise : ℕ) → i < length row → (get_or row i d).level < length new → IsRaised old new row i b → rise ≡ rise_by b (get_or row i d) →
+pub raise-more : (old new last : List ℤ) (row : List Place) (i : ℕ) (b : Bool) (d : Place) (rise : ℕ) → i < length row →
+    (get_or row i d).level < length new → IsRaised old new row i b → rise ≡ rise_by b (get_or row i d) →
     last ≡ set new (get_or row i d).level (get_or new (get_or row i d).level (pos 0) +ℤ pos rise) → IsRaised old last row (i + 1) b
 raise-more old new last row i b d rise lt low before is made = λ j within.
     let k = (get_or row i d).level in
@@ -55,14 +60,16 @@ raise-more old new last row i b d rise lt low before is made = λ j within.
     ]
 
 -- the sum with the place fits where the sum with the row does
-pub raise-fits : (old new : List ℤ) (row : List Place) (i : ℕ) (b : Bool) (d : Place) (rise : ℕ) (m : ℤ) → i < length row → (get_or row i d).level < length new → IsRaised old new row i b → rise ≡ rise_by b (get_or row i d) →
+pub raise-fits : (old new : List ℤ) (row : List Place) (i : ℕ) (b : Bool) (d : Place) (rise : ℕ) (m : ℤ) → i < length row →
+    (get_or row i d).level < length new → IsRaised old new row i b → rise ≡ rise_by b (get_or row i d) →
     (get_or old (get_or row i d).level (pos 0) +ℤ pos (raised row (get_or row i d).level b)) <ℤ m → (get_or new (get_or row i d).level (pos 0) +ℤ pos rise) <ℤ m
 raise-fits old new row i b d rise m lt low before is room = omega (arith, ints, before (get_or row i d).level low, raised-within row i b d lt, is, room)
 
 abbrev pub IsLowered : List ℤ → List ℤ → List Place → ℕ → Bool → Type 0
 IsLowered old new row i b = (j : ℕ) → j < length new → get_or new j (pos 0) +ℤ pos (raised (take i row) j b) ≡ get_or old j (pos 0)
 
-pub lower-more : (old new last : List ℤ) (row : List Place) (i : ℕ) (b : Bool) (d : Place) (rise : ℕ) → i < length row → (get_or row i d).level < length new → IsLowered old new row i b → rise ≡ rise_by b (get_or row i d) →
+pub lower-more : (old new last : List ℤ) (row : List Place) (i : ℕ) (b : Bool) (d : Place) (rise : ℕ) → i < length row →
+    (get_or row i d).level < length new → IsLowered old new row i b → rise ≡ rise_by b (get_or row i d) →
     last ≡ set new (get_or row i d).level (get_or new (get_or row i d).level (pos 0) -ℤ pos rise) → IsLowered old last row (i + 1) b
 lower-more old new last row i b d rise lt low before is made = λ j within.
     let k = (get_or row i d).level in
@@ -82,7 +89,8 @@ lower-more old new last row i b d rise lt low before is made = λ j within.
           omega (arith, ints, at, there, before j inside, more, adds))
     ]
 
-pub lower-fits : (old new : List ℤ) (row : List Place) (i : ℕ) (b : Bool) (d : Place) (rise : ℕ) (m : ℤ) → i < length row → (get_or row i d).level < length new → IsLowered old new row i b → rise ≡ rise_by b (get_or row i d) →
+pub lower-fits : (old new : List ℤ) (row : List Place) (i : ℕ) (b : Bool) (d : Place) (rise : ℕ) (m : ℤ) → i < length row →
+    (get_or row i d).level < length new → IsLowered old new row i b → rise ≡ rise_by b (get_or row i d) →
     (m +ℤ pos (raised row (get_or row i d).level b)) ≤ℤ get_or old (get_or row i d).level (pos 0) → (m +ℤ pos rise) ≤ℤ get_or new (get_or row i d).level (pos 0)
 lower-fits old new row i b d rise m lt low before is room = omega (arith, ints, before (get_or row i d).level low, raised-within row i b d lt, is, room)
 
@@ -103,7 +111,8 @@ drop-all (s ∷ x) zero le = absurd (omega arith)
 drop-all (s ∷ x) (suc j) le = drop-all x j (omega arith)
 
 -- ---- a comparison more
-pub reach-step : (x c : List ℤ) (j : ℕ) → j < length x → j < length c → reach (drop j x) (drop j c) ≡ reach_by (int_cmp (get_or x j (pos 0)) (get_or c j (pos 0))) (reach (drop (j + 1) x) (drop (j + 1) c))
+pub reach-step : (x c : List ℤ) (j : ℕ) → j < length x → j < length c →
+    reach (drop j x) (drop j c) ≡ reach_by (int_cmp (get_or x j (pos 0)) (get_or c j (pos 0))) (reach (drop (j + 1) x) (drop (j + 1) c))
 reach-step x c j lx lc =
     let P : ℕ → Type 0 = λ (n : ℕ). reach (drop j x) (drop j c) ≡ reach_by (int_cmp (get_or x j (pos 0)) (get_or c j (pos 0))) (reach (drop n x) (drop n c)) in
     subst P (sym (add-one j)) (ap (λ (xs : List ℤ). reach xs (drop j c)) (drop-cons x j (pos 0) lx) ∙ ap (λ (cs : List ℤ). reach (get_or x j (pos 0) ∷ drop (suc j) x) cs) (drop-cons c j (pos 0) lc))

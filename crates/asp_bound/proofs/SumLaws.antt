@@ -96,7 +96,9 @@ picked-sum t atoms n [] h = sym (sum_to-zero (picked_by t (weight_in atoms [])) 
 picked-sum t atoms n (i ∷ items) h =
     let k = literal_in atoms i.0 in
     let split : sum_to (picked_by t (weight_in atoms (i ∷ items))) n ≡ sum_to (picked_by t (one k i.1)) n +ℤ sum_to (picked_by t (weight_in atoms items)) n =
-    sum_to-same (picked_by t (weight_in atoms (i ∷ items))) (λ v. picked_by t (one k i.1) v +ℤ picked_by t (weight_in atoms items) v) n (λ v a b. picked_by-cons t (one k i.1) (weight_in atoms items) v) ∙ sum_to-add (picked_by t (one k i.1)) (picked_by t (weight_in atoms items)) n in
+    sum_to-same (picked_by t (weight_in atoms (i ∷ items))) (λ v. picked_by t (one k i.1) v +ℤ picked_by t (weight_in atoms items) v) n
+    (λ v a b. picked_by-cons t (one k i.1) (weight_in atoms items) v)
+    ∙ sum_to-add (picked_by t (one k i.1)) (picked_by t (weight_in atoms items)) n in
     let here : sum_to (picked_by t (one k i.1)) n ≡ cond (t k) i.1 (pos 0) =
     sum_to-one (picked_by t (one k i.1)) n k.var h.0.0 h.0.1 (picked_by-off t k i.1) ∙ picked_by-here t k.var k.truth i.1 in
     omega (arith, ints, split, here, picked-sum t atoms n items h.1)

@@ -29,7 +29,8 @@ length-without ws v = length-set (set ws (2 * v) (pos 0)) (2 * v + 1) (pos 0) �
 
 without-other : (ws : List ℤ) (v c : ℕ) → c / 2 ≢ v → get_or (without ws v) c (pos 0) ≡ get_or ws c (pos 0)
 without-other ws v c ne =
-    get_or-set_other (set ws (2 * v) (pos 0)) (2 * v + 1) c (pos 0) (pos 0) (λ (e : c ≡ 2 * v + 1). ne (omega arith)) ∙ get_or-set_other ws (2 * v) c (pos 0) (pos 0) (λ (e : c ≡ 2 * v). ne (omega arith))
+    get_or-set_other (set ws (2 * v) (pos 0)) (2 * v + 1) c (pos 0) (pos 0) (λ (e : c ≡ 2 * v + 1). ne (omega arith))
+    ∙ get_or-set_other ws (2 * v) c (pos 0) (pos 0) (λ (e : c ≡ 2 * v). ne (omega arith))
 
 without-true : (ws : List ℤ) (v : ℕ) → 2 * v + 1 < length ws → weight_true (without ws v) v ≡ pos 0
 without-true ws v lt =
@@ -71,14 +72,17 @@ least_none ws v t f = ap (λ (x : ℤ). int_min x (weight_false ws v)) t ∙ ap 
 additions-before : (ws : List ℤ) (v n : ℕ) → n < v → additions_to (without ws v) n ≡ additions_to ws n
 additions-before ws v zero lt = refl
 additions-before ws v (suc n) lt =
-    ap (λ (xs : List Addition). xs ++ here (without ws v) (suc n)) (additions-before ws v n (omega arith)) ∙ ap (λ (xs : List Addition). additions_to ws n ++ xs) (here_other ws v (suc n) (λ (e : suc n ≡ v). omega arith))
+    ap (λ (xs : List Addition). xs ++ here (without ws v) (suc n)) (additions-before ws v n (omega arith))
+    ∙ ap (λ (xs : List Addition). additions_to ws n ++ xs) (here_other ws v (suc n) (λ (e : suc n ≡ v). omega arith))
 
 additions-without : (ws : List ℤ) (v n : ℕ) → 0 < v → v ≤ n → 2 * v + 1 < length ws → IsPermutation (additions_to ws n) (here ws v ++ additions_to (without ws v) n)
 additions-without ws v zero up le lt = absurd (omega arith)
 additions-without ws v (suc n) up le lt = elim (cases_eq v (suc n)) [
   | inl e ↦ (
       let none : here (without ws v) (suc n) ≡ [] = subst (λ (u : ℕ). here (without ws v) u ≡ []) e (here_none (without ws v) v (without-true ws v lt) (without-false ws v lt)) in
-      let rest : additions_to (without ws v) (suc n) ≡ additions_to ws n = ap (λ (xs : List Addition). additions_to (without ws v) n ++ xs) none ∙ (append-nil (additions_to (without ws v) n) ∙ additions-before ws v n (omega arith)) in
+      let rest : additions_to (without ws v) (suc n) ≡ additions_to ws n =
+      ap (λ (xs : List Addition). additions_to (without ws v) n ++ xs) none
+      ∙ (append-nil (additions_to (without ws v) n) ∙ additions-before ws v n (omega arith)) in
       let first : here ws (suc n) ≡ here ws v = ap (here ws) (sym e) in
       subst (λ (xs : List Addition). IsPermutation (additions_to ws (suc n)) (here ws v ++ xs)) (sym rest)
       (subst (λ (xs : List Addition). IsPermutation (additions_to ws (suc n)) (xs ++ additions_to ws n)) first (IsPermutation-append_comm (additions_to ws n) (here ws (suc n)))))
@@ -116,7 +120,9 @@ or-false a b ea eb = ap (λ (x : Bool). x || b) ea ∙ eb
 
 weight_in-untouched : (atoms : Atoms) (items : List (ℤ × ℤ)) (l : Literal) → list_any (λ (i : ℤ × ℤ). eqb (literal_in atoms i.0).var l.var) items ≡ false → weight_in atoms items l ≡ pos 0
 weight_in-untouched atoms [] l none = refl
-weight_in-untouched atoms (i ∷ items) l none = untouched_by (eqb (literal_in atoms i.0).var l.var) refl (λ e. weight_in-untouched atoms items l (ap (λ (b : Bool). b || list_any (λ (j : ℤ × ℤ). eqb (literal_in atoms j.0).var l.var) items) (sym e) ∙ none))
+weight_in-untouched atoms (i ∷ items) l none =
+    untouched_by (eqb (literal_in atoms i.0).var l.var) refl (λ e. weight_in-untouched atoms items l
+    (ap (λ (b : Bool). b || list_any (λ (j : ℤ × ℤ). eqb (literal_in atoms j.0).var l.var) items) (sym e) ∙ none))
   where
     untouched_by : (b : Bool) → eqb (literal_in atoms i.0).var l.var ≡ b → (eqb (literal_in atoms i.0).var l.var ≡ false → weight_in atoms items l ≡ pos 0) → weight_in atoms (i ∷ items) l ≡ pos 0
     untouched_by true e rest = cc
@@ -151,7 +157,8 @@ taken-none p items ws are small = record {
   sum = omega (arith, ints);
 }
 
-taken-next : (p : Program) (i : ℤ × ℤ) (items : List (ℤ × ℤ)) (old : List ℤ) (additions : List Addition) (ws : List ℤ) (least : ℤ) (v : ℕ) → IsTaken p (i ∷ items) old additions ws least → v ≡ (literal_of p i.0).var → 0 < v → v ≤ var_count p →
+taken-next : (p : Program) (i : ℤ × ℤ) (items : List (ℤ × ℤ)) (old : List ℤ) (additions : List Addition) (ws : List ℤ) (least : ℤ) (v : ℕ) →
+    IsTaken p (i ∷ items) old additions ws least → v ≡ (literal_of p i.0).var → 0 < v → v ≤ var_count p →
     IsTaken p items old (additions ++ here ws v) (without ws v) (least +ℤ least_by ws v)
 taken-next p i items old additions ws least v taken is up le =
     let n = var_count p in
@@ -161,7 +168,9 @@ taken-next p i items old additions ws least v taken is up le =
       count = length-without ws v ∙ taken.count;
       left = λ c none. elim (cases_eq (c / 2) v) [
         | inl e ↦ without-code ws v c within e
-        | inr ne ↦ without-other ws v c ne ∙ taken.left c (or-false (touches p (c / 2) i) (list_any (touches p (c / 2)) items) (ne_eqb (literal_of p i.0).var (c / 2) (λ (e : (literal_of p i.0).var ≡ c / 2). ne (sym (is ∙ e)))) none)
+        | inr ne ↦ without-other ws v c ne
+            ∙ taken.left c (or-false (touches p (c / 2) i) (list_any (touches p (c / 2)) items)
+            (ne_eqb (literal_of p i.0).var (c / 2) (λ (e : (literal_of p i.0).var ≡ c / 2). ne (sym (is ∙ e)))) none)
       ];
       small = λ c. elim (cases_eq (c / 2) v) [
         | inl e ↦ subst (λ (w : ℤ). unsigned_abs w < 2 ^ 56) (sym (without-code ws v c within e)) (omega arith)
@@ -175,10 +184,13 @@ taken-next p i items old additions ws least v taken is up le =
     }
 
 -- a turn of the loop over the items, by what its calls say
-pub taken-more : (p : Program) (items : List (ℤ × ℤ)) (i : ℕ) (x : ℤ × ℤ) (old : List ℤ) (additions new : List Addition) (ws next : List ℤ) (least more n : ℤ) (v : ℕ) → i < length items → IsTaken p (drop i items) old additions ws least →
-    v ≡ (literal_of p (get_or items i x).0).var → 0 < v → v ≤ var_count p → new ≡ additions ++ here ws v → next ≡ without ws v → more ≡ least_by ws v → n ≡ least +ℤ more → IsTaken p (drop (i + 1) items) old new next n
+pub taken-more : (p : Program) (items : List (ℤ × ℤ)) (i : ℕ) (x : ℤ × ℤ) (old : List ℤ) (additions new : List Addition) (ws next : List ℤ)
+    (least more n : ℤ) (v : ℕ) → i < length items → IsTaken p (drop i items) old additions ws least →
+    v ≡ (literal_of p (get_or items i x).0).var → 0 < v → v ≤ var_count p → new ≡ additions ++ here ws v → next ≡ without ws v →
+    more ≡ least_by ws v → n ≡ least +ℤ more → IsTaken p (drop (i + 1) items) old new next n
 taken-more p items i x old additions new ws next least more n v lt taken is up le en ew em es =
-    let step = taken-next p (get_or items i x) (drop (i + 1) items) old additions ws least v (subst (λ (z : List (ℤ × ℤ)). IsTaken p z old additions ws least) (drop_more items i x lt) taken) is up le in
+    let step = taken-next p (get_or items i x) (drop (i + 1) items) old additions ws least v
+    (subst (λ (z : List (ℤ × ℤ)). IsTaken p z old additions ws least) (drop_more items i x lt) taken) is up le in
     let a = subst (λ (z : List Addition). IsTaken p (drop (i + 1) items) old z (without ws v) (least +ℤ least_by ws v)) (sym en) step in
     let b = subst (λ (z : List ℤ). IsTaken p (drop (i + 1) items) old new z (least +ℤ least_by ws v)) (sym ew) a in
     subst (IsTaken p (drop (i + 1) items) old new next) (sym (es ∙ ap (λ (m : ℤ). least +ℤ m) em)) b
@@ -189,7 +201,9 @@ all_none p old additions ws least taken = λ c. taken.left c refl
 
 pub taken-permuted : (p : Program) (old : List ℤ) (additions : List Addition) (ws : List ℤ) (least : ℤ) → IsTaken p [] old additions ws least → IsPermutation (additions_to old (var_count p)) additions
 taken-permuted p old additions ws least taken =
-    let none : additions ++ additions_to ws (var_count p) ≡ additions = ap (λ (xs : List Addition). additions ++ xs) (additions-none ws (var_count p) (all_none p old additions ws least taken)) ∙ append-nil additions in
+    let none : additions ++ additions_to ws (var_count p) ≡ additions =
+    ap (λ (xs : List Addition). additions ++ xs) (additions-none ws (var_count p) (all_none p old additions ws least taken))
+    ∙ append-nil additions in
     subst (IsPermutation (additions_to old (var_count p))) none taken.moved
 
 pub taken-least : (p : Program) (old : List ℤ) (additions : List Addition) (ws : List ℤ) (least : ℤ) → IsTaken p [] old additions ws least → least ≡ least_to old (var_count p)

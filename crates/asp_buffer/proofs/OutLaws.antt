@@ -92,11 +92,13 @@ midway_start a all rest e = record {
 pub midway_more : {T E : Type 0} (a b c : Out) (v : T) (all rest bytes others : List ℕ) → Midway a b all rest → Puts {T = T} {E = E} b c (Ok v) bytes → rest ≡ bytes ++ others → Midway a c all others
 midway_more a b c v all rest bytes others m p e = record {
   text = m.text ++ bytes;
-  went = let q : Puts {T = Unit {0}} {E = Unit {0}} b c (Ok tt) bytes = record { all = p.all; front = tt; later = p.later; cause = tt; quiet = p.quiet } in puts_then a b c tt (Ok tt) m.text bytes m.went q;
+  went = let q : Puts {T = Unit {0}} {E = Unit {0}} b c (Ok tt) bytes =
+      record { all = p.all; front = tt; later = p.later; cause = tt; quiet = p.quiet } in puts_then a b c tt (Ok tt) m.text bytes m.went q;
   same = append_assoc m.text bytes others ∙ ap (λ (t : List ℕ). m.text ++ t) (sym e) ∙ m.same;
 }
 
-pub midway_fails : {T E U F : Type 0} (Q : F → Type 0) (a b c : Out) (e : E) (r : Result U F) (all rest bytes others : List ℕ) → Midway a b all rest → Puts {T = T} {E = E} b c (Err e) bytes → rest ≡ bytes ++ others → IsErrAnd r Q → Puts a c r all
+pub midway_fails : {T E U F : Type 0} (Q : F → Type 0) (a b c : Out) (e : E) (r : Result U F) (all rest bytes others : List ℕ) → Midway a b all rest →
+    Puts {T = T} {E = E} b c (Err e) bytes → rest ≡ bytes ++ others → IsErrAnd r Q → Puts a c r all
 midway_fails Q a b c e r all rest bytes others m p is err =
     let whole : (m.text ++ bytes) ++ others ≡ all = append_assoc m.text bytes others ∙ ap (λ (t : List ℕ). m.text ++ t) (sym is) ∙ m.same in
     subst (λ (t : List ℕ). Puts a c r t) whole (puts_fails Q a c e r (m.text ++ bytes) others (puts_then a b c tt (Err e) m.text bytes m.went p) err)
@@ -128,7 +130,8 @@ printed a b (Err e) text start end p = record {
   quiet = p.quiet;
 }
 
-pub printed-fails : {T E U F : Type 0} (Q : F → Type 0) (a b : Out) (e : E) (r : Result U F) (text : List ℕ) → a.waiting ≡ [] → Puts {T = T} {E = E} a b (Err e) text → IsErrAnd r Q → Printed a b r text
+pub printed-fails : {T E U F : Type 0} (Q : F → Type 0) (a b : Out) (e : E) (r : Result U F) (text : List ℕ) → a.waiting ≡ [] →
+    Puts {T = T} {E = E} a b (Err e) text → IsErrAnd r Q → Printed a b r text
 printed-fails Q a b e r text start p is =
     let err = err_from_is_err_and r is in
     rw err.1 (record { all = tt; front = subst (λ (t : List ℕ). AppendsFront a.held b.held (t ++ text)) start p.front; later = p.later; cause = p.cause; quiet = tt })

@@ -13,7 +13,25 @@ use Rattle.asp_cli.specs.Hints.{counterpart, nearest}
 
 -- what is asked for where no option is given
 abbrev standard : Options
-standard = record { workers = 1; log = Blocks; mode = None; format = Aspif; budget = 9223372036854775807; models = 0; all_optima = false; form = Text; quiet = false; names = false; make = None; queries = false; core_min = false; stats = false; progress = false; proof = false; split = None }
+standard = record {
+  workers = 1;
+  log = Blocks;
+  mode = None;
+  format = Aspif;
+  budget = 9223372036854775807;
+  models = 0;
+  all_optima = false;
+  form = Text;
+  quiet = false;
+  names = false;
+  make = None;
+  queries = false;
+  core_min = false;
+  stats = false;
+  progress = false;
+  proof = false;
+  split = None;
+}
 
 empty_line : words_give [] ≡ misuse no_words
 empty_line = refl
@@ -290,7 +308,27 @@ parts_twice = refl
 first_from_the_left : words_give (codes "aspenum" ∷ codes "--stats" ∷ codes "--budget=x" ∷ codes "--verson" ∷ []) ≡ misuse (bad_value Budget (codes "x"))
 first_from_the_left = refl
 
-all_options : words_give (codes "aspenum" ∷ codes "--make=2000" ∷ codes "--stats" ∷ codes "--mode=enum" ∷ codes "--budget=7" ∷ codes "--models=3" ∷ codes "--workers=4" ∷ codes "--format=smodels" ∷ []) ≡ options (record { workers = 4; log = Blocks; mode = Some Enum; format = Smodels; budget = 7; models = 3; all_optima = false; form = Text; quiet = false; names = false; make = Some 2000; queries = false; core_min = false; stats = true; progress = false; proof = false; split = None })
+all_options : words_give (codes "aspenum" ∷ codes "--make=2000" ∷ codes "--stats" ∷ codes "--mode=enum" ∷ codes "--budget=7" ∷ codes "--models=3" ∷
+    codes "--workers=4" ∷ codes "--format=smodels" ∷ []) ≡ options
+    (record {
+      workers = 4;
+      log = Blocks;
+      mode = Some Enum;
+      format = Smodels;
+      budget = 7;
+      models = 3;
+      all_optima = false;
+      form = Text;
+      quiet = false;
+      names = false;
+      make = Some 2000;
+      queries = false;
+      core_min = false;
+      stats = true;
+      progress = false;
+      proof = false;
+      split = None;
+    })
 all_options = refl
 
 -- ---- the log

@@ -167,4 +167,26 @@ options_of f = record {
 
 -- nothing was found yet
 abbrev pub start : State
-start = record { found = record { workers = None; log = None; mode = None; format = None; budget = None; models = None; all_optima = false; form = None; quiet = false; names = false; make = None; queries = false; core_min = false; stats = false; progress = false; proof = false; split = None }; awaits = awaits.Option }
+start = record {
+  found = record {
+    workers = None;
+    log = None;
+    mode = None;
+    format = None;
+    budget = None;
+    models = None;
+    all_optima = false;
+    form =
+        None;
+    quiet = false;
+    names = false;
+    make = None;
+    queries = false;
+    core_min = false;
+    stats = false;
+    progress = false;
+    proof = false;
+    split = None;
+  };
+  awaits = awaits.Option;
+}

@@ -29,7 +29,9 @@ or_again true b c = refl
 or_again false b c = refl
 
 -- one more rule
-is_barred_at-more : (j : ℕ) (ns : List ℕ) (rs : List Rule) (i : ℕ) (d : Rule) → i < length ns → i < length rs → is_barred_at j (take (suc i) ns) (take (suc i) rs) ≡ (is_barred_at j (take i ns) (take i rs) || (is_never (get_or rs i d).head && eqb (get_or ns i 0) j))
+is_barred_at-more : (j : ℕ) (ns : List ℕ) (rs : List Rule) (i : ℕ) (d : Rule) → i < length ns → i < length rs →
+    is_barred_at j (take (suc i) ns) (take (suc i) rs) ≡
+    (is_barred_at j (take i ns) (take i rs) || (is_never (get_or rs i d).head && eqb (get_or ns i 0) j))
 is_barred_at-more j [] rs i d lt lt' = absurd (omega arith)
 is_barred_at-more j (n ∷ ns) [] i d lt lt' = absurd (omega arith)
 is_barred_at-more j (n ∷ ns) (r ∷ rs) zero d lt lt' = none ns rs
@@ -46,7 +48,9 @@ pub mark_length : (t : Bool) (marks : List Bool) (n : ℕ) → length (cond t (s
 mark_length true marks n = length-set marks n true
 mark_length false marks n = refl
 
-pub mark_step : (marks : List Bool) (j : ℕ) (ns : List ℕ) (rs : List Rule) (i : ℕ) (d : Rule) → i < length ns → i < length rs → get_or ns i 0 < length marks → get_or marks j false ≡ is_barred_at j (take i ns) (take i rs) → get_or (cond (is_never (get_or rs i d).head) (set marks (get_or ns i 0) true) marks) j false ≡ is_barred_at j (take (i + 1) ns) (take (i + 1) rs)
+pub mark_step : (marks : List Bool) (j : ℕ) (ns : List ℕ) (rs : List Rule) (i : ℕ) (d : Rule) → i < length ns → i < length rs →
+    get_or ns i 0 < length marks → get_or marks j false ≡ is_barred_at j (take i ns) (take i rs) →
+    get_or (cond (is_never (get_or rs i d).head) (set marks (get_or ns i 0) true) marks) j false ≡ is_barred_at j (take (i + 1) ns) (take (i + 1) rs)
 mark_step marks j ns rs i d lt lt' within so_far =
     marked (is_never (get_or rs i d).head)
     ∙ ap (λ t. t || (is_never (get_or rs i d).head && eqb (get_or ns i 0) j)) so_far
@@ -74,7 +78,9 @@ mark_step marks j ns rs i d lt lt' within so_far =
     marked false = sym (or_false (get_or marks j false))
 
 -- ---- all rules
-by_place : (bs : List Body) (j : ℕ) (d : Body) (rs : List Rule) → AreDistinct bs → j < length bs → AllByRecursion (λ r. list_any (body_eq (form r)) bs ≡ true) rs → is_barred_at j (map (λ r. place_of (body_eq (form r)) bs) rs) rs ≡ list_any (λ r. is_never r.head && body_eq (form r) (get_or bs j d)) rs
+by_place : (bs : List Body) (j : ℕ) (d : Body) (rs : List Rule) → AreDistinct bs → j < length bs →
+    AllByRecursion (λ r. list_any (body_eq (form r)) bs ≡ true) rs →
+    is_barred_at j (map (λ r. place_of (body_eq (form r)) bs) rs) rs ≡ list_any (λ r. is_never r.head && body_eq (form r) (get_or bs j d)) rs
 by_place bs j d [] distinct lt h = refl
 by_place bs j d (r ∷ rs) distinct lt h =
     ap (λ t. (is_never r.head && t) || is_barred_at j (map (λ s. place_of (body_eq (form s)) bs) rs) rs) (place_test bs (form r) j d distinct h.0 lt)

@@ -20,7 +20,9 @@ pub insert_key-int : (ks : List ℤ) (l : ℤ) → insert_key int_cmp ks l ≡ w
 insert_key-int [] l = refl
 insert_key-int (k ∷ ks) l = cases (int_lt l k) (int_lt k l) (insert_key-int ks l)
   where
-    cases : (b c : Bool) → insert_key int_cmp ks l ≡ with_literal l ks → match_ordering (cond b Less (cond c Greater Equal)) (l ∷ k ∷ ks) (k ∷ ks) (k ∷ insert_key int_cmp ks l) ≡ cond b (l ∷ k ∷ ks) (k ∷ cond c (with_literal l ks) ks)
+    cases : (b c : Bool) → insert_key int_cmp ks l ≡ with_literal l ks →
+        match_ordering (cond b Less (cond c Greater Equal)) (l ∷ k ∷ ks) (k ∷ ks) (k ∷ insert_key int_cmp ks l) ≡ cond b (l ∷ k ∷ ks)
+        (k ∷ cond c (with_literal l ks) ks)
     cases true c rest = refl
     cases false true rest = ap (λ xs. k ∷ xs) rest
     cases false false rest = refl

@@ -32,7 +32,9 @@ pub set_none : {X : Type 0} (rows : List (List X)) (i : ℕ) → i < length rows
 set_none rows i lt = ap (set rows i) (nothing_more (get_or rows i [])) ∙ set-itself rows i [] lt
 
 -- one more item
-pub set_more : {X : Type 0} (rows : List (List X)) (i : ℕ) (xs : List X) (x : X) → i < length rows → set (set rows i (get_or rows i [] ++ xs)) i (get_or (set rows i (get_or rows i [] ++ xs)) i [] ++ x ∷ []) ≡ set rows i (get_or rows i [] ++ (xs ++ x ∷ []))
+pub set_more : {X : Type 0} (rows : List (List X)) (i : ℕ) (xs : List X) (x : X) → i < length rows →
+    set (set rows i (get_or rows i [] ++ xs)) i (get_or (set rows i (get_or rows i [] ++ xs)) i [] ++ x ∷ []) ≡ set rows i
+    (get_or rows i [] ++ (xs ++ x ∷ []))
 set_more rows i xs x lt =
     ap (λ row. set (set rows i (get_or rows i [] ++ xs)) i (row ++ x ∷ [])) (get_or-set_same rows i (get_or rows i [] ++ xs) [] lt)
     ∙ set-set rows i (get_or rows i [] ++ xs) ((get_or rows i [] ++ xs) ++ x ∷ [])
@@ -43,7 +45,9 @@ map-append f [] ys = refl
 map-append f (x ∷ xs) ys = ap (λ zs. f x ∷ zs) (map-append f xs ys)
 
 -- one more rule
-heads_at-more : (j : ℕ) (ns : List ℕ) (rs : List Rule) (i : ℕ) (d : Rule) → i < length ns → i < length rs → heads_at j (take (suc i) ns) (take (suc i) rs) ≡ heads_at j (take i ns) (take i rs) ++ cond (eqb (get_or ns i 0) j) (head_atoms (get_or rs i d).head) []
+heads_at-more : (j : ℕ) (ns : List ℕ) (rs : List Rule) (i : ℕ) (d : Rule) → i < length ns → i < length rs →
+    heads_at j (take (suc i) ns) (take (suc i) rs) ≡ heads_at j (take i ns) (take i rs)
+    ++ cond (eqb (get_or ns i 0) j) (head_atoms (get_or rs i d).head) []
 heads_at-more j [] rs i d lt lt' = absurd (omega arith)
 heads_at-more j (n ∷ ns) [] i d lt lt' = absurd (omega arith)
 heads_at-more j (n ∷ ns) (r ∷ rs) zero d lt lt' = none ns rs
@@ -56,7 +60,10 @@ heads_at-more j (n ∷ ns) (r ∷ rs) (suc i) d lt lt' =
     ∙ sym (append_again (cond (eqb n j) (head_atoms r.head) []) (heads_at j (take i ns) (take i rs)) (cond (eqb (get_or ns i 0) j) (head_atoms (get_or rs i d).head) []))
 
 -- the rows after one more rule
-pub head_step : (rows : List (List ℕ)) (atoms : Atoms) (j : ℕ) (ns : List ℕ) (rs : List Rule) (i : ℕ) (d : Rule) → i < length ns → i < length rs → get_or ns i 0 < length rows → get_or rows j [] ≡ map (var_in atoms) (heads_at j (take i ns) (take i rs)) → get_or (set rows (get_or ns i 0) (get_or rows (get_or ns i 0) [] ++ map (var_in atoms) (head_atoms (get_or rs i d).head))) j [] ≡ map (var_in atoms) (heads_at j (take (i + 1) ns) (take (i + 1) rs))
+pub head_step : (rows : List (List ℕ)) (atoms : Atoms) (j : ℕ) (ns : List ℕ) (rs : List Rule) (i : ℕ) (d : Rule) → i < length ns → i < length rs →
+    get_or ns i 0 < length rows → get_or rows j [] ≡ map (var_in atoms) (heads_at j (take i ns) (take i rs)) →
+    get_or (set rows (get_or ns i 0) (get_or rows (get_or ns i 0) [] ++ map (var_in atoms) (head_atoms (get_or rs i d).head))) j [] ≡ map
+    (var_in atoms) (heads_at j (take (i + 1) ns) (take (i + 1) rs))
 head_step rows atoms j ns rs i d lt lt' within so_far =
     ⊎_elim here elsewhere (cases_eq (get_or ns i 0) j)
     ∙ ap (λ row. row ++ map (var_in atoms) (cond (eqb (get_or ns i 0) j) (head_atoms (get_or rs i d).head) [])) so_far
@@ -67,13 +74,17 @@ head_step rows atoms j ns rs i d lt lt' within so_far =
     new : List ℕ
     new = map (var_in atoms) (head_atoms (get_or rs i d).head)
 
-    here : get_or ns i 0 ≡ j → get_or (set rows (get_or ns i 0) (get_or rows (get_or ns i 0) [] ++ map (var_in atoms) (head_atoms (get_or rs i d).head))) j [] ≡ get_or rows j [] ++ map (var_in atoms) (cond (eqb (get_or ns i 0) j) (head_atoms (get_or rs i d).head) [])
+    here : get_or ns i 0 ≡ j → get_or
+        (set rows (get_or ns i 0) (get_or rows (get_or ns i 0) [] ++ map (var_in atoms) (head_atoms (get_or rs i d).head))) j [] ≡ get_or rows j []
+        ++ map (var_in atoms) (cond (eqb (get_or ns i 0) j) (head_atoms (get_or rs i d).head) [])
     here e =
         ap (λ n. get_or (set rows n (get_or rows n [] ++ map (var_in atoms) (head_atoms (get_or rs i d).head))) j []) e
         ∙ get_or-set_same rows j (get_or rows j [] ++ map (var_in atoms) (head_atoms (get_or rs i d).head)) [] (subst (λ n. n < length rows) e within)
         ∙ ap (λ t. get_or rows j [] ++ map (var_in atoms) (cond t (head_atoms (get_or rs i d).head) [])) (sym (eq-eqb (get_or ns i 0) j e))
 
-    elsewhere : (get_or ns i 0 ≡ j → ⊥) → get_or (set rows (get_or ns i 0) (get_or rows (get_or ns i 0) [] ++ map (var_in atoms) (head_atoms (get_or rs i d).head))) j [] ≡ get_or rows j [] ++ map (var_in atoms) (cond (eqb (get_or ns i 0) j) (head_atoms (get_or rs i d).head) [])
+    elsewhere : (get_or ns i 0 ≡ j → ⊥) →
+        get_or (set rows (get_or ns i 0) (get_or rows (get_or ns i 0) [] ++ map (var_in atoms) (head_atoms (get_or rs i d).head))) j [] ≡ get_or rows
+        j [] ++ map (var_in atoms) (cond (eqb (get_or ns i 0) j) (head_atoms (get_or rs i d).head) [])
     elsewhere ne =
         get_or-set_other rows (get_or ns i 0) j (get_or rows (get_or ns i 0) [] ++ map (var_in atoms) (head_atoms (get_or rs i d).head)) [] (λ e. ne (sym e))
         ∙ sym (nothing_more (get_or rows j []))

@@ -33,7 +33,8 @@ abbrev pub takes : (Body → ℕ) → Body → Bool
 takes name b = takes_var b (name b)
 
 -- the first body has the first variable
-first_literal : (atoms : Atoms) (name : Body → ℕ) (v : ℕ) (b : Body) (bs : List Body) → literal_for atoms v b (name b) ≡ literal_for atoms (v + place_of (body_eq b) (filter (takes name) (b ∷ bs))) b (name b)
+first_literal : (atoms : Atoms) (name : Body → ℕ) (v : ℕ) (b : Body) (bs : List Body) →
+    literal_for atoms v b (name b) ≡ literal_for atoms (v + place_of (body_eq b) (filter (takes name) (b ∷ bs))) b (name b)
 first_literal atoms name v b bs = cases (takes name b) refl
   where
     others : List Body
@@ -47,7 +48,8 @@ first_literal atoms name v b bs = cases (takes name b) refl
     cases false q = untaken_alike atoms v (v + place_of (body_eq b) others) b (name b) (sym q)
 
 -- behind it each other body has its own
-later_var : (name : Body → ℕ) (v : ℕ) (b c : Body) (bs : List Body) → body_eq c b ≡ false → next_var v b (name b) + place_of (body_eq c) (filter (takes name) bs) ≡ v + place_of (body_eq c) (filter (takes name) (b ∷ bs))
+later_var : (name : Body → ℕ) (v : ℕ) (b c : Body) (bs : List Body) → body_eq c b ≡ false →
+    next_var v b (name b) + place_of (body_eq c) (filter (takes name) bs) ≡ v + place_of (body_eq c) (filter (takes name) (b ∷ bs))
 later_var name v b c bs ne = cases (takes name b)
   where
     others : List Body
@@ -63,13 +65,15 @@ others_differ : (b : Body) (bs : List Body) → list_any (body_eq b) bs ≡ fals
 others_differ b [] e = tt
 others_differ b (c ∷ bs) e = let parts = or_parts (body_eq b c) (list_any (body_eq b) bs) e in (turned b c parts.0, others_differ b bs parts.1)
 
-literals_placed : (atoms : Atoms) (name : Body → ℕ) (v : ℕ) (bs : List Body) → AreDistinct bs → literals_from atoms v bs (map name bs) ≡ map (λ b. literal_for atoms (v + place_of (body_eq b) (filter (takes name) bs)) b (name b)) bs
+literals_placed : (atoms : Atoms) (name : Body → ℕ) (v : ℕ) (bs : List Body) → AreDistinct bs →
+    literals_from atoms v bs (map name bs) ≡ map (λ b. literal_for atoms (v + place_of (body_eq b) (filter (takes name) bs)) b (name b)) bs
 literals_placed atoms name v [] d = refl
 literals_placed atoms name v (b ∷ bs) d =
     ap (λ l. l ∷ literals_from atoms (next_var v b (name b)) bs (map name bs)) (first_literal atoms name v b bs)
     ∙ ap (λ ls. literal_for atoms (v + place_of (body_eq b) (filter (takes name) (b ∷ bs))) b (name b) ∷ ls)
     (literals_placed atoms name (next_var v b (name b)) bs d.1
-    ∙ map_each (λ c. body_eq c b ≡ false) (λ c. literal_for atoms (next_var v b (name b) + place_of (body_eq c) (filter (takes name) bs)) c (name c)) (λ c. literal_for atoms (v + place_of (body_eq c) (filter (takes name) (b ∷ bs))) c (name c))
+    ∙ map_each (λ c. body_eq c b ≡ false) (λ c. literal_for atoms (next_var v b (name b) + place_of (body_eq c) (filter (takes name) bs)) c (name c))
+    (λ c. literal_for atoms (v + place_of (body_eq c) (filter (takes name) (b ∷ bs))) c (name c))
     (λ c ne. ap (λ n. literal_for atoms n c (name c)) (later_var name v b c bs ne)) bs (others_differ b bs d.0))
 
 -- ---- names
@@ -90,7 +94,8 @@ chosen p v (body.All ls) = cases (filter (defines p (body.All ls)) (atoms_of p))
     cases (a ∷ more) = ap (λ t. cond t v (var_in (atoms_of p) a)) (ne_eqb (var_in (atoms_of p) a) 0 (λ e. omega (arith, e)))
 chosen p v (body.AtLeast bound items) = refl
 
-pub literals_of_bodies : (p : Program) (first : ℕ) → first ≡ length (atoms_of p) + 1 → literals_from (atoms_of p) first (bodies_of p) (map (name_var p) (bodies_of p)) ≡ map (literal_of_form p) (bodies_of p)
+pub literals_of_bodies : (p : Program) (first : ℕ) → first ≡ length (atoms_of p) + 1 →
+    literals_from (atoms_of p) first (bodies_of p) (map (name_var p) (bodies_of p)) ≡ map (literal_of_form p) (bodies_of p)
 literals_of_bodies p first e =
     literals_placed (atoms_of p) (name_var p) first (bodies_of p) (bodies_of-distinct p)
     ∙ all_alike (λ b. literal_for (atoms_of p) (first + place_of (body_eq b) (filter (takes (name_var p)) (bodies_of p))) b (name_var p b)) (literal_of_form p) one (bodies_of p)
@@ -102,7 +107,9 @@ literals_of_bodies p first e =
     one : (b : Body) → literal_for (atoms_of p) (first + place_of (body_eq b) (filter (takes (name_var p)) (bodies_of p))) b (name_var p b) ≡ literal_of_form p b
     one b =
         ap (λ (bs : List Body). literal_for (atoms_of p) (first + place_of (body_eq b) bs) b (name_var p b)) (filter_each (takes (name_var p)) (is_apart p) (takes-apart p) (bodies_of p))
-        ∙ ap (λ n. literal_for (atoms_of p) n b (name_var p b)) (let at : first + place_of (body_eq b) (apart_bodies p) ≡ suc (length (atoms_of p) + place_of (body_eq b) (apart_bodies p)) = omega (arith, e) in at)
+        ∙ ap (λ n. literal_for (atoms_of p) n b (name_var p b))
+        (let at : first + place_of (body_eq b) (apart_bodies p) ≡ suc (length (atoms_of p) + place_of (body_eq b) (apart_bodies p)) =
+        omega (arith, e) in at)
         ∙ ap (λ n. literal_by (atoms_of p) n b) (chosen p (suc (length (atoms_of p) + place_of (body_eq b) (apart_bodies p))) b)
 
 behind_bodies : (name : Body → ℕ) (v : ℕ) (bs : List Body) → var_behind v bs (map name bs) ≡ v + length (filter (takes name) bs)

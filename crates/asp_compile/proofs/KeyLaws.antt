@@ -18,7 +18,8 @@ same_items : (is js : List (ℤ × ℤ)) → pointwise int_eq (item_words is) (i
 same_items [] [] = refl
 same_items [] (j ∷ js) = refl
 same_items (i ∷ is) [] = refl
-same_items (i ∷ is) (j ∷ js) = ap (λ t. int_eq i.0 j.0 && (int_eq i.1 j.1 && t)) (same_items is js) ∙ regroup (int_eq i.0 j.0) (int_eq i.1 j.1) (pointwise (λ i j. int_eq i.0 j.0 && int_eq i.1 j.1) is js)
+same_items (i ∷ is) (j ∷ js) = ap (λ t. int_eq i.0 j.0 && (int_eq i.1 j.1 && t)) (same_items is js)
+    ∙ regroup (int_eq i.0 j.0) (int_eq i.1 j.1) (pointwise (λ i j. int_eq i.0 j.0 && int_eq i.1 j.1) is js)
   where
     regroup : (a b c : Bool) → (a && (b && c)) ≡ ((a && b) && c)
     regroup true b c = refl
@@ -84,7 +85,8 @@ turned_keys xs ys = cases (pointwise int_eq xs ys) (pointwise int_eq ys xs) refl
     cases true false p q = absurd (false≢true (q ∙ one_way xs ys (sym p)))
     cases false true p q = absurd (false≢true (p ∙ one_way ys xs (sym q)))
 
-pub place_by-push : (key : List ℤ) (bs : List Body) (b : Body) → list_any (body_eq b) bs ≡ false → place_by key (bs ++ b ∷ []) ≡ cond (pointwise int_eq (key_of b) key) (Some (length bs)) (place_by key bs)
+pub place_by-push : (key : List ℤ) (bs : List Body) (b : Body) → list_any (body_eq b) bs ≡ false →
+    place_by key (bs ++ b ∷ []) ≡ cond (pointwise int_eq (key_of b) key) (Some (length bs)) (place_by key bs)
 place_by-push key bs b absent =
     ap (λ t. cond t (Some (place_of (has_key key) (bs ++ b ∷ []))) None) (list_any-append (has_key key) bs (b ∷ []))
     ∙ cases (list_any (has_key key) bs) (has_key key b) refl refl
@@ -95,7 +97,9 @@ place_by-push key bs b absent =
         let same : key ≡ key_of b = same_lists int_eq int_eq_same key (key_of b) f in
         false≢true (sym absent ∙ sym (any_same (has_key (key_of b)) (body_eq b) (key_eq b) bs) ∙ subst (λ (k : List ℤ). list_any (has_key k) bs ≡ true) same e)
 
-    cases : (t u : Bool) → t ≡ list_any (has_key key) bs → u ≡ has_key key b → cond (t || (u || false)) (Some (place_of (has_key key) (bs ++ b ∷ []))) None ≡ cond u (Some (length bs)) (cond t (Some (place_of (has_key key) bs)) None)
+    cases : (t u : Bool) → t ≡ list_any (has_key key) bs → u ≡ has_key key b →
+        cond (t || (u || false)) (Some (place_of (has_key key) (bs ++ b ∷ []))) None ≡ cond u (Some (length bs))
+        (cond t (Some (place_of (has_key key) bs)) None)
     cases true true p q = absurd (other (sym p) (sym q))
     cases true false p q = ap Some (place_of-append (has_key key) bs (b ∷ []) (sym p))
     cases false true p q =

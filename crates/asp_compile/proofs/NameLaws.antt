@@ -34,7 +34,8 @@ first_below-one test = cases (test 0) 0
     cases false n = refl
 
 -- by the atoms that pass
-first_passes : (atoms : Atoms) (q test : ℕ → Bool) (n : ℕ) → IsAscending atoms → ((i : ℕ) → i < length atoms → test (suc i) ≡ q (get_or atoms i 0)) → n ≤ length atoms → first_below test (suc n) ≡ named_or atoms 0 (filter q (take n atoms))
+first_passes : (atoms : Atoms) (q test : ℕ → Bool) (n : ℕ) → IsAscending atoms → ((i : ℕ) → i < length atoms → test (suc i) ≡ q (get_or atoms i 0)) →
+    n ≤ length atoms → first_below test (suc n) ≡ named_or atoms 0 (filter q (take n atoms))
 first_passes atoms q test zero up same le = first_below-one test ∙ none atoms
   where
     none : (xs : List ℕ) → 0 ≡ named_or atoms 0 (filter q (take 0 xs))
@@ -60,7 +61,8 @@ at_atom L i (head.One a) up stand lt = same_var L a i up stand.0 lt
 at_atom L i (head.Choice more) up stand lt = refl
 at_atom L i head.Never up stand lt = refl
 
-only_alone : (p : Program) (j : ℕ) (bs : List Body) → j < length (bodies_of p) → AllByRecursion (λ b. list_any (body_eq b) (bodies_of p) ≡ true) bs → is_only (suc (length (atoms_of p) + j)) (map (number_of_form p) bs) ≡ is_alone (nth_body p j) bs
+only_alone : (p : Program) (j : ℕ) (bs : List Body) → j < length (bodies_of p) → AllByRecursion (λ b. list_any (body_eq b) (bodies_of p) ≡ true) bs →
+    is_only (suc (length (atoms_of p) + j)) (map (number_of_form p) bs) ≡ is_alone (nth_body p j) bs
 only_alone p j [] lt listed = refl
 only_alone p j (c ∷ []) lt listed =
     shifted (length (atoms_of p)) (place_of (body_eq c) (bodies_of p)) j ∙ place_test (bodies_of p) c j (body.All []) (bodies_of-distinct p) listed.0 lt
@@ -71,9 +73,13 @@ only_alone p j (c ∷ d ∷ ds) lt listed = refl
 
 supports_listed : (p : Program) (a : ℕ) → AllByRecursion (λ b. list_any (body_eq b) (bodies_of p) ≡ true) (support_bodies p a)
 supports_listed p a =
-    each-filter (λ b. list_any (body_eq b) (bodies_of p) ≡ true) (λ b. list_any (λ (r : Rule). has (head_atoms r.head) a && body_eq (normal r.body) b) (rules_in_force p)) (bodies_of p) (bodies_of-themselves p)
+    each-filter (λ b. list_any (body_eq b) (bodies_of p) ≡ true)
+    (λ b. list_any (λ (r : Rule). has (head_atoms r.head) a && body_eq (normal r.body) b) (rules_in_force p)) (bodies_of p)
+    (bodies_of-themselves p)
 
-pub names_are : (p : Program) (names : List ℕ) (first : ℕ) (headed : List Bool) (rows : List (List ℕ)) → first ≡ length (atoms_of p) + 1 → AreHeadedAlone headed (atoms_of p) (rules_in_force p) → AreSupports p rows → AreNames names (length (bodies_of p)) first headed rows → names ≡ map (name_var p) (bodies_of p)
+pub names_are : (p : Program) (names : List ℕ) (first : ℕ) (headed : List Bool) (rows : List (List ℕ)) → first ≡ length (atoms_of p) + 1 →
+    AreHeadedAlone headed (atoms_of p) (rules_in_force p) → AreSupports p rows → AreNames names (length (bodies_of p)) first headed rows →
+    names ≡ map (name_var p) (bodies_of p)
 names_are p names first headed rows e marks table h =
     ext_get_or 0 names (map (name_var p) (bodies_of p)) (h.whole ∙ sym (length-map (bodies_of p) (name_var p))) (λ j below.
     let lt : j < length (bodies_of p) = subst (λ (n : ℕ). j < n) h.whole below in
@@ -106,15 +112,20 @@ names_are p names first headed rows e marks table h =
         ap (λ t. t && is_only (first + j) (get_or rows (suc i) [])) (marked i below) ∙ ap (λ t. ones i && t) (alone j lt i below)
 
 -- the numbers in the rows are those of the bodies
-pub rows_within : (p : Program) (first count : ℕ) (rows : List (List ℕ)) → first ≡ length (atoms_of p) + 1 → count ≡ length (bodies_of p) → AreSupports p rows → (v : ℕ) → 0 < v → v < first → All (λ n. (first ≤ n) × (n < first + count)) (get_or rows v [])
+pub rows_within : (p : Program) (first count : ℕ) (rows : List (List ℕ)) → first ≡ length (atoms_of p) + 1 → count ≡ length (bodies_of p) →
+    AreSupports p rows → (v : ℕ) → 0 < v → v < first → All (λ n. (first ≤ n) × (n < first + count)) (get_or rows v [])
 rows_within p first count rows e f table zero is_var lt = absurd (omega (arith, is_var))
 rows_within p first count rows e f table (suc i) is_var lt =
     subst (λ (ns : List ℕ). All (λ n. (first ≤ n) × (n < first + count)) ns) (sym (ap (λ k. get_or rows k []) (sym (add-one i)) ∙ table.row i (omega (arith, lt, e))))
     (all_of (λ n. (first ≤ n) × (n < first + count)) (supports p (nth_atom p i))
-    (each_weaker (IsBodyNumber p) (λ n. (first ≤ n) × (n < first + count)) (λ n within. let low = within.0 in let high = within.1 in (omega (arith, low, e), omega (arith, high, e, f))) (supports p (nth_atom p i)) (support_numbers p (nth_atom p i))))
+    (each_weaker (IsBodyNumber p) (λ n. (first ≤ n) × (n < first + count))
+    (λ n within. let low = within.0 in let high = within.1 in (omega (arith, low, e), omega (arith, high, e, f))) (supports p (nth_atom p i))
+    (support_numbers p (nth_atom p i))))
 
 -- ---- one variable more
-pub name_step : (headed : List Bool) (rows : List (List ℕ)) (n v old new : ℕ) (row : List ℕ) → old ≡ first_below (defines_at headed rows n) v → row ≡ get_or rows v [] → new ≡ cond (eqb old 0 && (get_or headed v false && is_only n row)) v old → new ≡ first_below (defines_at headed rows n) (v + 1)
+pub name_step : (headed : List Bool) (rows : List (List ℕ)) (n v old new : ℕ) (row : List ℕ) → old ≡ first_below (defines_at headed rows n) v →
+    row ≡ get_or rows v [] → new ≡ cond (eqb old 0 && (get_or headed v false && is_only n row)) v old →
+    new ≡ first_below (defines_at headed rows n) (v + 1)
 name_step headed rows n v old new row so_far is e =
     e
     ∙ ap (λ (ns : List ℕ). cond (eqb old 0 && (get_or headed v false && is_only n ns)) v old) is

@@ -55,7 +55,9 @@ have_places rs =
     each_weaker (Among rs) (λ r. list_any (body_eq (form r)) (distinct (map form rs)) ≡ true)
     (λ r m. list_any-distinct (form r) [] (map form rs) ∙ among_forms rs r m) rs (each_among rs)
 
-pub places_more : (bs : List Body) (rs : List Rule) (i : ℕ) (d : Rule) → i < length rs → bs ≡ distinct (map form (take i rs)) → map (place_in (with_body bs (form (get_or rs i d)))) (take (i + 1) rs) ≡ map (place_in bs) (take i rs) ++ place_of (body_eq (form (get_or rs i d))) (with_body bs (form (get_or rs i d))) ∷ []
+pub places_more : (bs : List Body) (rs : List Rule) (i : ℕ) (d : Rule) → i < length rs → bs ≡ distinct (map form (take i rs)) →
+    map (place_in (with_body bs (form (get_or rs i d)))) (take (i + 1) rs) ≡ map (place_in bs) (take i rs)
+    ++ place_of (body_eq (form (get_or rs i d))) (with_body bs (form (get_or rs i d))) ∷ []
 places_more bs rs i d lt e =
     let b : Body = form (get_or rs i d) in
     ap (map (place_in (with_body bs b))) (take_more rs i d lt)

@@ -26,7 +26,8 @@ same_parts : (p : Program) (b : Literal) (ls : List ℤ) → map pure (map (λ l
 same_parts p b [] = refl
 same_parts p b (l ∷ ls) = ap (λ ns. pure (b ∷ complement (literal_of p l) ∷ []) ∷ ns) (same_parts p b ls)
 
-pub body_listed : (p : Program) (b : Body) → is_some (bound_of b) ≡ false → is_wide b ≡ true → is_barred p b ≡ false → map pure (body_nogoods p b) ≡ pure (complement (literal_of_form p b) ∷ form_literals p b) ∷ parts (literal_of_form p b) (form_literals p b)
+pub body_listed : (p : Program) (b : Body) → is_some (bound_of b) ≡ false → is_wide b ≡ true → is_barred p b ≡ false →
+    map pure (body_nogoods p b) ≡ pure (complement (literal_of_form p b) ∷ form_literals p b) ∷ parts (literal_of_form p b) (form_literals p b)
 body_listed p (body.All ls) e wide open_ =
     ap (map pure) (body_nogoods-wide p ls wide ∙ normal_nogoods-defining p ls open_)
     ∙ ap (λ ns. pure (complement (literal_of_form p (body.All ls)) ∷ map (literal_of p) ls) ∷ ns) (same_parts p (literal_of_form p (body.All ls)) ls)
@@ -56,7 +57,8 @@ flat_map-push f (y ∷ ys) x =
     ∙ append_again (map pure (f y)) (map pure (flat_map f ys)) (map pure (f x))
     ∙ ap (λ ns. ns ++ map pure (f x)) (sym (map-append (f y) (flat_map f ys)))
 
-pub listed_more : {X : Type 0} (f : X → List (List Literal)) (xs : List X) (i : ℕ) (d : X) → i < length xs → map pure (flat_map f (take (i + 1) xs)) ≡ map pure (flat_map f (take i xs)) ++ map pure (f (get_or xs i d))
+pub listed_more : {X : Type 0} (f : X → List (List Literal)) (xs : List X) (i : ℕ) (d : X) → i < length xs →
+    map pure (flat_map f (take (i + 1) xs)) ≡ map pure (flat_map f (take i xs)) ++ map pure (f (get_or xs i d))
 listed_more f xs i d lt = ap (λ ys. map pure (flat_map f ys)) (take_more xs i d lt) ∙ flat_map-push f (take i xs) (get_or xs i d)
 
 -- ---- groups
@@ -92,7 +94,8 @@ length-groups p =
 pub rule_group : (p : Program) (i n m : ℕ) → n ≡ length (bodies_of p) → m ≡ length (rules_in_force p) → n ≤ i → i - n < m → get_or (groups p) i [] ≡ nogoods_of_rule p (nth_rule p (i - n))
 rule_group p i n m is are le lt = rw is (of_rule p i (omega (arith, is, le)) (omega (arith, is, are, lt)))
 
-pub atom_group : (p : Program) (i n m : ℕ) → n ≡ length (bodies_of p) → m ≡ length (rules_in_force p) → n ≤ i → m ≤ i - n → i < length (groups p) → get_or (groups p) i [] ≡ atom_nogoods p (nth_atom p (i - n - m))
+pub atom_group : (p : Program) (i n m : ℕ) → n ≡ length (bodies_of p) → m ≡ length (rules_in_force p) → n ≤ i → m ≤ i - n → i < length (groups p) →
+    get_or (groups p) i [] ≡ atom_nogoods p (nth_atom p (i - n - m))
 atom_group p i n m is are le behind lt =
     let place : (i - length (bodies_of p)) - length (rules_in_force p) ≡ i - n - m = omega (arith, is, are) in
     of_atom p i (omega (arith, is, le)) (omega (arith, is, are, behind)) (omega (arith, is, are, le, behind, lt, length-groups p))

@@ -90,7 +90,8 @@ showing_by-covered true r p K L among all =
     T : Atoms
     T = unasked r p
 
-    each : (M N : List Atoms) → ((S : Atoms) → list_any (same_set S) N ≡ true → covers r p (beside T M) S ≡ true) → (S : Atoms) → list_any (same_set S) (beside T N) ≡ true → covers r p (beside T M) S ≡ true
+    each : (M N : List Atoms) → ((S : Atoms) → list_any (same_set S) N ≡ true → covers r p (beside T M) S ≡ true) → (S : Atoms) →
+        list_any (same_set S) (beside T N) ≡ true → covers r p (beside T M) S ≡ true
     each M [] h S e = absurd (false≢true e)
     each [] (V ∷ N) h S e = absurd (false≢true (h V (first-among V N)))
     each (U ∷ M) (V ∷ N) h S e = elim (or_cases (same_set S T) (list_any (same_set S) (V ∷ N)) e) [
@@ -109,7 +110,8 @@ showing_by-same n r p K L there back =
     empty (S ∷ M) N among e = absurd (empty-member N S e (among S (first-among S M)))
 
 -- Those found are as good as what a choice of the answers leaves.
-pub showing_by-chosen : (n : Bool) (r : Reasoning) (p : Program) (K L : List Atoms) → AreAmong K L → consequences_of r p (showing_by n r p K) ≡ consequences_of r p (showing_by n r p (filter (λ S. list_any (same_set S) K) L))
+pub showing_by-chosen : (n : Bool) (r : Reasoning) (p : Program) (K L : List Atoms) → AreAmong K L →
+    consequences_of r p (showing_by n r p K) ≡ consequences_of r p (showing_by n r p (filter (λ S. list_any (same_set S) K) L))
 showing_by-chosen false r p K L among = consequences-chosen r p K L among
 showing_by-chosen true r p K L among = showing_by-same true r p K (filter (λ S. list_any (same_set S) K) L) in_chosen of_chosen
   where
@@ -127,20 +129,25 @@ showing-nothing (goal.Ties c) p = refl
 showing-nothing (goal.Consequences r false) p = refl
 showing-nothing (goal.Consequences r true) p = refl
 
-more-common : (n : Bool) (r : Reasoning) (p : Program) (K : List Atoms) (S : Atoms) → common_sets r p (with_answer (seed_by n r p) (common_sets r p (showing_by n r p K)) S) ≡ common_sets r p (showing_by n r p (K ++ S ∷ []))
+more-common : (n : Bool) (r : Reasoning) (p : Program) (K : List Atoms) (S : Atoms) →
+    common_sets r p (with_answer (seed_by n r p) (common_sets r p (showing_by n r p K)) S) ≡ common_sets r p (showing_by n r p (K ++ S ∷ []))
 more-common false r p K S = common-more r p K S
 more-common true r p [] S = refl
 more-common true r p (U ∷ K) S = common-more r p (unasked r p ∷ U ∷ K) S
 
 -- One answer more is added to what the others have in common.
-pub showing-common : (g : Goal) (r : Reasoning) (p : Program) (K : List Atoms) (S : Atoms) → sought g ≡ Some r → common_sets r p (with_answer (seed_of g p) (common_sets r p (showing g p K)) S) ≡ common_sets r p (showing g p (K ++ S ∷ []))
+pub showing-common : (g : Goal) (r : Reasoning) (p : Program) (K : List Atoms) (S : Atoms) → sought g ≡ Some r →
+    common_sets r p (with_answer (seed_of g p) (common_sets r p (showing g p K)) S) ≡ common_sets r p (showing g p (K ++ S ∷ []))
 showing-common goal.Enum r p K S e = common-more r p K S
 showing-common goal.Opt r p K S e = common-more r p K S
 showing-common (goal.Ties c) r p K S e = common-more r p K S
-showing-common (goal.Consequences w n) r p K S e = let same : w ≡ r = cc in subst (λ x. common_sets x p (with_answer (seed_by n w p) (common_sets x p (showing_by n w p K)) S) ≡ common_sets x p (showing_by n w p (K ++ S ∷ []))) same (more-common n w p K S)
+showing-common (goal.Consequences w n) r p K S e = let same : w ≡ r = cc in
+    subst (λ x. common_sets x p (with_answer (seed_by n w p) (common_sets x p (showing_by n w p K)) S) ≡ common_sets x p
+    (showing_by n w p (K ++ S ∷ []))) same (more-common n w p K S)
 
 -- the first answer, with the seed
-pub answer-first : (r : Reasoning) (p : Program) (K : List Atoms) (T S : Atoms) → is_some (slice_get K 0) ≡ false → common_sets r p (common_sets r p (K ++ T ∷ []) ++ S ∷ []) ≡ common_sets r p (with_answer (Some T) K S)
+pub answer-first : (r : Reasoning) (p : Program) (K : List Atoms) (T S : Atoms) → is_some (slice_get K 0) ≡ false →
+    common_sets r p (common_sets r p (K ++ T ∷ []) ++ S ∷ []) ≡ common_sets r p (with_answer (Some T) K S)
 answer-first r p [] T S e = common-more r p (T ∷ []) S
 answer-first r p (U ∷ K) T S e = absurd (false≢true (sym e))
 
@@ -211,7 +218,8 @@ condition-alike C D (l ∷ ls) h =
     ap (λ b. b && all_hold C ls) (holds-alike C D l (h (atom_of l) (or_left (eqb (atom_of l) (atom_of l)) (list_any (λ k. eqb (atom_of k) (atom_of l)) ls) (eq-eqb (atom_of l) (atom_of l) refl))))
     ∙ ap (λ b. holds D l && b) (condition-alike C D ls (λ a e. h a (or_right (eqb (atom_of l) a) (list_any (λ k. eqb (atom_of k) a) ls) e)))
 
-texts-alike : (C D : Atoms) (os : List Output) → ((a : ℕ) → in_outputs os a ≡ true → has C a ≡ has D a) → map (λ o. o.text) (filter (λ o. all_hold C o.condition) os) ≡ map (λ o. o.text) (filter (λ o. all_hold D o.condition) os)
+texts-alike : (C D : Atoms) (os : List Output) → ((a : ℕ) → in_outputs os a ≡ true → has C a ≡ has D a) →
+    map (λ o. o.text) (filter (λ o. all_hold C o.condition) os) ≡ map (λ o. o.text) (filter (λ o. all_hold D o.condition) os)
 texts-alike C D [] h = refl
 texts-alike C D (o ∷ os) h =
     ap (λ b. map (λ (x : Output). x.text) (cond b (o ∷ filter (λ (x : Output). all_hold C x.condition) os) (filter (λ (x : Output). all_hold C x.condition) os)))
@@ -219,7 +227,8 @@ texts-alike C D (o ∷ os) h =
     ∙ here (all_hold D o.condition) (filter (λ (x : Output). all_hold C x.condition) os) (filter (λ (x : Output). all_hold D x.condition) os)
     (texts-alike C D os (λ a e. h a (or_right (list_any (λ l. eqb (atom_of l) a) o.condition) (in_outputs os a) e)))
   where
-    here : (b : Bool) (xs ys : List Output) → map (λ (x : Output). x.text) xs ≡ map (λ (x : Output). x.text) ys → map (λ (x : Output). x.text) (cond b (o ∷ xs) xs) ≡ map (λ (x : Output). x.text) (cond b (o ∷ ys) ys)
+    here : (b : Bool) (xs ys : List Output) → map (λ (x : Output). x.text) xs ≡ map (λ (x : Output). x.text) ys →
+        map (λ (x : Output). x.text) (cond b (o ∷ xs) xs) ≡ map (λ (x : Output). x.text) (cond b (o ∷ ys) ys)
     here true xs ys e = ap (λ (ts : List (List ℕ)). o.text ∷ ts) e
     here false xs ys e = e
 

@@ -84,7 +84,9 @@ pub held-split : (s : ℕ) (nodes : List Node) (n : ℕ) (l : Literal) → n < l
 held-split s nodes n l lt =
     let f : Node → ℕ = λ x. cond (is_held_by s x.status) 1 0 in
     let e = sum_by-set f nodes n (record { cube = cube_of nodes n; status = status.Forked }) nowhere lt in
-    let a = sum_by-append f (with_status nodes n status.Forked) (record { cube = cube_of nodes n ++ l ∷ []; status = status_of nodes n } ∷ record { cube = cube_of nodes n ++ complement l ∷ []; status = status.Open } ∷ []) in
+    let a = sum_by-append f (with_status nodes n status.Forked)
+    (record { cube = cube_of nodes n ++ l ∷ []; status = status_of nodes n } ∷ record
+    { cube = cube_of nodes n ++ complement l ∷ []; status = status.Open } ∷ []) in
     omega (arith, e, a)
 
 -- ---- the nogoods of closed leaves
@@ -118,7 +120,8 @@ closed-set (y ∷ nodes) zero x (suc m) ne e = e
 closed-set (y ∷ nodes) (suc n) x zero ne e = e
 closed-set (y ∷ nodes) (suc n) x (suc m) ne e = closed-set nodes n x m ne e
 
-closed-append : (nodes : List Node) (x y : Node) (m : ℕ) → (x.status ≡ status.Closed → ⊥) → (y.status ≡ status.Closed → ⊥) → status_of (nodes ++ x ∷ y ∷ []) m ≡ status.Closed → status_of nodes m ≡ status.Closed
+closed-append : (nodes : List Node) (x y : Node) (m : ℕ) → (x.status ≡ status.Closed → ⊥) → (y.status ≡ status.Closed → ⊥) →
+    status_of (nodes ++ x ∷ y ∷ []) m ≡ status.Closed → status_of nodes m ≡ status.Closed
 closed-append [] x y zero nx ny e = absurd (nx e)
 closed-append [] x y (suc zero) nx ny e = absurd (ny e)
 closed-append [] x y (suc (suc m)) nx ny e = e
@@ -126,7 +129,8 @@ closed-append (z ∷ nodes) x y zero nx ny e = e
 closed-append (z ∷ nodes) x y (suc m) nx ny e = closed-append nodes x y m nx ny e
 
 -- a leaf's new status, other than closed
-IsBoard-with_status : (b : Board) (e : Event) (n : ℕ) (new : Status) → IsBoard b → Guard b e → (happens b e).nodes ≡ with_status b.nodes n new → is_leaf (status_of b.nodes n) ≡ true → is_leaf new ≡ true →
+IsBoard-with_status : (b : Board) (e : Event) (n : ℕ) (new : Status) → IsBoard b → Guard b e → (happens b e).nodes ≡ with_status b.nodes n new →
+    is_leaf (status_of b.nodes n) ≡ true → is_leaf new ≡ true →
     (new ≡ status.Closed → ⊥) → ((s : ℕ) → held_by s (with_status b.nodes n new) ≤ 1) →
     IsBoard (record b { nodes = with_status b.nodes n new })
 IsBoard-with_status b e n new is g nodes was leaf closed apart = record {
@@ -138,7 +142,8 @@ IsBoard-with_status b e n new is g nodes was leaf closed apart = record {
   units = is.units;
   single = is.single;
   apart = apart;
-  explained = explained-more b (record b { nodes = with_status b.nodes n new }) refl (λ T h. h) (λ m h. ap (λ (xs : List Node). get_or xs m nowhere) (sym nodes) ∙ closed-stays b e m g h) b.reasons is.explained;
+  explained = explained-more b (record b { nodes = with_status b.nodes n new }) refl (λ T h. h)
+      (λ m h. ap (λ (xs : List Node). get_or xs m nowhere) (sym nodes) ∙ closed-stays b e m g h) b.reasons is.explained;
   complete = λ m h. is.complete m (closed-set b.nodes n (record { cube = cube_of b.nodes n; status = new }) m closed h);
   cubes = each-set (λ (x : Node). IsCube b.task x.cube) b.nodes n (record { cube = cube_of b.nodes n; status = new }) is.cubes (cube-at b.task b.nodes n (leaf-within b.nodes n was) is.cubes);
 }
@@ -185,7 +190,9 @@ IsBoard-split b n s l is g =
       single = is.single;
       apart = λ t. omega (arith, held-split t b.nodes n l lt, is.apart t);
       explained = explained-more b (record b { nodes = split b.nodes n l }) refl (λ T h. h) (λ m h. closed-stays b (event.Split s n l) m g h) b.reasons is.explained;
-      complete = λ m h. is.complete m (closed-set b.nodes n forked m (λ e. let f : ⊥ = cc in f) (closed-append (set b.nodes n forked) first second m (λ e. let g : status.Held s ≡ status.Closed = sym held ∙ e in let f : ⊥ = cc in f) (λ e. let f : ⊥ = cc in f) h));
+      complete = λ m h. is.complete m (closed-set b.nodes n forked m (λ e. let f : ⊥ = cc in f)
+          (closed-append (set b.nodes n forked) first second m (λ e. let g : status.Held s ≡ status.Closed = sym held ∙ e in let f : ⊥ = cc in f)
+          (λ e. let f : ⊥ = cc in f) h));
       cubes =
           let at : IsCube b.task (cube_of b.nodes n) = cube-at b.task b.nodes n lt is.cubes in
           each-append (λ (x : Node). IsCube b.task x.cube) (set b.nodes n forked) (first ∷ second ∷ [])
@@ -224,7 +231,8 @@ among-more K S T h = list_any-append (same_set T) K (S ∷ []) ∙ or_left (list
 
 pub excused-delivered : (b : Board) (S T : Atoms) → is_excused b T ≡ true → is_excused (record b { answers = b.answers ++ S ∷ [] }) T ≡ true
 excused-delivered b S T h =
-    done-used (sought b.task.goal) b.task.program (showing_of b) (showing_of (record b { answers = b.answers ++ S ∷ [] })) (bound_of b) T (showing-among b.task.goal b.task.program b.answers (b.answers ++ S ∷ []) (among-more b.answers S)) h
+    done-used (sought b.task.goal) b.task.program (showing_of b) (showing_of (record b { answers = b.answers ++ S ∷ [] })) (bound_of b) T
+    (showing-among b.task.goal b.task.program b.answers (b.answers ++ S ∷ []) (among-more b.answers S)) h
 
 pub not_after : (c d : List ℤ) → betters d c ≡ true → betters c d ≡ false
 not_after c d e = subst (λ x. betters c (cond x d c) ≡ false) e (smaller_left c d)
@@ -239,9 +247,11 @@ done-improved goal.Opt p K (Some B) S T o less h =
     let betters_it : betters (cost p S) (cost p B) ≡ true = not_false (betters (cost p S) (cost p B)) (or_none (list_any (same_set S) K) (costs p (cost p B) S) less) in
     or_right_more (list_any (same_set T) K) (costs p (cost p B) T) (costs p (cost p S) T) (costs_within p T (cost p B) (cost p S) (not_after (cost p B) (cost p S) betters_it)) h
 
-settled-more : (b c : Board) → b.task.program ≡ c.task.program → ((T : Atoms) → is_excused b T ≡ true → is_excused c T ≡ true) → (nodes : List Node) → AllByRecursion (IsSettled b) nodes → AllByRecursion (IsSettled c) nodes
+settled-more : (b c : Board) → b.task.program ≡ c.task.program → ((T : Atoms) → is_excused b T ≡ true → is_excused c T ≡ true) → (nodes : List Node) →
+    AllByRecursion (IsSettled b) nodes → AllByRecursion (IsSettled c) nodes
 settled-more b c same more nodes h =
-    each_weaker (IsSettled b) (IsSettled c) (λ n settled closed. let Over : Program → Type 0 = λ p. HitsOnly p (is_excused c) n.cube in subst Over same (HitsOnly-weaker b.task.program (is_excused b) (is_excused c) n.cube more (settled closed))) nodes h
+    each_weaker (IsSettled b) (IsSettled c) (λ n settled closed. let Over : Program → Type 0 = λ p. HitsOnly p (is_excused c) n.cube in
+    subst Over same (HitsOnly-weaker b.task.program (is_excused b) (is_excused c) n.cube more (settled closed))) nodes h
 
 pub distinct-push : (A : List Atoms) (S : Atoms) → distinct (A ++ S ∷ []) ≡ cond (list_any (same_set S) (distinct A)) (distinct A) (distinct A ++ S ∷ [])
 distinct-push A S = folded (λ (Ts : List Atoms) (T : Atoms). cond (list_any (same_set T) Ts) Ts (Ts ++ T ∷ [])) [] A S

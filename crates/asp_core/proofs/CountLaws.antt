@@ -25,7 +25,9 @@ abbrev pub row_cmp : Row → Row → Ordering
 row_cmp x y = slice_cmp nat_cmp x.words.items y.words.items
 
 -- where it is put by the order, so are the sets
-ordering-map : (o : Ordering) (A B C : List Row) → map (λ (x : Row). x.set) (match_ordering o A B C) ≡ match_ordering o (map (λ (x : Row). x.set) A) (map (λ (x : Row). x.set) B) (map (λ (x : Row). x.set) C)
+ordering-map : (o : Ordering) (A B C : List Row) →
+    map (λ (x : Row). x.set) (match_ordering o A B C) ≡ match_ordering o (map (λ (x : Row). x.set) A) (map (λ (x : Row). x.set) B)
+    (map (λ (x : Row). x.set) C)
 ordering-map Less A B C = refl
 ordering-map Equal A B C = refl
 ordering-map Greater A B C = refl

@@ -44,7 +44,8 @@ cube-at t nodes n lt is = at_each (λ (x : Node). IsCube t x.cube) nodes n nowhe
 hits-front : (v : List Bool) (xs zs : List Literal) → IsPrefix xs zs → hits v zs ≡ true → hits v xs ≡ true
 hits-front v xs zs begins h = (and_parts (hits v xs) (hits v begins.0) (sym (hits-append v xs begins.0) ∙ ap (hits v) begins.1 ∙ h)).0
 
-pub answer-in_cube : (t : Task) (cube : List Literal) (S : Atoms) → AllByRecursion (λ l. has (atoms_of t.program) (atom_of l) ≡ true) (wanted t) → IsCube t cube → is_stable t.program S ≡ true → hits (values t.program S) cube ≡ true → is_answer t S ≡ true
+pub answer-in_cube : (t : Task) (cube : List Literal) (S : Atoms) → AllByRecursion (λ l. has (atoms_of t.program) (atom_of l) ≡ true) (wanted t) →
+    IsCube t cube → is_stable t.program S ≡ true → hits (values t.program S) cube ≡ true → is_answer t S ≡ true
 answer-in_cube t cube S stand is stable hit =
     let p : Program = t.program in
     and_from (is_stable p S) (all_hold S (wanted t)) stable (sym (hits-literals p S (wanted t) stand) ∙ hits-front (values p S) (map (literal_of p) (wanted t)) cube is.begins hit)

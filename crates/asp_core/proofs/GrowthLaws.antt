@@ -100,7 +100,8 @@ Grows-run b (e ∷ journal) lawful = Grows-trans b (happens b e) (run (happens b
 apart : (s : ℕ) (x y : Status) → x ≡ y → is_held_by s y ≡ false → (let k : ℕ = cond (is_held_by s x) 1 0 in k ≡ 0)
 apart s x y e h = ap (λ z. let k : ℕ = cond (is_held_by s z) 1 0 in k) e ∙ ap (λ z. let k : ℕ = cond z 1 0 in k) h
 
-held-other : (b : Board) (n s : ℕ) (old new : Status) → status_of b.nodes n ≡ old → is_leaf old ≡ true → is_held_by s old ≡ false → is_held_by s new ≡ false → held_by s (with_status b.nodes n new) ≡ held_by s b.nodes
+held-other : (b : Board) (n s : ℕ) (old new : Status) → status_of b.nodes n ≡ old → is_leaf old ≡ true → is_held_by s old ≡ false →
+    is_held_by s new ≡ false → held_by s (with_status b.nodes n new) ≡ held_by s b.nodes
 held-other b n s old new was leaf not_old not_new =
     omega (arith, held-changed s b.nodes n new (leaf-within b.nodes n (ap is_leaf was ∙ leaf)), apart s (status_of b.nodes n) old was not_old, apart s new new refl not_new)
 
@@ -115,7 +116,8 @@ held-happens b (event.Lease t n) s g ne = refl
 held-happens b (event.Back t left burnt) s g ne = refl
 
 entry-other : (x s t : ℕ) (u v w : ℕ) → (t ≡ s → ⊥) → eqb x t ≡ true → (let a : ℕ = cond (eqb x s) u w in let b : ℕ = cond (eqb x s) v w in a ≡ b)
-entry-other x s t u v w ne e = ap (λ z. let a : ℕ = cond z u w in a) (ne_eqb x s (λ q. ne (sym (eqb-true x t e) ∙ q))) ∙ sym (ap (λ z. let a : ℕ = cond z v w in a) (ne_eqb x s (λ q. ne (sym (eqb-true x t e) ∙ q))))
+entry-other x s t u v w ne e = ap (λ z. let a : ℕ = cond z u w in a) (ne_eqb x s (λ q. ne (sym (eqb-true x t e) ∙ q)))
+    ∙ sym (ap (λ z. let a : ℕ = cond z v w in a) (ne_eqb x s (λ q. ne (sym (eqb-true x t e) ∙ q))))
 
 pub out_of-leased_other : (out : List (ℕ × ℕ)) (t n s : ℕ) → (t ≡ s → ⊥) → out_of (leased t n out) s ≡ out_of out s
 out_of-leased_other [] t n s ne = ap (λ z. let k : ℕ = cond z n 0 in k) (ne_eqb t s ne)

@@ -63,7 +63,8 @@ closed_leaf (status.Held t) h n = absurd (false≢true n)
 closed_leaf status.Closed h n = refl
 closed_leaf status.Forked h n = absurd (false≢true h)
 
-excused-hit : (b : Board) (S : Atoms) (nodes : List Node) → AllByRecursion (IsSettled b) nodes → all_closed nodes ≡ true → is_stable b.task.program S ≡ true → 0 < leaves_hit (values b.task.program S) nodes → is_excused b S ≡ true
+excused-hit : (b : Board) (S : Atoms) (nodes : List Node) → AllByRecursion (IsSettled b) nodes → all_closed nodes ≡ true →
+    is_stable b.task.program S ≡ true → 0 < leaves_hit (values b.task.program S) nodes → is_excused b S ≡ true
 excused-hit b S [] settled closed stable some = absurd (omega arith)
 excused-hit b S (n ∷ nodes) settled closed stable some =
     let parts = and_parts (not (is_unclosed n.status)) (all_closed nodes) closed in
@@ -97,7 +98,8 @@ pub delivered_all : (m : Goal) (t : Task) (A : List Atoms) (S : Atoms) → AllBy
 delivered_all m t A S h any =
     let Fits : Atoms → Type 0 = λ T. (is_answer t T && lists_by m t.program T) ≡ true in
     one_passes (Fits S) (same_set S) A
-    (each_weaker (λ T. IsTrue (lists_by m t.program T) × IsTrue (is_answer t T)) (λ T. same_set S T ≡ true → Fits S) (λ T g e. subst Fits (sym (same_text S T (sym e))) (and_from (is_answer t T) (lists_by m t.program T) g.1 g.0)) A h) any
+    (each_weaker (λ T. IsTrue (lists_by m t.program T) × IsTrue (is_answer t T)) (λ T. same_set S T ≡ true → Fits S)
+    (λ T g e. subst Fits (sym (same_text S T (sym e))) (and_from (is_answer t T) (lists_by m t.program T) g.1 g.0)) A h) any
 
 or_else : (a b : Bool) → (a || b) ≡ true → not b ≡ true → a ≡ true
 or_else true b h n = refl
@@ -105,7 +107,11 @@ or_else false b h n = absurd (false≢true (sym (not_true b n) ∙ h))
 
 -- the list of the answers has exactly these
 listed-answers : (t : Task) (S : Atoms) → list_any (same_set S) (answers_of t) ≡ is_answer t S
-listed-answers t S = listed-filter (λ T. all_hold T (wanted t)) (models t.program) S ∙ turned (all_hold S (wanted t)) (is_stable t.program S) (list_any (same_set S) (models t.program)) (same_bools (list_any (same_set S) (models t.program)) (is_stable t.program S) (λ h. (models-are t.program S).0 (contains_from_test (models t.program) S h)) (λ h. test_from_contains (models t.program) S ((models-are t.program S).1 h)))
+listed-answers t S = listed-filter (λ T. all_hold T (wanted t)) (models t.program) S
+    ∙ turned (all_hold S (wanted t)) (is_stable t.program S) (list_any (same_set S) (models t.program))
+    (same_bools (list_any (same_set S) (models t.program)) (is_stable t.program S)
+    (λ h. (models-are t.program S).0 (contains_from_test (models t.program) S h))
+    (λ h. test_from_contains (models t.program) S ((models-are t.program S).1 h)))
   where
     turned : (x y z : Bool) → z ≡ y → (x && z) ≡ (y && x)
     turned true true z e = e
@@ -124,12 +130,15 @@ result-by : (m : Goal) (t : Task) (A : List Atoms) (best : Option Atoms) →
     AllByRecursion (λ S. IsTrue (lists_by m t.program S) × IsTrue (is_answer t S)) A → IfSome best (λ S. IsTrue (optimises m) × IsTrue (is_answer t S)) →
     ((S : Atoms) → is_answer t S ≡ true → is_done t.program (used_up (sought m) t.program (showing m t.program A)) (bound_by m t.program best) S ≡ true) →
     Result m t A best
-result-by goal.Enum t A best delivered kept excused = λ S. same_bools (list_any (same_set S) A) (is_answer t S) (λ h. (and_parts (is_answer t S) true (delivered_all goal.Enum t A S delivered h)).0) (λ h. or-false (list_any (same_set S) A) (excused S h))
+result-by goal.Enum t A best delivered kept excused =
+    λ S. same_bools (list_any (same_set S) A) (is_answer t S) (λ h. (and_parts (is_answer t S) true (delivered_all goal.Enum t A S delivered h)).0)
+    (λ h. or-false (list_any (same_set S) A) (excused S h))
 result-by goal.Opt t A None delivered kept excused = λ S.
     false_from_ne_true (is_answer t S) (λ h. false≢true (sym (ap (λ (K : List Atoms). list_any (same_set S) K || false) (none_listed t A delivered)) ∙ excused S h))
 result-by goal.Opt t A (Some B) delivered kept excused = (
   kept.1,
-  λ T h. not_true (betters (cost t.program T) (cost t.program B)) (sym (ap (λ (K : List Atoms). list_any (same_set T) K || costs t.program (cost t.program B) T) (none_listed t A delivered)) ∙ excused T h),
+  λ T h. not_true (betters (cost t.program T) (cost t.program B))
+      (sym (ap (λ (K : List Atoms). list_any (same_set T) K || costs t.program (cost t.program B) T) (none_listed t A delivered)) ∙ excused T h),
 )
 result-by (goal.Ties c) t A best delivered kept excused = λ S.
     same_bools (list_any (same_set S) A) (is_answer t S && lists_by (goal.Ties c) t.program S) (delivered_all (goal.Ties c) t A S delivered)
@@ -137,7 +146,8 @@ result-by (goal.Ties c) t A best delivered kept excused = λ S.
 result-by (goal.Consequences r n) t A best delivered kept excused =
     showing_by-covered n r t.program A (answers_of t)
     (λ S h. listed-answers t S ∙ (and_parts (is_answer t S) true (delivered_all (goal.Consequences r n) t A S delivered h)).0)
-    (λ S h. used-covered r t.program (showing_by n r t.program A) S (or-false (list_any (same_set S) (used_up (Some r) t.program (showing_by n r t.program A))) (excused S (sym (listed-answers t S) ∙ h))))
+    (λ S h. used-covered r t.program (showing_by n r t.program A) S
+    (or-false (list_any (same_set S) (used_up (Some r) t.program (showing_by n r t.program A))) (excused S (sym (listed-answers t S) ∙ h))))
 
 and-true : (a : Bool) → a ≡ (a && true)
 and-true true = refl
@@ -163,13 +173,16 @@ HasResult-finished t journal query lawful closed =
     subst By (task-run (start t) journal) (HasResult-board b (IsBoard-replay t journal query lawful) closed)
 
 -- ---- what an optimisation doesn't excuse
-none-by : (m : Goal) (t : Task) (A : List Atoms) (S : Atoms) → optimises m ≡ true → AllByRecursion (λ T. IsTrue (lists_by m t.program T) × IsTrue (is_answer t T)) A → is_done t.program (used_up (sought m) t.program (showing m t.program A)) (bound_by m t.program None) S ≡ false
+none-by : (m : Goal) (t : Task) (A : List Atoms) (S : Atoms) → optimises m ≡ true →
+    AllByRecursion (λ T. IsTrue (lists_by m t.program T) × IsTrue (is_answer t T)) A →
+    is_done t.program (used_up (sought m) t.program (showing m t.program A)) (bound_by m t.program None) S ≡ false
 none-by goal.Enum t A S o delivered = absurd (false≢true o)
 none-by (goal.Ties c) t A S o delivered = absurd (false≢true o)
 none-by (goal.Consequences r n) t A S o delivered = absurd (false≢true o)
 none-by goal.Opt t A S o delivered = ap (λ (K : List Atoms). list_any (same_set S) K || false) (none_listed t A delivered)
 
-better-by : (m : Goal) (t : Task) (A : List Atoms) (B S : Atoms) → optimises m ≡ true → AllByRecursion (λ T. IsTrue (lists_by m t.program T) × IsTrue (is_answer t T)) A → betters (cost t.program S) (cost t.program B) ≡ true
+better-by : (m : Goal) (t : Task) (A : List Atoms) (B S : Atoms) → optimises m ≡ true →
+    AllByRecursion (λ T. IsTrue (lists_by m t.program T) × IsTrue (is_answer t T)) A → betters (cost t.program S) (cost t.program B) ≡ true
     → is_done t.program (used_up (sought m) t.program (showing m t.program A)) (bound_by m t.program (Some B)) S ≡ false
 better-by goal.Enum t A B S o delivered h = absurd (false≢true o)
 better-by (goal.Ties c) t A B S o delivered h = absurd (false≢true o)
@@ -180,4 +193,6 @@ pub unexcused-none : (b : Board) (S : Atoms) → IsBoard b → optimises b.task.
 unexcused-none b S is o none = ap (λ (B : Option Atoms). is_done b.task.program (used b) (bound_by b.task.goal b.task.program B) S) none ∙ none-by b.task.goal b.task b.answers S o is.delivered
 
 pub unexcused-better : (b : Board) (B S : Atoms) → IsBoard b → optimises b.task.goal ≡ true → b.best ≡ Some B → betters (cost b.task.program S) (cost b.task.program B) ≡ true → is_excused b S ≡ false
-unexcused-better b B S is o some h = ap (λ (C : Option Atoms). is_done b.task.program (used b) (bound_by b.task.goal b.task.program C) S) some ∙ better-by b.task.goal b.task b.answers B S o is.delivered h
+unexcused-better b B S is o some h =
+    ap (λ (C : Option Atoms). is_done b.task.program (used b) (bound_by b.task.goal b.task.program C) S) some
+    ∙ better-by b.task.goal b.task b.answers B S o is.delivered h

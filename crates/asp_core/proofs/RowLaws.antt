@@ -27,7 +27,9 @@ pub HitsOnly-listed : (p : Program) (excuse : Atoms → Bool) (n : List Literal)
 HitsOnly-listed p excuse n h = record {
   excused = λ S stable hit.
       let at = (models-are p S).1 stable in
-      let here : (not (hits (values p S) n) || excuse S) ≡ true = ap (λ (T : Atoms). not (hits (values p T) n) || excuse T) (sym at.2) ∙ passes_at (λ T. not (hits (values p T) n) || excuse T) (models p) at.0 S h at.1 in
+      let here : (not (hits (values p S) n) || excuse S) ≡ true =
+      ap (λ (T : Atoms). not (hits (values p T) n) || excuse T) (sym at.2)
+      ∙ passes_at (λ T. not (hits (values p T) n) || excuse T) (models p) at.0 S h at.1 in
       then_true (hits (values p S) n) (excuse S) here hit;
 }
 

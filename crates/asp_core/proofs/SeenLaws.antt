@@ -18,7 +18,8 @@ pub in-none : (k : Option Reasoning) → answers_in k [] [] ≡ []
 in-none None = refl
 in-none (Some r) = refl
 
-pub seen-start : (g : Goal) (k : Option Reasoning) (p : Program) (known : Option Knowing) (atoms : Atoms) → known ≡ known_by k p [] → (is_some k ≡ true → atoms ≡ atoms_of p) → IsSeen g k p known [] [] atoms
+pub seen-start : (g : Goal) (k : Option Reasoning) (p : Program) (known : Option Knowing) (atoms : Atoms) → known ≡ known_by k p [] →
+    (is_some k ≡ true → atoms ≡ atoms_of p) → IsSeen g k p known [] [] atoms
 seen-start g None p known atoms is standing = is
 seen-start g (Some r) p known atoms is standing = (is ∙ ap (known_by (Some r) p) (sym (showing-nothing g p)), refl, standing refl)
 
@@ -54,7 +55,8 @@ in-list (Some r) A told e = absurd (some e)
     some e = cc
 
 -- a list is sought where consequences aren't
-pub seen-list : (g : Goal) (k : Option Reasoning) (p : Program) (known : Option Knowing) (A B told : List Atoms) (atoms : Atoms) → k ≡ None → IsSeen g k p known A told atoms → IsSeen g k p known B told atoms
+pub seen-list : (g : Goal) (k : Option Reasoning) (p : Program) (known : Option Knowing) (A B told : List Atoms) (atoms : Atoms) → k ≡ None →
+    IsSeen g k p known A told atoms → IsSeen g k p known B told atoms
 seen-list g k p known A B told atoms none is =
     subst (λ (x : Option Reasoning). IsSeen g x p known B told atoms) (sym none) (subst (λ (x : Option Reasoning). IsSeen g x p known A told atoms) none is)
 
@@ -66,7 +68,8 @@ pub record Seen (g : Goal) (k : Option Reasoning) (p : Program) (x : Knowing) (A
   pub listed : A ≡ []
   pub standing : atoms ≡ atoms_of p
 
-pub seen-some : (g : Goal) (k : Option Reasoning) (p : Program) (known : Option Knowing) (x : Knowing) (A told : List Atoms) (atoms : Atoms) → IsSeen g k p known A told atoms → known ≡ Some x → Seen g k p x A told atoms
+pub seen-some : (g : Goal) (k : Option Reasoning) (p : Program) (known : Option Knowing) (x : Knowing) (A told : List Atoms) (atoms : Atoms) →
+    IsSeen g k p known A told atoms → known ≡ Some x → Seen g k p x A told atoms
 seen-some g None p known x A told atoms is e = absurd (none (sym is ∙ e))
   where
     none : None ≡ Some x → ⊥
@@ -82,8 +85,12 @@ seen-some g (Some r) p known x A told atoms is e = record {
 pub seen-more : (g : Goal) (p : Program) (x y : Knowing) (A told more : List Atoms) (S : Atoms) (atoms : Atoms) → Seen g (sought g) p x A told atoms →
     y ≡ record x { sets = common_sets x.reasoning x.program (with_answer (seed_of g p) x.sets S) } → more ≡ told ++ S ∷ [] → IsSeen g (sought g) p (Some y) A more atoms
 seen-more g p x y A told more S atoms s grown pushed =
-    subst (λ (j : Option Reasoning). IsSeen g j p (Some y) A more atoms) (sym s.seeks)
-    (ap (λ (z : Knowing). Some z) (grown ∙ ap with_one s.known ∙ ap keeps (showing-common g s.reasoning p told S s.seeks) ∙ ap (λ (K : List Atoms). keeps (common_sets s.reasoning p (showing g p K))) (sym pushed)), s.listed, s.standing)
+    subst (λ (j : Option Reasoning). IsSeen g j p (Some y) A more atoms) (sym s.seeks) (
+      ap (λ (z : Knowing). Some z) (grown ∙ ap with_one s.known ∙ ap keeps (showing-common g s.reasoning p told S s.seeks)
+          ∙ ap (λ (K : List Atoms). keeps (common_sets s.reasoning p (showing g p K))) (sym pushed)),
+      s.listed,
+      s.standing,
+    )
   where
     with_one : Knowing → Knowing
     with_one z = record z { sets = common_sets z.reasoning z.program (with_answer (seed_of g p) z.sets S) }
@@ -92,15 +99,18 @@ seen-more g p x y A told more S atoms s grown pushed =
     keeps sets = record { program = p; reasoning = s.reasoning; sets = sets }
 
 -- ---- what is told of them
-pub seen-known : (g : Goal) (k : Option Reasoning) (p : Program) (known : Option Knowing) (A told : List Atoms) (atoms : Atoms) → IsSeen g k p known A told atoms → known ≡ known_by k p (showing g p (answers_in k A told))
+pub seen-known : (g : Goal) (k : Option Reasoning) (p : Program) (known : Option Knowing) (A told : List Atoms) (atoms : Atoms) →
+    IsSeen g k p known A told atoms → known ≡ known_by k p (showing g p (answers_in k A told))
 seen-known g None p known A told atoms is = is
 seen-known g (Some r) p known A told atoms is = is.0
 
-pub seen-listed : (g : Goal) (k : Option Reasoning) (p : Program) (known : Option Knowing) (A told : List Atoms) (atoms : Atoms) → IsSeen g k p known A told atoms → A ≡ listed_by k (answers_in k A told)
+pub seen-listed : (g : Goal) (k : Option Reasoning) (p : Program) (known : Option Knowing) (A told : List Atoms) (atoms : Atoms) →
+    IsSeen g k p known A told atoms → A ≡ listed_by k (answers_in k A told)
 seen-listed g None p known A told atoms is = refl
 seen-listed g (Some r) p known A told atoms is = is.1
 
-pub seen-standing : (g : Goal) (k : Option Reasoning) (p : Program) (known : Option Knowing) (A told : List Atoms) (atoms : Atoms) → IsSeen g k p known A told atoms → IfSome known (λ x. atoms ≡ atoms_of x.program)
+pub seen-standing : (g : Goal) (k : Option Reasoning) (p : Program) (known : Option Knowing) (A told : List Atoms) (atoms : Atoms) →
+    IsSeen g k p known A told atoms → IfSome known (λ x. atoms ≡ atoms_of x.program)
 seen-standing g None p known A told atoms is = subst (λ (o : Option Knowing). IfSome o (λ x. atoms ≡ atoms_of x.program)) (sym is) tt
 seen-standing g (Some r) p known A told atoms is = subst (λ (o : Option Knowing). IfSome o (λ x. atoms ≡ atoms_of x.program)) (sym is.0) is.2
 
@@ -108,6 +118,7 @@ first-common : (r : Reasoning) (p : Program) (K : List Atoms) → slice_get (com
 first-common r p [] = refl
 first-common r p (S ∷ K) = refl
 
-pub seen-common : (g : Goal) (k : Option Reasoning) (p : Program) (known : Option Knowing) (A told : List Atoms) (atoms : Atoms) → IsSeen g k p known A told atoms → option_and_then (λ (x : Knowing). slice_get x.sets 0) known ≡ common_by k p (showing g p (answers_in k A told))
+pub seen-common : (g : Goal) (k : Option Reasoning) (p : Program) (known : Option Knowing) (A told : List Atoms) (atoms : Atoms) →
+    IsSeen g k p known A told atoms → option_and_then (λ (x : Knowing). slice_get x.sets 0) known ≡ common_by k p (showing g p (answers_in k A told))
 seen-common g None p known A told atoms is = ap (option_and_then (λ (x : Knowing). slice_get x.sets 0)) is
 seen-common g (Some r) p known A told atoms is = ap (option_and_then (λ (x : Knowing). slice_get x.sets 0)) is.0 ∙ first-common r p (showing g p told)

@@ -143,7 +143,8 @@ has-filter q [] S = none (q S)
     none false = refl
 has-filter q (T ∷ L) S = here (same_set S T) refl (q T) refl (has-filter q L S)
   where
-    here : (x : Bool) → x ≡ same_set S T → (y : Bool) → y ≡ q T → list_any (same_set S) (filter q L) ≡ (q S && list_any (same_set S) L) → list_any (same_set S) (cond y (T ∷ filter q L) (filter q L)) ≡ (q S && (x || list_any (same_set S) L))
+    here : (x : Bool) → x ≡ same_set S T → (y : Bool) → y ≡ q T → list_any (same_set S) (filter q L) ≡ (q S && list_any (same_set S) L) →
+        list_any (same_set S) (cond y (T ∷ filter q L) (filter q L)) ≡ (q S && (x || list_any (same_set S) L))
     here true e true f rest = ap (λ x. x || list_any (same_set S) (filter q L)) (sym e) ∙ sym (ap (λ x. x && true) (ap q (same_text S T e) ∙ sym f))
     here true e false f rest = rest ∙ ap (λ x. x && list_any (same_set S) L) (ap q (same_text S T e) ∙ sym f) ∙ sym (ap (λ x. x && true) (ap q (same_text S T e) ∙ sym f))
     here false e true f rest = ap (λ x. x || list_any (same_set S) (filter q L)) (sym e) ∙ rest
@@ -183,7 +184,8 @@ and_turn false true = refl
 and_turn false false = refl
 
 pub has-answers_of : (t : Task) (S : Atoms) → list_any (same_set S) (answers_of t) ≡ is_answer t S
-has-answers_of t S = has-filter (λ T. all_hold T (wanted t)) (models t.program) S ∙ ap (λ x. all_hold S (wanted t) && x) (has-models t.program S) ∙ and_turn (all_hold S (wanted t)) (is_stable t.program S)
+has-answers_of t S = has-filter (λ T. all_hold T (wanted t)) (models t.program) S ∙ ap (λ x. all_hold S (wanted t) && x) (has-models t.program S)
+    ∙ and_turn (all_hold S (wanted t)) (is_stable t.program S)
 
 -- sorted and made single, a list with the answers that pass is the list of these answers
 pub sorted-answers : (t : Task) (q : Atoms → Bool) (A : List Atoms) → ((S : Atoms) → list_any (same_set S) A ≡ (is_answer t S && q S)) → sorted_once A ≡ filter q (answers_of t)

@@ -24,7 +24,10 @@ use Rattle.asp_core.proofs.BoardLaws.{IsBoard-happens}
 
 -- from i to j by an event, which may happen at the value seen
 pub IsState-happens : (i j : Inside) (seen : Board) (e : Event) → IsState i → board_of i ≡ seen → Guard seen e → board_of j ≡ happens (board_of i) e →
-    j.program.value ≡ i.program.value → j.prices ≡ i.prices → j.answers.atoms ≡ i.answers.atoms → IfSome j.best (λ x. x.1 ≡ cost j.program.value x.0) → (0 < j.limit → AreDifferent (atoms_of j.program.value) j.different.keys (answers_in (sought j.goal) j.answers.sets j.told.items)) → IsSeen j.goal (sought j.goal) j.program.value j.known j.answers.sets j.told.items j.atoms.items → j.seed ≡ seed_of j.goal j.program.value →
+    j.program.value ≡ i.program.value → j.prices ≡ i.prices → j.answers.atoms ≡ i.answers.atoms →
+    IfSome j.best (λ x. x.1 ≡ cost j.program.value x.0) →
+    (0 < j.limit → AreDifferent (atoms_of j.program.value) j.different.keys (answers_in (sought j.goal) j.answers.sets j.told.items)) →
+    IsSeen j.goal (sought j.goal) j.program.value j.known j.answers.sets j.told.items j.atoms.items → j.seed ≡ seed_of j.goal j.program.value →
     length j.reasons.items + held_count j.tree ≤ vec_capacity j.reasons → IsState j
 IsState-happens i j at e is view guard now same prices among costed sorted seen seeded room =
     let May : Board → Type 0 = λ x. Guard x e in

@@ -34,16 +34,19 @@ pub board-with : (v : Booked) (e : Event) → board (with_events v (e ∷ [])) �
 board-with v e = run-push (start v.task) v.journal e
 
 -- an event that leaves number 0's units alone
-pub ready-with : (mode : Mode) (v w : Booked) (s : Searching) (f : Units) (e : Event) → IsReady mode v s f → Guard (board v) e → out_of (happens (board v) e).out 0 ≡ out_of (board v).out 0 → w ≡ with_events v (e ∷ []) → IsReady mode w s f
+pub ready-with : (mode : Mode) (v w : Booked) (s : Searching) (f : Units) (e : Event) → IsReady mode v s f → Guard (board v) e →
+    out_of (happens (board v) e).out 0 ≡ out_of (board v).out 0 → w ≡ with_events v (e ∷ []) → IsReady mode w s f
 ready-with mode v w s f e is guard out now = subst (λ (x : Booked). IsReady mode x s f) (sym now) (record {
   task = is.task;
   program = is.program;
   mode_is = is.mode_is;
-  work = subst (λ (b : Board). IsAtWork b 0 mode s.known s.bound f) (sym (board-with v e)) (work-on (board v) (happens (board v) e) 0 mode s.known s.bound f is.work (Grows-happens (board v) e guard) out);
+  work = subst (λ (b : Board). IsAtWork b 0 mode s.known s.bound f) (sym (board-with v e))
+      (work-on (board v) (happens (board v) e) 0 mode s.known s.bound f is.work (Grows-happens (board v) e guard) out);
 })
 
 -- ---- the cube of a leaf that is held
-pub leaf-cube : (v : Booked) (leaf : ℕ) (q : List Literal) → QueryStands v.task → IsJournalOf v.task v.journal → status_of (board v).nodes leaf ≡ status.Held 0 → q ≡ cube_of (board v).nodes leaf → IsCube v.task q
+pub leaf-cube : (v : Booked) (leaf : ℕ) (q : List Literal) → QueryStands v.task → IsJournalOf v.task v.journal →
+    status_of (board v).nodes leaf ≡ status.Held 0 → q ≡ cube_of (board v).nodes leaf → IsCube v.task q
 leaf-cube v leaf q run lawful held is =
     subst (IsCube v.task) (sym is) (subst (λ (t : Task). IsCube t (cube_of (board v).nodes leaf)) (board-task v)
     (cube-at (board v).task (board v).nodes leaf (leaf-within (board v).nodes leaf (ap is_leaf held)) (book-board v run lawful).cubes))

@@ -59,7 +59,8 @@ no_more q r (T ∷ L) w = here (r T) (q T) (w T) (no_more q r L w)
     here false true h e = omega arith
     here false false h e = e
 
-fewer : (q r : Atoms → Bool) (L : List Atoms) (S : Atoms) → ((T : Atoms) → r T ≡ true → q T ≡ true) → q S ≡ true → r S ≡ false → list_any (same_set S) L ≡ true → length (filter r L) < length (filter q L)
+fewer : (q r : Atoms → Bool) (L : List Atoms) (S : Atoms) → ((T : Atoms) → r T ≡ true → q T ≡ true) → q S ≡ true → r S ≡ false →
+    list_any (same_set S) L ≡ true → length (filter r L) < length (filter q L)
 fewer q r [] S w passes fails h = absurd (false≢true h)
 fewer q r (T ∷ L) S w passes fails h = here (same_set S T) refl h (r T) (q T) refl refl (w T) (no_more q r L w) (fewer q r L S w passes fails)
   where
@@ -77,7 +78,8 @@ not_turned : (a b : Bool) → (a ≡ true → b ≡ true) → not b ≡ true →
 not_turned true b w h = absurd (false≢true (sym (not_true b h) ∙ w refl))
 not_turned false b w h = refl
 
-fewer-open : (p : Program) (K M : List Atoms) (b c : Option (List ℤ)) (S : Atoms) → IsTrue (is_stable p S) → ((T : Atoms) → is_done p K b T ≡ true → is_done p M c T ≡ true) → is_done p K b S ≡ false → is_done p M c S ≡ true → unfound p M c < unfound p K b
+fewer-open : (p : Program) (K M : List Atoms) (b c : Option (List ℤ)) (S : Atoms) → IsTrue (is_stable p S) →
+    ((T : Atoms) → is_done p K b T ≡ true → is_done p M c T ≡ true) → is_done p K b S ≡ false → is_done p M c S ≡ true → unfound p M c < unfound p K b
 fewer-open p K M b c S stable w fails passes =
     fewer (λ T. not (is_done p K b T)) (λ T. not (is_done p M c T)) (models p) S (λ T. not_turned (is_done p K b T) (is_done p M c T) (w T)) (ap not fails) (ap not passes)
     (test_from_contains (models p) S ((models-are p S).1 stable))
@@ -93,14 +95,16 @@ fewer-among p K M b among = no_more (λ T. not (is_done p K b T)) (λ T. not (is
     ]
 
 -- An answer that is added is done from then on, and so is one whose cost is the bound.
-pub fewer-push : (p : Program) (K : List Atoms) (b : Option (List ℤ)) (S : Atoms) → IsTrue (is_stable p S) → list_any (same_set S) K ≡ false → IsSmaller (cost p S) b → unfound p (K ++ S ∷ []) b < unfound p K b
+pub fewer-push : (p : Program) (K : List Atoms) (b : Option (List ℤ)) (S : Atoms) → IsTrue (is_stable p S) → list_any (same_set S) K ≡ false →
+    IsSmaller (cost p S) b → unfound p (K ++ S ∷ []) b < unfound p K b
 fewer-push p K b S stable new less =
     fewer-open p K (K ++ S ∷ []) b b S stable (done-push p K b S) (not_done p K b S new less)
     (or_left (list_any (same_set S) (K ++ S ∷ [])) (costs_bound p b S)
     (list_any-append (same_set S) K (S ∷ []) ∙ or_right (list_any (same_set S) K) (list_any (same_set S) (S ∷ [])) (or_left (same_set S S) false (same_itself S))))
 
 -- So it is where consequences are sought: the answer is used up from then on, as all is that was.
-pub fewer-told : (p : Program) (r : Reasoning) (K L : List Atoms) (b : Option (List ℤ)) (S : Atoms) → IsTrue (is_stable p S) → list_any (same_set S) (used_up (Some r) p K) ≡ false → IsSmaller (cost p S) b →
+pub fewer-told : (p : Program) (r : Reasoning) (K L : List Atoms) (b : Option (List ℤ)) (S : Atoms) → IsTrue (is_stable p S) →
+    list_any (same_set S) (used_up (Some r) p K) ≡ false → IsSmaller (cost p S) b →
     L ≡ common_sets r p (K ++ S ∷ []) → unfound p (used_up (Some r) p L) b < unfound p (used_up (Some r) p K) b
 fewer-told p r K L b S stable new less is =
     subst (λ (U : List Atoms). unfound p U b < unfound p (used_up (Some r) p K) b) (sym (used-common r p (K ++ S ∷ [])) ∙ ap (used_up (Some r) p) (sym is))
@@ -113,7 +117,8 @@ fewer-told p r K L b S stable new less is =
     more : (T : Atoms) → is_done p (used_up (Some r) p K) b T ≡ true → is_done p (used_up (Some r) p (K ++ S ∷ [])) b T ≡ true
     more T h = done-used (Some r) p K (K ++ S ∷ []) b T (among-more K S) h
 
-pub fewer-lower : (p : Program) (K : List Atoms) (b : Option (List ℤ)) (S : Atoms) → IsTrue (is_stable p S) → list_any (same_set S) K ≡ false → IsSmaller (cost p S) b → unfound p K (Some (cost p S)) < unfound p K b
+pub fewer-lower : (p : Program) (K : List Atoms) (b : Option (List ℤ)) (S : Atoms) → IsTrue (is_stable p S) → list_any (same_set S) K ≡ false →
+    IsSmaller (cost p S) b → unfound p K (Some (cost p S)) < unfound p K b
 fewer-lower p K b S stable new less =
     fewer-open p K K b (Some (cost p S)) S stable (λ T. done-lower p K (cost p S) b T less) (not_done p K b S new less)
     (or_right (list_any (same_set S) K) (costs p (cost p S) S) (ap not (betters_itself (cost p S))))

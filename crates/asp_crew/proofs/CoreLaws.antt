@@ -79,20 +79,23 @@ pub run-seeks : (ask : Ask) (v : Booked) → IsRunFor ask v.task → sought (boa
 run-seeks ask v run = ap (λ (t : Task). sought t.goal) (board-task v ∙ run) ∙ sought-mode ask.mode ask.by_name
 
 -- its assumptions that are blamed are a core
-pub refuted-core : (ask : Ask) (v : Booked) (p : Program) → IsRunFor ask v.task → v.task.program ≡ p → IsJournalOf v.task v.journal → refutes ask.mode (board v) ≡ true → IsCore p p.assumptions (blamed_by p (board v).reasons p.assumptions)
+pub refuted-core : (ask : Ask) (v : Booked) (p : Program) → IsRunFor ask v.task → v.task.program ≡ p → IsJournalOf v.task v.journal →
+    refutes ask.mode (board v) ≡ true → IsCore p p.assumptions (blamed_by p (board v).reasons p.assumptions)
 refuted-core ask v p run same lawful h =
     let s = shows ask.mode (board v) h in
     let none : v.task.query ≡ [] = ap (λ (t : Task). t.query) run in
     let seeks : (board v).task.goal ≡ goal_of ask.mode ask.by_name = ap (λ (t : Task). t.goal) (board-task v) ∙ ap (λ (t : Task). t.goal) run in
     let nothing : HasNothing (board v) = record { plain = subst IsPlain (sym seeks) (plain-goal ask.mode ask.by_name s.plain); answers = s.answers; best = s.best } in
-    let core : IsCore v.task.program (wanted v.task) (blamed_by (board v).task.program (board v).reasons (wanted (board v).task)) = blamed-core v.task v.journal (subst (IsQuery v.task.program) (sym none) tt) lawful s.closed nothing in
+    let core : IsCore v.task.program (wanted v.task) (blamed_by (board v).task.program (board v).reasons (wanted (board v).task)) =
+    blamed-core v.task v.journal (subst (IsQuery v.task.program) (sym none) tt) lawful s.closed nothing in
     let there : IsCore v.task.program (wanted v.task) (blamed_by v.task.program (board v).reasons (wanted v.task)) =
     subst (λ (t : Task). IsCore v.task.program (wanted v.task) (blamed_by t.program (board v).reasons (wanted t))) (board-task v) core in
     let alone : wanted v.task ≡ v.task.program.assumptions = ap (λ (q : List ℤ). v.task.program.assumptions ++ q) none ∙ append-nil v.task.program.assumptions in
     subst (λ (q : Program). IsCore q q.assumptions (blamed_by q (board v).reasons q.assumptions)) same
     (subst (λ (ls : List ℤ). IsCore v.task.program ls (blamed_by v.task.program (board v).reasons ls)) alone there)
 
-pub core-if : (ask : Ask) (v : Booked) (p : Program) (b : Bool) (core : List ℤ) → IsRunFor ask v.task → v.task.program ≡ p → IsJournalOf v.task v.journal → b ≡ refutes ask.mode (board v) → b ≡ true → core ≡ blamed_by p (board v).reasons p.assumptions →
+pub core-if : (ask : Ask) (v : Booked) (p : Program) (b : Bool) (core : List ℤ) → IsRunFor ask v.task → v.task.program ≡ p →
+    IsJournalOf v.task v.journal → b ≡ refutes ask.mode (board v) → b ≡ true → core ≡ blamed_by p (board v).reasons p.assumptions →
     HasCoreIf (refutes ask.mode (board v)) p (Some core)
 core-if ask v p b core run same lawful is shown blamed =
     subst (λ (x : Bool). HasCoreIf x p (Some core)) (sym (sym is ∙ shown))
@@ -147,7 +150,8 @@ pub refuted-told : (mode : Mode) (b : Board) (r : Report) → r.results.mode ≡
 refuted-told mode b r is seeks told =
     let listed : List Atoms = sorted_once (listed_by (reasoning_of mode) b.answers) in
     ap (λ (m : Mode). is_plain m && is_finished r.results.end && (is_nothing r.results.answers && is_none r.results.best)) is
-    ∙ ap (λ (A : List Atoms). is_plain mode && is_finished r.results.end && (is_nothing A && is_none r.results.best)) (told.answers ∙ ap (λ (k : Option Reasoning). sorted_once (listed_by k b.answers)) seeks)
+    ∙ ap (λ (A : List Atoms). is_plain mode && is_finished r.results.end && (is_nothing A && is_none r.results.best))
+    (told.answers ∙ ap (λ (k : Option Reasoning). sorted_once (listed_by k b.answers)) seeks)
     ∙ ap (λ (x : Bool). is_plain mode && is_finished r.results.end && (is_nothing listed && x)) (ap is_none told.best ∙ none-map (with_cost b.task.program) b.best)
     ∙ swap (is_plain mode) (is_finished r.results.end) (is_nothing listed) (is_none b.best) (is_nothing b.answers) (plain-listed mode b.answers)
     ∙ ap (λ (x : Bool). is_plain mode && x && (is_nothing b.answers && is_none b.best)) (ap is_finished told.end ∙ finished-by (is_enough b) (all_closed b.nodes))
@@ -179,7 +183,8 @@ beside-core p ask units r o alone is = record {
   known = is.known;
   untold = is.untold;
   least = is.least;
-  played = subst (λ (x : Option (List Event)). IsPlayedBy x p ask units (record r { core = o })) (sym alone) (played_beside (task_of p ask units) r o (subst (λ (x : Option (List Event)). IsPlayedBy x p ask units r) alone is.played));
+  played = subst (λ (x : Option (List Event)). IsPlayedBy x p ask units (record r { core = o })) (sym alone)
+      (played_beside (task_of p ask units) r o (subst (λ (x : Option (List Event)). IsPlayedBy x p ask units r) alone is.played));
 }
 
 -- a report of two searches has none, since the first found a best
@@ -196,5 +201,6 @@ joined-core p first ties best found =
     subst (λ (x : Bool). HasCoreIf x p None) (sym none) tt
 
 -- the report of a board with the core that was told of it
-pub told-core : (p : Program) (mode : Mode) (b : Board) (r s : Report) (o : Option (List ℤ)) → s ≡ record r { core = o } → r.results.mode ≡ mode → sought b.task.goal ≡ reasoning_of mode → IsToldBy b r → HasCoreIf (refutes mode b) p o → HasCore p s
+pub told-core : (p : Program) (mode : Mode) (b : Board) (r s : Report) (o : Option (List ℤ)) → s ≡ record r { core = o } → r.results.mode ≡ mode →
+    sought b.task.goal ≡ reasoning_of mode → IsToldBy b r → HasCoreIf (refutes mode b) p o → HasCore p s
 told-core p mode b r s o same is seeks told has = subst (HasCore p) (sym same) (subst (λ (x : Bool). HasCoreIf x p o) (sym (refuted-told mode b r is seeks told)) has)

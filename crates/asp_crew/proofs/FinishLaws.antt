@@ -39,7 +39,8 @@ held-leaf : (nodes : List Node) (leaf : ℕ) → status_of nodes leaf ≡ status
 held-leaf nodes leaf held = ap is_leaf held
 
 -- from v to w the path was searched, and then the leaf was closed
-leaves-closed : (mode : Mode) (v w y : Booked) (leaf : ℕ) (n : Nogood) (s t : Searching) (g : Units) → Ends mode v w s t g (left.Closed n) → is_enough (board w) ≡ false → Guard (board w) (event.Close 0 leaf n.lits) → y ≡ with_events w (event.Close 0 leaf n.lits ∷ [])
+leaves-closed : (mode : Mode) (v w y : Booked) (leaf : ℕ) (n : Nogood) (s t : Searching) (g : Units) → Ends mode v w s t g (left.Closed n) →
+    is_enough (board w) ≡ false → Guard (board w) (event.Close 0 leaf n.lits) → y ≡ with_events w (event.Close 0 leaf n.lits ∷ [])
     → LeavesLeaf mode v y leaf t g None
 leaves-closed mode v w y leaf n s t g ends more guard now =
     let b : board y ≡ happens (board w) (event.Close 0 leaf n.lits) = ap board now ∙ board-with w (event.Close 0 leaf n.lits) in
@@ -56,17 +57,24 @@ leaves-closed mode v w y leaf n s t g ends more guard now =
     }
 
 -- the path is the leaf's still, and has the nogood's literals
-pub closing-within : (mode : Mode) (v w : Booked) (leaf : ℕ) (q : List Literal) (n : Nogood) (s t : Searching) (g : Units) → Ends mode v w s t g (left.Closed n) → q ≡ cube_of (board v).nodes leaf → s.cube ≡ Some q → IsTrue (has_all (cube_of (board w).nodes leaf) n.lits)
+pub closing-within : (mode : Mode) (v w : Booked) (leaf : ℕ) (q : List Literal) (n : Nogood) (s t : Searching) (g : Units) →
+    Ends mode v w s t g (left.Closed n) → q ≡ cube_of (board v).nodes leaf → s.cube ≡ Some q → IsTrue (has_all (cube_of (board w).nodes leaf) n.lits)
 closing-within mode v w leaf q n s t g ends is entered =
     ap (λ (xs : List Node). has_all (cube_of xs leaf) n.lits) ends.only.nodes ∙ (ap (λ (k : List Literal). has_all k n.lits) (sym is) ∙ (ends.over.1 q entered).0)
 
-pub closes : (mode : Mode) (v w y : Booked) (leaf : ℕ) (q : List Literal) (n : Nogood) (s t : Searching) (g : Units) → Ends mode v w s t g (left.Closed n) → status_of (board v).nodes leaf ≡ status.Held 0 → q ≡ cube_of (board v).nodes leaf → s.cube ≡ Some q
+pub closes : (mode : Mode) (v w y : Booked) (leaf : ℕ) (q : List Literal) (n : Nogood) (s t : Searching) (g : Units) →
+    Ends mode v w s t g (left.Closed n) → status_of (board v).nodes leaf ≡ status.Held 0 → q ≡ cube_of (board v).nodes leaf → s.cube ≡ Some q
     → y ≡ with_events w (event.Close 0 leaf n.lits ∷ []) → LeavesLeaf mode v y leaf t g None
 closes mode v w y leaf q n s t g ends held is entered now =
-    leaves-closed mode v w y leaf n s t g ends ends.over.0 (ap (λ (xs : List Node). status_of xs leaf) ends.only.nodes ∙ held, closing-within mode v w leaf q n s t g ends is entered, (ends.over.1 q entered).1) now
+    leaves-closed mode v w y leaf n s t g ends ends.over.0 (
+      ap (λ (xs : List Node). status_of xs leaf) ends.only.nodes ∙ held,
+      closing-within mode v w leaf q n s t g ends is entered,
+      (ends.over.1 q entered).1,
+    ) now
 
 -- or it was opened again
-module _ (mode : Mode) (v w y : Booked) (leaf : ℕ) (q : List Literal) (s t : Searching) (g : Units) (held : status_of (board v).nodes leaf ≡ status.Held 0) (cube : q ≡ cube_of (board v).nodes leaf) (entered : s.cube ≡ Some q)
+module _ (mode : Mode) (v w y : Booked) (leaf : ℕ) (q : List Literal) (s t : Searching) (g : Units)
+    (held : status_of (board v).nodes leaf ≡ status.Held 0) (cube : q ≡ cube_of (board v).nodes leaf) (entered : s.cube ≡ Some q)
     (now : y ≡ with_events w (event.Release 0 leaf ∷ [])) where
   released : board y ≡ happens (board w) (event.Release 0 leaf)
   released = ap board now ∙ board-with w (event.Release 0 leaf)
@@ -106,8 +114,16 @@ module _ (mode : Mode) (v w y : Booked) (leaf : ℕ) (q : List Literal) (s t : S
           ends.over.1,
           record {
             unclosed = ap (λ (n : List Node). status_of n leaf) opened ∙ status-set (board w).nodes leaf status.Open held_now;
-            cube = is_q ∙ cube ∙ ap (λ (n : List Node). cube_of n leaf) (sym ends.only.nodes) ∙ sym (cube-set (board w).nodes leaf status.Open held_now) ∙ ap (λ (n : List Node). cube_of n leaf) (sym opened);
-            met = subst (λ (c : Board). IsMet c x) (sym released) (record { program = ends.over.3.program; reasoning = ends.over.3.reasoning; known = ends.over.3.known; bound = ends.over.3.bound; conflict = ends.over.3.conflict });
+            cube = is_q ∙ cube ∙ ap (λ (n : List Node). cube_of n leaf) (sym ends.only.nodes)
+                ∙ sym (cube-set (board w).nodes leaf status.Open held_now) ∙ ap (λ (n : List Node). cube_of n leaf) (sym opened);
+            met = subst (λ (c : Board). IsMet c x) (sym released)
+                (record {
+                  program = ends.over.3.program;
+                  reasoning = ends.over.3.reasoning;
+                  known = ends.over.3.known;
+                  bound = ends.over.3.bound;
+                  conflict = ends.over.3.conflict;
+                });
           },
         );
       }
@@ -134,7 +150,8 @@ pub record IsTaken (mode : Mode) (v w : Booked) (leaf : ℕ) (s : Searching) (f 
   pub out : (board w).out ≡ (board v).out
   pub pool : (board w).pool ≡ (board v).pool
 
-taken-is : (mode : Mode) (v w : Booked) (leaf : ℕ) (s : Searching) (f : Units) → IsReady mode v s f → IsAlone (board v) → status_of (board v).nodes leaf ≡ status.Open → w ≡ with_events v (event.Take 0 leaf ∷ []) → IsTaken mode v w leaf s f
+taken-is : (mode : Mode) (v w : Booked) (leaf : ℕ) (s : Searching) (f : Units) → IsReady mode v s f → IsAlone (board v) →
+    status_of (board v).nodes leaf ≡ status.Open → w ≡ with_events v (event.Take 0 leaf ∷ []) → IsTaken mode v w leaf s f
 taken-is mode v w leaf s f is alone was now =
     let e : Event = event.Take 0 leaf in
     let b : board w ≡ happens (board v) e = ap board now ∙ board-with v e in
@@ -148,7 +165,8 @@ taken-is mode v w leaf s f is alone was now =
       pool = ap (λ (c : Board). c.pool) b;
     }
 
-pub taken-by : (mode : Mode) (v w : Booked) (leaf : ℕ) (s : Searching) (f : Units) (r : Option ℕ) → IsReady mode v s f → IsAlone (board v) → r ≡ slice_get (open_from 0 (board v).nodes) 0 → w ≡ with_events v (taken 0 r) → r ≡ Some leaf → IsTaken mode v w leaf s f
+pub taken-by : (mode : Mode) (v w : Booked) (leaf : ℕ) (s : Searching) (f : Units) (r : Option ℕ) → IsReady mode v s f → IsAlone (board v) →
+    r ≡ slice_get (open_from 0 (board v).nodes) 0 → w ≡ with_events v (taken 0 r) → r ≡ Some leaf → IsTaken mode v w leaf s f
 taken-by mode v w leaf s f r is alone first now some =
     taken-is mode v w leaf s f is alone (taken-open (board v).nodes leaf (sym first ∙ some)) (now ∙ ap (λ (o : Option ℕ). with_events v (taken 0 o)) some)
 
@@ -156,7 +174,8 @@ pub held-taken : (mode : Mode) (v w : Booked) (leaf : ℕ) (s : Searching) (f : 
 held-taken mode v w leaf s f is = ap (λ (n : List Node). status_of n leaf) is.nodes ∙ status-set (board v).nodes leaf (status.Held 0) (ap is_leaf is.was)
 
 -- after the leaf that was taken
-module _ (mode : Mode) (v w y : Booked) (leaf : ℕ) (s t : Searching) (f g : Units) (o : Option Clash) (new : Status) (is : IsTaken mode v w leaf s f) (nodes : (board y).nodes ≡ with_status (board w).nodes leaf new) (free : is_held new ≡ false) where
+module _ (mode : Mode) (v w y : Booked) (leaf : ℕ) (s t : Searching) (f g : Units) (o : Option Clash) (new : Status) (is : IsTaken mode v w leaf s f)
+    (nodes : (board y).nodes ≡ with_status (board w).nodes leaf new) (free : is_held new ≡ false) where
   held : status_of (board w).nodes leaf ≡ status.Held 0
   held = held-taken mode v w leaf s f is
 
@@ -191,7 +210,8 @@ not-held true = refl
 not-held false = refl
 
 -- the next leaf
-pub between-next : (mode : Mode) (u v w y : Booked) (leaf : ℕ) (s t : Searching) (f g : Units) → IsBetween mode u v s f → IsTaken mode v w leaf s f → LeavesLeaf mode w y leaf t g None → IsBetween mode u y t g
+pub between-next : (mode : Mode) (u v w y : Booked) (leaf : ℕ) (s t : Searching) (f g : Units) → IsBetween mode u v s f → IsTaken mode v w leaf s f →
+    LeavesLeaf mode w y leaf t g None → IsBetween mode u y t g
 between-next mode u v w y leaf s t f g is taken left = record {
   ready = left.ready;
   alone =
@@ -206,7 +226,8 @@ between-next mode u v w y leaf s t f g is taken left = record {
 abbrev pub takes_left : Board → ℕ
 takes_left b = cond (is_enough b) 0 (length (open_from 0 b.nodes) + 1)
 
-pub fewer-next : (mode : Mode) (v w y : Booked) (leaf : ℕ) (s t : Searching) (f g : Units) → is_enough (board v) ≡ false → IsTaken mode v w leaf s f → LeavesLeaf mode w y leaf t g None → takes_left (board y) < takes_left (board v)
+pub fewer-next : (mode : Mode) (v w y : Booked) (leaf : ℕ) (s t : Searching) (f g : Units) → is_enough (board v) ≡ false → IsTaken mode v w leaf s f →
+    LeavesLeaf mode w y leaf t g None → takes_left (board y) < takes_left (board v)
 fewer-next mode v w y leaf s t f g more taken left =
     subst (λ x. takes_left (board y) < cond x 0 (length (open_from 0 (board v).nodes) + 1)) (sym more) (here (is_enough (board y)) refl)
   where
@@ -218,7 +239,8 @@ fewer-next mode v w y leaf s t f g more taken left =
         omega (arith, less)
 
 -- no unit was left
-pub all-stopped : (mode : Mode) (u v w y : Booked) (leaf : ℕ) (s t : Searching) (f g : Units) (x : Clash) → IsBetween mode u v s f → IsTaken mode v w leaf s f → LeavesLeaf mode w y leaf t g (Some x) → LeavesAll mode u y t g (Some x)
+pub all-stopped : (mode : Mode) (u v w y : Booked) (leaf : ℕ) (s t : Searching) (f g : Units) (x : Clash) → IsBetween mode u v s f →
+    IsTaken mode v w leaf s f → LeavesLeaf mode w y leaf t g (Some x) → LeavesAll mode u y t g (Some x)
 all-stopped mode u v w y leaf s t f g x is taken left = record {
   ready = left.ready;
   alone = alone-after (board v) (board y) is.alone (free-after mode v w y leaf s t f g (Some x) status.Open taken left.nodes refl is.alone.free) (left.out ∙ taken.out);
@@ -278,10 +300,12 @@ leased-works mode bound v w f may is units =
       record { program = ap (λ (t : Task). t.program) (board-task v ∙ sym now); reasoned = λ e. absurd (false≢true e); known = omega arith; least = tt },
       (let z : min (2 ^ 64 - 1) (board v).pool + 0 ≡ min (2 ^ 64 - 1) (board v).pool = omega arith in z) ∙ sym is.units,
     ) in
-    subst (λ (u : Units). IsAtWork (board w) 0 mode [] bound u) (sym units) (sought-begins (board w) 0 mode bound (all_of (board v)) (subst (λ (t : Task). MayBegin mode bound t.goal) (sym now) may) back)
+    subst (λ (u : Units). IsAtWork (board w) 0 mode [] bound u) (sym units)
+    (sought-begins (board w) 0 mode bound (all_of (board v)) (subst (λ (t : Task). MayBegin mode bound t.goal) (sym now) may) back)
 
 -- the search begins with them
-pub ready-begins : (mode : Mode) (bound : Option (List ℤ)) (w : Booked) (s : Searching) (f : Units) → QueryStands w.task → IsAtWork (board w) 0 mode [] bound f → s.program ≡ w.task.program → s.mode ≡ mode → s.known ≡ [] → s.bound ≡ bound → IsReady mode w s f
+pub ready-begins : (mode : Mode) (bound : Option (List ℤ)) (w : Booked) (s : Searching) (f : Units) → QueryStands w.task →
+    IsAtWork (board w) 0 mode [] bound f → s.program ≡ w.task.program → s.mode ≡ mode → s.known ≡ [] → s.bound ≡ bound → IsReady mode w s f
 ready-begins mode bound w s f run work program mode_is known under = record {
   task = run;
   program = program;
@@ -372,7 +396,8 @@ zero-pool : (b : Board) (o : Option Clash) → b.pool ≡ 0 → IfSome o (λ x. 
 zero-pool b None e = tt
 zero-pool b (Some x) e = e
 
-pub finished : (mode : Mode) (v w y : Booked) (t : Searching) (g : Units) (o : Option Clash) → LeavesAll mode v w t g o → (board v).pool ≡ 0 → y ≡ with_events w (given_back 0 g) → IsWorkedOff (board y) o
+pub finished : (mode : Mode) (v w y : Booked) (t : Searching) (g : Units) (o : Option Clash) → LeavesAll mode v w t g o → (board v).pool ≡ 0 →
+    y ≡ with_events w (given_back 0 g) → IsWorkedOff (board y) o
 finished mode v w y t g o left none now = here (eqb (g.left + g.burnt) 0) now
   where
     here : (x : Bool) → y ≡ with_events w (cond x [] (event.Back 0 g.left g.burnt ∷ [])) → IsWorkedOff (board y) o

@@ -64,28 +64,34 @@ module _ (mode : Mode) (w : Booked) (t u : Searching) (g : Units) (k : Knowing) 
   among : (k.sets ≡ [] → ⊥) → AreAmong (used t) (used_up (reasoning_of t.mode) t.program k.sets)
   among some =
       subst (λ (q : Option Reasoning). AreAmong (used_up q t.program t.known) (used_up q t.program k.sets)) adopts-may.reasoning
-      (subst (λ (p : Program). AreAmong (used_up (Some k.reasoning) p t.known) (used_up (Some k.reasoning) p k.sets)) adopts-may.program (used-less k.reasoning k.program t.known k.sets adopts-may.all some))
+      (subst (λ (p : Program). AreAmong (used_up (Some k.reasoning) p t.known) (used_up (Some k.reasoning) p k.sets)) adopts-may.program
+      (used-less k.reasoning k.program t.known k.sets adopts-may.all some))
 
   adopts-left : (k.sets ≡ [] → ⊥) → work_left u g ≤ work_left t g
   adopts-left some =
       subst (λ (x : Searching). work_left x g ≤ work_left t g) (sym adopts.same)
-      (work-fewer g.left (length (models t.program)) (unfound t.program (used t) t.bound) t.learnt (var_count t.program + 1) (length t.entries) (unfound t.program (used_up (reasoning_of t.mode) t.program k.sets) t.bound)
+      (work-fewer g.left (length (models t.program)) (unfound t.program (used t) t.bound) t.learnt (var_count t.program + 1) (length t.entries)
+      (unfound t.program (used_up (reasoning_of t.mode) t.program k.sets) t.bound)
       (fewer-among t.program (used t) (used_up (reasoning_of t.mode) t.program k.sets) t.bound (among some)))
 
   adopts-all : ShowsAll (Some k) u
   adopts-all =
       subst (λ (x : Searching). ShowsAll (Some k) x) (sym adopts.same)
       (subst (λ (q : Option Reasoning). is_fewer (count_unshown k.reasoning k.program k.sets) (unshown_by q t.program k.sets) ≡ false) adopts-may.reasoning
-      (subst (λ (p : Program). is_fewer (count_unshown k.reasoning k.program k.sets) (count_unshown k.reasoning p k.sets) ≡ false) adopts-may.program (fewer-itself (count_unshown k.reasoning k.program k.sets))))
+      (subst (λ (p : Program). is_fewer (count_unshown k.reasoning k.program k.sets) (count_unshown k.reasoning p k.sets) ≡ false) adopts-may.program
+      (fewer-itself (count_unshown k.reasoning k.program k.sets))))
 
 -- An answer was recorded, and after the first what was delivered taken over.
-pub taken : (mode : Mode) (v w : Booked) (s t u : Searching) (f g : Units) (knew : Option ℕ) → IsAnswered mode v w s t f g → knew ≡ left_to_show s → TakesFirst knew (known_of (board w)) t u → Goes mode v w s u f g Open
+pub taken : (mode : Mode) (v w : Booked) (s t u : Searching) (f g : Units) (knew : Option ℕ) → IsAnswered mode v w s t f g → knew ≡ left_to_show s →
+    TakesFirst knew (known_of (board w)) t u → Goes mode v w s u f g Open
 taken mode v w s t u f g knew a knows takes = first knew knows takes
   where
     same : (left_to_show s ≡ None → ShowsAll (known_of (board w)) t) → u ≡ t → Goes mode v w s u f g Open
     same shown e = subst (λ (x : Searching). Goes mode v w s x f g Open) (sym e) (record { underway = a.underway; only = a.only; cube = a.cube; course = a.left; shown = λ none. inr (shown none) })
 
-    cases : (k : Knowing) → known_of (board w) ≡ Some k → (more : Bool) → is_fewer (count_unshown k.reasoning k.program k.sets) (left_to_show t) ≡ more → MatchBool more (Adopts t u k.sets) (u ≡ t) → Goes mode v w s u f g Open
+    cases : (k : Knowing) → known_of (board w) ≡ Some k → (more : Bool) →
+        is_fewer (count_unshown k.reasoning k.program k.sets) (left_to_show t) ≡ more → MatchBool more (Adopts t u k.sets) (u ≡ t) →
+        Goes mode v w s u f g Open
     cases k e false q h = same (λ none. subst (λ (o : Option Knowing). ShowsAll o t) (sym e) q) h
     cases k e true q h = record {
       underway = adopts-underway mode w t u g k a.underway e h;

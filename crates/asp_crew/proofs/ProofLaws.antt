@@ -48,7 +48,8 @@ with_it p ask units r o alone is = record {
   known = is.known;
   untold = is.untold;
   least = is.least;
-  played = subst (λ (x : Option (List Event)). IsPlayedBy x p ask units (record r { proof = o })) (sym alone) (played_with (task_of p ask units) r o (subst (λ (x : Option (List Event)). IsPlayedBy x p ask units r) alone is.played));
+  played = subst (λ (x : Option (List Event)). IsPlayedBy x p ask units (record r { proof = o })) (sym alone)
+      (played_with (task_of p ask units) r o (subst (λ (x : Option (List Event)). IsPlayedBy x p ask units r) alone is.played));
 }
 
 pub report_with : (p : Program) (ask : Ask) (units : ℕ) (r s : Report) → s ≡ record r { proof = s.proof } → r.second ≡ None → IsReport p ask units r → IsReport p ask units s

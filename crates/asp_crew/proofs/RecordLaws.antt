@@ -44,19 +44,28 @@ pub record Recorded (mode : Mode) (v w : Booked) (S : Atoms) : Type 0 where
   pub only : OnlyRecords v w
   pub recorded : IsRecorded mode (board v) (board w) S
 
-only-by : (v w : Booked) (e : Event) → maker e ≡ 0 → w ≡ with_events v (e ∷ []) → (happens (board v) e).nodes ≡ (board v).nodes → (happens (board v) e).out ≡ (board v).out → (happens (board v) e).pool ≡ (board v).pool → OnlyRecords v w
+only-by : (v w : Booked) (e : Event) → maker e ≡ 0 → w ≡ with_events v (e ∷ []) → (happens (board v) e).nodes ≡ (board v).nodes →
+    (happens (board v) e).out ≡ (board v).out → (happens (board v) e).pool ≡ (board v).pool → OnlyRecords v w
 only-by v w e main now nodes out pool =
     let b : board w ≡ happens (board v) e = ap board now ∙ board-with v e in
-    record { task = ap (λ (z : Booked). z.task) now; adds = adds-events v w (e ∷ []) now (main, tt); nodes = ap (λ (c : Board). c.nodes) b ∙ nodes; out = ap (λ (c : Board). c.out) b ∙ out; pool = ap (λ (c : Board). c.pool) b ∙ pool }
+    record {
+      task = ap (λ (z : Booked). z.task) now;
+      adds = adds-events v w (e ∷ []) now (main, tt);
+      nodes = ap (λ (c : Board). c.nodes) b ∙ nodes;
+      out = ap (λ (c : Board). c.out) b ∙ out;
+      pool = ap (λ (c : Board). c.pool) b ∙ pool;
+    }
 
-recorded-delivered : (v w : Booked) (S : Atoms) (r : Bool) → MayRecord Enum v.task S → IsTrue (is_answer v.task S) → is_enough (board v) ≡ false → r ≡ not (is_enough (board v)) → w ≡ with_events v (delivered 0 S r) → Recorded Enum v w S
+recorded-delivered : (v w : Booked) (S : Atoms) (r : Bool) → MayRecord Enum v.task S → IsTrue (is_answer v.task S) → is_enough (board v) ≡ false →
+    r ≡ not (is_enough (board v)) → w ≡ with_events v (delivered 0 S r) → Recorded Enum v w S
 recorded-delivered v w S true run answer more e now = record {
   only = only-by v w (event.Deliver 0 S) refl now refl refl refl;
   recorded = ((listed-now v S run, answer-now v S answer, more), ap board now ∙ board-with v (event.Deliver 0 S));
 }
 recorded-delivered v w S false run answer more e now = absurd (false≢true (e ∙ ap not more))
 
-recorded-told : (v w : Booked) (k : Reasoning) (S : Atoms) (r : Bool) → MayRecord (Consequences k) v.task S → IsTrue (is_answer v.task S) → is_enough (board v) ≡ false → r ≡ not (is_enough (board v)) → w ≡ with_events v (delivered 0 S r) →
+recorded-told : (v w : Booked) (k : Reasoning) (S : Atoms) (r : Bool) → MayRecord (Consequences k) v.task S → IsTrue (is_answer v.task S) →
+    is_enough (board v) ≡ false → r ≡ not (is_enough (board v)) → w ≡ with_events v (delivered 0 S r) →
     Recorded (Consequences k) v w S
 recorded-told v w k S true run answer more e now = record {
   only = only-by v w (event.Deliver 0 S) refl now refl refl refl;
@@ -64,7 +73,8 @@ recorded-told v w k S true run answer more e now = record {
 }
 recorded-told v w k S false run answer more e now = absurd (false≢true (e ∙ ap not more))
 
-pub recorded-by : (mode : Mode) (v w : Booked) (S : Atoms) (r : Bool) → Delivers mode → MayRecord mode v.task S → IsTrue (is_answer v.task S) → is_enough (board v) ≡ false → r ≡ not (is_enough (board v)) → w ≡ with_events v (delivered 0 S r) → Recorded mode v w S
+pub recorded-by : (mode : Mode) (v w : Booked) (S : Atoms) (r : Bool) → Delivers mode → MayRecord mode v.task S → IsTrue (is_answer v.task S) →
+    is_enough (board v) ≡ false → r ≡ not (is_enough (board v)) → w ≡ with_events v (delivered 0 S r) → Recorded mode v w S
 recorded-by mode v w S r (inl e) run answer more enough now =
     subst (λ (m : Mode). Recorded m v w S) (sym e) (recorded-delivered v w S r (subst (λ (m : Mode). MayRecord m v.task S) e run) answer more enough now)
 recorded-by mode v w S r (inr e) run answer more enough now =
@@ -78,12 +88,20 @@ unbettered b S c (Some B) e h no_better = record {
   dearer = subst (λ (d : List ℤ). betters (cost b.task.program S) d ≡ false) (let f : c ≡ cost b.task.program B = cc in f) no_better;
 }
 
-pub recorded-improved : (v w : Booked) (S : Atoms) (r : Option (List ℤ)) → MayRecord Opt v.task S → IsTrue (is_answer v.task S) → Improves (board v) S r → w ≡ with_events v (improved 0 S r) → Recorded Opt v w S
+pub recorded-improved : (v w : Booked) (S : Atoms) (r : Option (List ℤ)) → MayRecord Opt v.task S → IsTrue (is_answer v.task S) →
+    Improves (board v) S r → w ≡ with_events v (improved 0 S r) → Recorded Opt v w S
 recorded-improved v w S None run answer is now = record {
   only = only-by v w (event.Improve 0 S) refl now refl refl refl;
   recorded = inl ((optimised-now v S run, answer-now v S answer, is.better refl), ap board now ∙ board-with v (event.Improve 0 S));
 }
 recorded-improved v w S (Some c) run answer is now = record {
-  only = record { task = ap (λ (z : Booked). z.task) now; adds = adds-none v w now; nodes = ap (λ (z : Booked). (board z).nodes) now; out = ap (λ (z : Booked). (board z).out) now; pool = ap (λ (z : Booked). (board z).pool) now };
+  only = record {
+    task = ap (λ (z : Booked). z.task) now;
+    adds = adds-none v w now;
+    nodes = ap (λ (z : Booked). (board z).nodes) now;
+    out =
+        ap (λ (z : Booked). (board z).out) now;
+    pool = ap (λ (z : Booked). (board z).pool) now;
+  };
   recorded = inr (ap board now, unbettered (board v) S c (board v).best refl is.best.0 is.best.1);
 }

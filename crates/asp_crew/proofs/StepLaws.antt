@@ -60,7 +60,8 @@ ready-same mode v s t f g is same at = record {
   work = subst (λ (k : List Atoms). IsAtWork (board v) 0 mode k t.bound g) (sym same.known) (subst (λ (b : Option (List ℤ)). IsAtWork (board v) 0 mode s.known b g) (sym same.bound) at);
 }
 
-underway-same : (mode : Mode) (v : Booked) (s t : Searching) (f g : Units) → IsUnderway mode v s f → HasSameTask s t → t.learnt < 2 ^ 64 → IsAtWork (board v) 0 mode s.known s.bound g → IsUnderway mode v t g
+underway-same : (mode : Mode) (v : Booked) (s t : Searching) (f g : Units) → IsUnderway mode v s f → HasSameTask s t → t.learnt < 2 ^ 64 →
+    IsAtWork (board v) 0 mode s.known s.bound g → IsUnderway mode v t g
 underway-same mode v s t f g is same learnt at = record {
   ready = ready-same mode v s t f g is.ready same at;
   entered = subst (IsEntered v.task) (sym same.cube) is.entered;
@@ -71,14 +72,19 @@ unchanged : (v : Booked) → OnlyRecords v v
 unchanged v = record { task = refl; adds = adds-self v; nodes = refl; out = refl; pool = refl }
 
 -- the work that is left, by what the search was before
-left-same : (s t : Searching) (g : Units) → HasSameTask s t → work_left t g ≡ work g.left (length (models s.program)) (unfound s.program (used s) s.bound) t.learnt (var_count s.program + 1) (length t.entries)
+left-same : (s t : Searching) (g : Units) → HasSameTask s t →
+    work_left t g ≡ work g.left (length (models s.program)) (unfound s.program (used s) s.bound) t.learnt (var_count s.program + 1) (length t.entries)
 left-same s t g same =
     ap (λ (p : Program). work g.left (length (models p)) (unfound p (used_up (reasoning_of t.mode) p t.known) t.bound) t.learnt (var_count p + 1) (length t.entries)) same.program
-    ∙ ap (λ (m : Mode). work g.left (length (models s.program)) (unfound s.program (used_up (reasoning_of m) s.program t.known) t.bound) t.learnt (var_count s.program + 1) (length t.entries)) same.mode
-    ∙ ap (λ (k : List Atoms). work g.left (length (models s.program)) (unfound s.program (used_up (reasoning_of s.mode) s.program k) t.bound) t.learnt (var_count s.program + 1) (length t.entries)) same.known
+    ∙ ap (λ (m : Mode). work g.left (length (models s.program)) (unfound s.program (used_up (reasoning_of m) s.program t.known) t.bound) t.learnt
+    (var_count s.program + 1) (length t.entries)) same.mode
+    ∙ ap (λ (k : List Atoms). work g.left (length (models s.program)) (unfound s.program (used_up (reasoning_of s.mode) s.program k) t.bound) t.learnt
+    (var_count s.program + 1) (length t.entries)) same.known
     ∙ ap (λ (b : Option (List ℤ)). work g.left (length (models s.program)) (unfound s.program (used s) b) t.learnt (var_count s.program + 1) (length t.entries)) same.bound
 
-less-same : (s t : Searching) (g : Units) (n : ℕ) → HasSameTask s t → work g.left (length (models s.program)) (unfound s.program (used s) s.bound) t.learnt (var_count s.program + 1) (length t.entries) < n → work_left t g < n
+less-same : (s t : Searching) (g : Units) (n : ℕ) → HasSameTask s t →
+    work g.left (length (models s.program)) (unfound s.program (used s) s.bound) t.learnt (var_count s.program + 1) (length t.entries) < n →
+    work_left t g < n
 less-same s t g n same less = subst (λ k. k < n) (sym (left-same s t g same)) less
 
 unfound-le : (p : Program) (known : List Atoms) (bound : Option (List ℤ)) → unfound p known bound ≤ length (models p)
@@ -95,7 +101,8 @@ entered-by t (Some q) h = (q, refl, h)
 at : (gives : Nogood → Type 0) (silent : List (Option Bool) → Type 0) (s t : Searching) (f g : Units) (r v : Step) → r ≡ v → IsStep gives silent s t f g r → IsStep gives silent s t f g v
 at gives silent s t f g r v e h = subst (λ (x : Step). IsStep gives silent s t f g x) e h
 
-module _ (gives : Nogood → Type 0) (silent : List (Option Bool) → Type 0) (mode : Mode) (v : Booked) (s t : Searching) (f g : Units) (is : IsUnderway mode v s f) (r : Step) (h : IsStep gives silent s t f g r) where
+module _ (gives : Nogood → Type 0) (silent : List (Option Bool) → Type 0) (mode : Mode) (v : Booked) (s t : Searching) (f g : Units)
+    (is : IsUnderway mode v s f) (r : Step) (h : IsStep gives silent s t f g r) where
   path : (q : List Literal) × (s.cube ≡ Some q) × IsCube v.task q
   path = entered-by v.task s.cube is.entered
 
@@ -132,12 +139,15 @@ module _ (gives : Nogood → Type 0) (silent : List (Option Bool) → Type 0) (m
       let x : Clash = d.burns.clash in
       let small : t.learnt < 2 ^ 64 = omega (arith, d.learnt) in
       subst (λ (u : Units). Goes mode v v s t f u Open) (sym d.burns.paid) (record {
-        underway = underway-same mode v s t f (burnt f x) is d.same small (work-burnt (board v) 0 mode s.known s.bound f x is.ready.work d.burns.left (d.burns.conflict.reasoning ∙ ap reasoning_of is.ready.mode_is) d.burns.conflict.known d.burns.conflict.bound);
+        underway = underway-same mode v s t f (burnt f x) is d.same small
+            (work-burnt (board v) 0 mode s.known s.bound f x is.ready.work d.burns.left
+            (d.burns.conflict.reasoning ∙ ap reasoning_of is.ready.mode_is) d.burns.conflict.known d.burns.conflict.bound);
         only = unchanged v;
         cube = d.same.cube;
         shown = λ e. inl d.same.known;
         course = less-same s t (burnt f x) (work_left s f) d.same
-            (work-paid f.left (length (models s.program)) (unfound s.program (used s) s.bound) s.learnt (var_count s.program + 1) (length s.entries) (f.left - 1) (unfound s.program (used s) s.bound) t.learnt (length t.entries) (omega (arith, d.burns.left))
+            (work-paid f.left (length (models s.program)) (unfound s.program (used s) s.bound) s.learnt (var_count s.program + 1) (length s.entries)
+            (f.left - 1) (unfound s.program (used s) s.bound) t.learnt (length t.entries) (omega (arith, d.burns.left))
             (unfound-le s.program (used s) s.bound) small);
       })
 
@@ -198,7 +208,8 @@ may-record Enum t bound S e less = may-list t bound S e (not-dear t.program boun
 may-record Opt t bound S e less = may-optimise t e
 may-record (Consequences r) t bound S e less = may-tell t r bound S e
 
-pub answer-may : (gives : Nogood → Type 0) (silent : List (Option Bool) → Type 0) (mode : Mode) (v : Booked) (s t : Searching) (f g : Units) (is : IsUnderway mode v s f) (r : Step) → IsStep gives silent s t f g r → (S : Atoms) → r ≡ step.Answer S → MayRecord mode v.task S
+pub answer-may : (gives : Nogood → Type 0) (silent : List (Option Bool) → Type 0) (mode : Mode) (v : Booked) (s t : Searching) (f g : Units)
+    (is : IsUnderway mode v s f) (r : Step) → IsStep gives silent s t f g r → (S : Atoms) → r ≡ step.Answer S → MayRecord mode v.task S
 answer-may gives silent mode v s t f g is r h S e =
     let path = entered-by v.task s.cube is.entered in
     let d = at gives silent s t f g r (step.Answer S) e h path.0 path.1 in
@@ -206,7 +217,9 @@ answer-may gives silent mode v s t f g is r h S e =
     (subst (λ (p : Program). IsSmaller (cost p S) s.bound) is.ready.program d.cheaper)
 
 -- the search and its units after the answer was recorded
-work-recorded : (mode : Mode) (b c : Board) (s t : Searching) (q : List Literal) (f : Units) (S : Atoms) → s.program ≡ b.task.program → IsAtWork b 0 mode s.known s.bound f → list_any (same_set S) (used_up (reasoning_of mode) s.program s.known) ≡ false → Records mode s t q S → IsRecorded mode b c S →
+work-recorded : (mode : Mode) (b c : Board) (s t : Searching) (q : List Literal) (f : Units) (S : Atoms) → s.program ≡ b.task.program →
+    IsAtWork b 0 mode s.known s.bound f → list_any (same_set S) (used_up (reasoning_of mode) s.program s.known) ≡ false → Records mode s t q S →
+    IsRecorded mode b c S →
     IsAtWork c 0 mode t.known t.bound f
 work-recorded Enum b c s t q f S p at new r done =
     subst (λ (k : List Atoms). IsAtWork c 0 Enum k t.bound f) (sym r.0) (subst (λ (o : Option (List ℤ)). IsAtWork c 0 Enum (s.known ++ S ∷ []) o f) (sym r.1)
@@ -223,7 +236,8 @@ work-recorded Opt b c s t q f S p at new r (inr done) =
     (subst (λ (x : Board). IsAtWork x 0 Opt s.known (Some (cost b.task.program S)) f) (sym done.0) (work-unimproved b 0 S done.1.best s.known s.bound f at done.1.stands done.1.dearer)))
 
 -- fewer models are left to be found
-fewer-by : (mode : Mode) (s t : Searching) (q : List Literal) (S : Atoms) → IsTrue (is_stable s.program S) → list_any (same_set S) (used_up (reasoning_of mode) s.program s.known) ≡ false → IsSmaller (cost s.program S) s.bound → Records mode s t q S →
+fewer-by : (mode : Mode) (s t : Searching) (q : List Literal) (S : Atoms) → IsTrue (is_stable s.program S) →
+    list_any (same_set S) (used_up (reasoning_of mode) s.program s.known) ≡ false → IsSmaller (cost s.program S) s.bound → Records mode s t q S →
     unfound s.program (used_up (reasoning_of mode) s.program t.known) t.bound < unfound s.program (used_up (reasoning_of mode) s.program s.known) s.bound
 fewer-by Enum s t q S stable new less r =
     subst (λ (b : Option (List ℤ)). unfound s.program t.known b < unfound s.program s.known s.bound) (sym r.1)
@@ -236,7 +250,9 @@ fewer-by Opt s t q S stable new less r =
     (subst (λ (k : List Atoms). unfound s.program k (Some (cost s.program S)) < unfound s.program s.known s.bound) (sym r.0) (fewer-lower s.program s.known s.bound S stable new less))
 
 -- the same, by the searches' own modes
-fewer-used : (mode : Mode) (s t : Searching) → s.mode ≡ mode → t.mode ≡ s.mode → unfound s.program (used_up (reasoning_of mode) s.program t.known) t.bound < unfound s.program (used_up (reasoning_of mode) s.program s.known) s.bound →
+fewer-used : (mode : Mode) (s t : Searching) → s.mode ≡ mode → t.mode ≡ s.mode →
+    unfound s.program (used_up (reasoning_of mode) s.program t.known) t.bound < unfound s.program (used_up (reasoning_of mode) s.program s.known)
+    s.bound →
     unfound s.program (used_up (reasoning_of t.mode) s.program t.known) t.bound < unfound s.program (used s) s.bound
 fewer-used mode s t is same h =
     subst (λ (m : Mode). unfound s.program (used_up (reasoning_of m) s.program t.known) t.bound < unfound s.program (used s) s.bound) (sym (same ∙ is))
@@ -249,14 +265,16 @@ pub record IsAnswered (mode : Mode) (v w : Booked) (s t : Searching) (f g : Unit
   pub cube : t.cube ≡ s.cube
   pub left : work_left t g < work_left s f
 
-pub answered : (gives : Nogood → Type 0) (silent : List (Option Bool) → Type 0) (mode : Mode) (v w : Booked) (s t : Searching) (f g : Units) (is : IsUnderway mode v s f) (r : Step) (h : IsStep gives silent s t f g r) (S : Atoms) → r ≡ step.Answer S →
+pub answered : (gives : Nogood → Type 0) (silent : List (Option Bool) → Type 0) (mode : Mode) (v w : Booked) (s t : Searching) (f g : Units)
+    (is : IsUnderway mode v s f) (r : Step) (h : IsStep gives silent s t f g r) (S : Atoms) → r ≡ step.Answer S →
     OnlyRecords v w → IsRecorded mode (board v) (board w) S → IsAnswered mode v w s t f g
 answered gives silent mode v w s t f g is r h S e only done =
     let path = entered-by v.task s.cube is.entered in
     let d = at gives silent s t f g r (step.Answer S) e h path.0 path.1 in
     let records = subst (λ (m : Mode). Records m s t path.0 S) is.ready.mode_is d.records in
     let small : t.learnt < 2 ^ 64 = subst (λ k. k < 2 ^ 64) (sym d.learnt) is.learnt in
-    let new : list_any (same_set S) (used_up (reasoning_of mode) s.program s.known) ≡ false = ap (λ (m : Mode). list_any (same_set S) (used_up (reasoning_of m) s.program s.known)) (sym is.ready.mode_is) ∙ d.new in
+    let new : list_any (same_set S) (used_up (reasoning_of mode) s.program s.known) ≡ false =
+    ap (λ (m : Mode). list_any (same_set S) (used_up (reasoning_of m) s.program s.known)) (sym is.ready.mode_is) ∙ d.new in
     subst (λ (u : Units). IsAnswered mode v w s t f u) (sym d.fuel) (record {
       underway = record {
         ready = record {
@@ -271,8 +289,10 @@ answered gives silent mode v w s t f g is r h S e only done =
       only = only;
       cube = d.cube;
       left =
-          subst (λ (p : Program). work f.left (length (models p)) (unfound p (used_up (reasoning_of t.mode) p t.known) t.bound) t.learnt (var_count p + 1) (length t.entries) < work_left s f) (sym d.program)
-          (work-found f.left (length (models s.program)) (unfound s.program (used s) s.bound) s.learnt (var_count s.program + 1) (length s.entries) (unfound s.program (used_up (reasoning_of t.mode) s.program t.known) t.bound) t.learnt (length t.entries)
+          subst (λ (p : Program). work f.left (length (models p)) (unfound p (used_up (reasoning_of t.mode) p t.known) t.bound) t.learnt
+          (var_count p + 1) (length t.entries) < work_left s f) (sym d.program)
+          (work-found f.left (length (models s.program)) (unfound s.program (used s) s.bound) s.learnt (var_count s.program + 1) (length s.entries)
+          (unfound s.program (used_up (reasoning_of t.mode) s.program t.known) t.bound) t.learnt (length t.entries)
           (fewer-used mode s t is.ready.mode_is d.mode (fewer-by mode s t path.0 S d.stable new d.cheaper records)) small);
     })
 

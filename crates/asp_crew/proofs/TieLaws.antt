@@ -33,7 +33,9 @@ use Rattle.asp_crew.specs.Running.{QueryStands}
 use Rattle.asp_crew.specs.Twice.{IsSearched, IsSecond}
 
 -- ---- the book of the second search
-pub begun-ties : (p : Program) (ask : Ask) (c : List ℤ) (budget : ℕ) (o : Option (List ℤ)) (q : List ℤ) (s : Board) (v : Booked) → o ≡ just_above c → q ≡ [] → s ≡ start (record { program = p; goal = goal.Ties o; budget = budget; limit = ask.models; query = q }) → v ≡ record { task = s.task; journal = [] } →
+pub begun-ties : (p : Program) (ask : Ask) (c : List ℤ) (budget : ℕ) (o : Option (List ℤ)) (q : List ℤ) (s : Board) (v : Booked) → o ≡ just_above c →
+    q ≡ [] → s ≡ start (record { program = p; goal = goal.Ties o; budget = budget; limit = ask.models; query = q }) →
+    v ≡ record { task = s.task; journal = [] } →
     v ≡ record { task = ties_of p ask c budget; journal = [] }
 begun-ties p ask c budget o q s v above none is now =
     now ∙ ap (λ (b : Board). let x : Booked = record { task = b.task; journal = [] } in x) is
@@ -41,10 +43,12 @@ begun-ties p ask c budget o q s v above none is now =
     ∙ ap (λ (l : List ℤ). let x : Booked = record { task = record { program = p; goal = goal.Ties (just_above c); budget = budget; limit = ask.models; query = l }; journal = [] } in x) none
 
 -- the best may be delivered
-pub best-lists : (p : Program) (ask : Ask) (S : Atoms) (budget : ℕ) (v : Booked) → IsOptimum p S (cost p S) → v ≡ record { task = ties_of p ask (cost p S) budget; journal = [] } → IsTrue (lists (board v).task S)
+pub best-lists : (p : Program) (ask : Ask) (S : Atoms) (budget : ℕ) (v : Booked) → IsOptimum p S (cost p S) →
+    v ≡ record { task = ties_of p ask (cost p S) budget; journal = [] } → IsTrue (lists (board v).task S)
 best-lists p ask S budget v is e = subst (λ (x : Booked). IsTrue (lists (board x).task S)) (sym e) (best-listed p S (cost p S) is)
 
-pub best-answers : (p : Program) (ask : Ask) (S : Atoms) (c : List ℤ) (budget : ℕ) (v : Booked) → IsOptimum p S c → v ≡ record { task = ties_of p ask (cost p S) budget; journal = [] } → IsTrue (is_answer (board v).task S)
+pub best-answers : (p : Program) (ask : Ask) (S : Atoms) (c : List ℤ) (budget : ℕ) (v : Booked) → IsOptimum p S c →
+    v ≡ record { task = ties_of p ask (cost p S) budget; journal = [] } → IsTrue (is_answer (board v).task S)
 best-answers p ask S c budget v is e =
     subst (λ (x : Booked). IsTrue (is_answer (board x).task S)) (sym e)
     (sym (has-answers_of (ties_of p ask (cost p S) budget) S) ∙ ap (λ (L : List Atoms). list_any (same_set S) L) (answers-same p ask budget) ∙ test_from_contains (answers p) S is.answer)
@@ -85,25 +89,32 @@ has-optimum p Enum n named r best says found = absurd (none-some best (sym says.
 has-optimum p Opt n named r best says found = record { opt = refl; optimum = subst (IsBest p) found says.1 }
 has-optimum p (Consequences w) n named r best says found = absurd (none-some best (sym says.1 ∙ found))
 
-first-optimum : (p : Program) (ask : Ask) (units : ℕ) (r : Report) (best : Atoms × List ℤ) → IsReport p (asks ask.mode ask.models ask.by_name) units r → r.results.end ≡ Finished → r.results.best ≡ Some best → HasOptimum p ask.mode best
+first-optimum : (p : Program) (ask : Ask) (units : ℕ) (r : Report) (best : Atoms × List ℤ) →
+    IsReport p (asks ask.mode ask.models ask.by_name) units r → r.results.end ≡ Finished → r.results.best ≡ Some best → HasOptimum p ask.mode best
 first-optimum p ask units r best is end found = has-optimum p ask.mode ask.models ask.by_name r best (subst (Says p (asks ask.mode ask.models ask.by_name) r) end is.says) found
 
-pub may-search : (p : Program) (ask : Ask) (r : Report) (best : Atoms × List ℤ) → (units : ℕ) × IsReport p (asks ask.mode ask.models ask.by_name) units r → r.results.end ≡ Finished → r.results.best ≡ Some best → IsOptimum p best.0 (cost p best.0)
+pub may-search : (p : Program) (ask : Ask) (r : Report) (best : Atoms × List ℤ) → (units : ℕ) ×
+    IsReport p (asks ask.mode ask.models ask.by_name) units r → r.results.end ≡ Finished → r.results.best ≡ Some best →
+    IsOptimum p best.0 (cost p best.0)
 may-search p ask r best is end found =
     let has = first-optimum p ask is.0 r best is.1 end found in
     subst (IsOptimum p best.0) has.optimum.sums has.optimum
 
 -- ---- no second search
 -- ---- both
-pub joins-program : (p : Program) (ask : Ask) (first ties : Report) → (units : ℕ) × IsReport p (asks ask.mode ask.models ask.by_name) units first → IsSecond p ask first ties → ties.paid.program ≡ first.paid.program
+pub joins-program : (p : Program) (ask : Ask) (first ties : Report) → (units : ℕ) × IsReport p (asks ask.mode ask.models ask.by_name) units first →
+    IsSecond p ask first ties → ties.paid.program ≡ first.paid.program
 joins-program p ask first ties is second =
     second.searched.told.paid.fits.program ∙ ap (λ (t : Task). t.program) (task-run (start (ties_of p ask (cost p second.best) first.paid.left)) ties.journal) ∙ sym is.1.program
 
 pub joins-units : (p : Program) (ask : Ask) (first ties : Report) → IsSecond p ask first ties → ties.paid.left + ties.spent ≡ first.paid.left
 joins-units p ask first ties second = told-budget (ties_of p ask (cost p second.best) first.paid.left) ties tt second.searched.lawful second.searched.told
 
-pub joined-reports : (p : Program) (ask : Ask) (units : ℕ) (first ties : Report) → first.second ≡ None → IsSecond p ask first ties → IsReport p (asks ask.mode ask.models ask.by_name) units first → IsReport p ask units (joined first ties)
+pub joined-reports : (p : Program) (ask : Ask) (units : ℕ) (first ties : Report) → first.second ≡ None → IsSecond p ask first ties →
+    IsReport p (asks ask.mode ask.models ask.by_name) units first → IsReport p ask units (joined first ties)
 joined-reports p ask units first ties alone second is =
     subst (λ x. let a : Ask = record { mode = ask.mode; models = ask.models; all_optima = x; by_name = ask.by_name } in IsReport p a units (joined first ties)) (sym second.all)
     (subst (λ (m : Mode). let a : Ask = record { mode = m; models = ask.models; all_optima = true; by_name = ask.by_name } in IsReport p a units (joined first ties)) (sym second.opt)
-    (ties-report p ask.models units ask.by_name first ties second.best (cost p second.best) (subst (λ (m : Mode). IsReport p (asks m ask.models ask.by_name) units first) second.opt is) alone second.finished second.found second.searched.lawful second.searched.told))
+    (ties-report p ask.models units ask.by_name first ties second.best (cost p second.best)
+    (subst (λ (m : Mode). IsReport p (asks m ask.models ask.by_name) units first) second.opt is) alone second.finished second.found
+    second.searched.lawful second.searched.told))

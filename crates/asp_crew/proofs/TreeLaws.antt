@@ -24,7 +24,8 @@ length-open_from i (x ∷ nodes) = here (is_open x.status) (open-cons x nodes) (
     here true e rest = omega (arith, e, rest)
     here false e rest = omega (arith, e, rest)
 
-pub open-changed : (nodes : List Node) (n : ℕ) (old new : Status) → status_of nodes n ≡ old → is_leaf old ≡ true → length (open_from 0 (with_status nodes n new)) + cond (is_open old) 1 0 ≡ length (open_from 0 nodes) + cond (is_open new) 1 0
+pub open-changed : (nodes : List Node) (n : ℕ) (old new : Status) → status_of nodes n ≡ old → is_leaf old ≡ true →
+    length (open_from 0 (with_status nodes n new)) + cond (is_open old) 1 0 ≡ length (open_from 0 nodes) + cond (is_open new) 1 0
 open-changed nodes n old new was leaf =
     omega (
       arith,
@@ -69,7 +70,13 @@ cube-set nodes n new leaf =
 -- nobody holds more leaves than are held
 pub held_by-le : (s : ℕ) (nodes : List Node) → held_by s nodes ≤ held_count nodes
 held_by-le s [] = omega arith
-held_by-le s (x ∷ nodes) = omega (arith, sum_by-cons (λ (n : Node). cond (is_held_by s n.status) 1 0) x nodes, sum_by-cons (λ (n : Node). cond (is_held n.status) 1 0) x nodes, here x.status, held_by-le s nodes)
+held_by-le s (x ∷ nodes) = omega (
+  arith,
+  sum_by-cons (λ (n : Node). cond (is_held_by s n.status) 1 0) x nodes,
+  sum_by-cons (λ (n : Node). cond (is_held n.status) 1 0) x nodes,
+  here x.status,
+  held_by-le s nodes,
+)
   where
     one : (b : Bool) → cond b 1 0 ≤ 1
     one true = omega arith

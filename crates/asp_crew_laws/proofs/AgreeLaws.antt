@@ -29,11 +29,13 @@ abbrev pub used_by : Board → List Atoms → List Atoms
 used_by b known = used_up (sought b.task.goal) b.task.program known
 
 -- ---- a leaf may be closed for what the search has settled
-pub settled-excused : (b : Board) (known : List Atoms) (bound : Option (List ℤ)) (q : List Literal) → Agrees b known bound → Settled b.task.program (used_by b known) bound q → HitsOnly b.task.program (is_excused b) q
+pub settled-excused : (b : Board) (known : List Atoms) (bound : Option (List ℤ)) (q : List Literal) → Agrees b known bound →
+    Settled b.task.program (used_by b known) bound q → HitsOnly b.task.program (is_excused b) q
 settled-excused b known bound q a h = HitsOnly-weaker b.task.program (is_done b.task.program (used_by b known) bound) (is_excused b) q a.excused h
 
 -- ---- what others do
-excused-grows : (b c : Board) (known : List Atoms) (bound : Option (List ℤ)) → Grows b c → Agrees b known bound → (S : Atoms) → IsTrue (is_done c.task.program (used_by c known) bound S) → IsTrue (is_excused c S)
+excused-grows : (b c : Board) (known : List Atoms) (bound : Option (List ℤ)) → Grows b c → Agrees b known bound → (S : Atoms) →
+    IsTrue (is_done c.task.program (used_by c known) bound S) → IsTrue (is_excused c S)
 excused-grows b c known bound g a S h = g.excused S (a.excused S (ap (λ (t : Task). is_done t.program (used_up (sought t.goal) t.program known) bound S) (sym g.task) ∙ h))
 
 bounded-grows : (b c : Board) (bound : Option (List ℤ)) → Grows b c → IfSome bound (IsBoundOf b) → IfSome bound (IsBoundOf c)
@@ -54,7 +56,8 @@ agrees-grows b c known bound g a = record {
   excused = excused-grows b c known bound g a;
   recorded =
       subst (λ (t : Task). AreRecorded (sought t.goal) t.program known (showing t.goal t.program c.answers)) (sym g.task)
-      (recorded-more (sought b.task.goal) b.task.program known (showing_of b) (showing b.task.goal b.task.program c.answers) (showing-among b.task.goal b.task.program b.answers c.answers g.listed) a.recorded);
+      (recorded-more (sought b.task.goal) b.task.program known (showing_of b) (showing b.task.goal b.task.program c.answers)
+      (showing-among b.task.goal b.task.program b.answers c.answers g.listed) a.recorded);
   bounded = bounded-grows b c bound g a.bounded;
 }
 
@@ -85,17 +88,20 @@ each-push P (T ∷ L) S h k = (h.0, each-push P L S h.1 k)
 pub among-each : (K L : List Atoms) → AllByRecursion (λ S. IsTrue (list_any (same_set S) L)) K → AreAmong K L
 among-each K L h T e =
     one_passes (list_any (same_set T) L ≡ true) (same_set T) K
-    (each_weaker (λ S. IsTrue (list_any (same_set S) L)) (λ S. same_set T S ≡ true → list_any (same_set T) L ≡ true) (λ S there same. ap (λ (U : Atoms). list_any (same_set U) L) (same_text T S (sym same)) ∙ there) K h) e
+    (each_weaker (λ S. IsTrue (list_any (same_set S) L)) (λ S. same_set T S ≡ true → list_any (same_set T) L ≡ true)
+    (λ S there same. ap (λ (U : Atoms). list_any (same_set U) L) (same_text T S (sym same)) ∙ there) K h) e
 
 -- what is done by one more answer, or what is used up before
-done-more : (p : Program) (K L : List Atoms) (bound c : Option (List ℤ)) (T : Atoms) → AreAmong K L → (costs_bound p bound T ≡ true → is_done p L c T ≡ true) → is_done p K bound T ≡ true → is_done p L c T ≡ true
+done-more : (p : Program) (K L : List Atoms) (bound c : Option (List ℤ)) (T : Atoms) → AreAmong K L →
+    (costs_bound p bound T ≡ true → is_done p L c T ≡ true) → is_done p K bound T ≡ true → is_done p L c T ≡ true
 done-more p K L bound c T among dear h = elim (or_cases (list_any (same_set T) K) (costs_bound p bound T) h) [
   | inl e ↦ or_left (list_any (same_set T) L) (costs_bound p c T) (among T e)
   | inr e ↦ dear e
 ]
 
 -- what is too dear for the search is excused before and after
-dear-delivered : (b : Board) (s : ℕ) (S : Atoms) (known : List Atoms) (bound : Option (List ℤ)) (T : Atoms) → Agrees b known bound → costs_bound b.task.program bound T ≡ true → is_excused (happens b (event.Deliver s S)) T ≡ true
+dear-delivered : (b : Board) (s : ℕ) (S : Atoms) (known : List Atoms) (bound : Option (List ℤ)) (T : Atoms) → Agrees b known bound →
+    costs_bound b.task.program bound T ≡ true → is_excused (happens b (event.Deliver s S)) T ≡ true
 dear-delivered b s S known bound T a e = excused-delivered b S T (a.excused T (or_right (list_any (same_set T) (used_by b known)) (costs_bound b.task.program bound T) e))
 
 among-push : (K L : List Atoms) (S : Atoms) → AllByRecursion (λ T. IsTrue (list_any (same_set T) L)) K → AllByRecursion (λ T. IsTrue (list_any (same_set T) (L ++ S ∷ []))) (K ++ S ∷ [])
@@ -104,7 +110,8 @@ among-push K L S h =
     (each_weaker (λ T. IsTrue (list_any (same_set T) L)) (λ T. IsTrue (list_any (same_set T) (L ++ S ∷ []))) (λ T e. any-push S L T ∙ or_left (list_any (same_set T) L) (same_set T S) e) K h)
     (any-push S L S ∙ or_right (list_any (same_set S) L) (same_set S S) (same_itself S))
 
-pub agrees-delivered : (b : Board) (s : ℕ) (S : Atoms) (known : List Atoms) (bound : Option (List ℤ)) → sought b.task.goal ≡ None → Agrees b known bound → Agrees (happens b (event.Deliver s S)) (known ++ S ∷ []) bound
+pub agrees-delivered : (b : Board) (s : ℕ) (S : Atoms) (known : List Atoms) (bound : Option (List ℤ)) → sought b.task.goal ≡ None →
+    Agrees b known bound → Agrees (happens b (event.Deliver s S)) (known ++ S ∷ []) bound
 agrees-delivered b s S known bound none a =
     let p : Program = b.task.program in
     let more : List Atoms = b.answers ++ S ∷ [] in
@@ -132,13 +139,15 @@ one-common : (r : Reasoning) (p : Program) (K : List Atoms) → (K ≡ [] → �
 one-common r p [] some = absurd (some refl)
 one-common r p (S ∷ K) some = omega arith
 
-recorded-told : (r : Reasoning) (p : Program) (known D : List Atoms) (S : Atoms) → IsSubset (unshown r p D) (unshown r p (known ++ S ∷ [])) → (D ≡ [] → ⊥) → AreRecorded (Some r) p (common_sets r p (known ++ S ∷ [])) D
+recorded-told : (r : Reasoning) (p : Program) (known D : List Atoms) (S : Atoms) → IsSubset (unshown r p D) (unshown r p (known ++ S ∷ [])) →
+    (D ≡ [] → ⊥) → AreRecorded (Some r) p (common_sets r p (known ++ S ∷ [])) D
 recorded-told r p known D S sub some = (
   subst (λ (L : Atoms). IsSubset (unshown r p D) L) (sym (unshown-common r p (known ++ S ∷ []))) sub,
   omega (arith, ap length (common-push r p known S), one-common r p D some),
 )
 
-used-told : (r : Reasoning) (p : Program) (known D : List Atoms) (S : Atoms) → IsSubset (unshown r p D) (unshown r p (known ++ S ∷ [])) → (D ≡ [] → ⊥) → AreAmong (used_up (Some r) p (common_sets r p (known ++ S ∷ []))) (used_up (Some r) p D)
+used-told : (r : Reasoning) (p : Program) (known D : List Atoms) (S : Atoms) → IsSubset (unshown r p D) (unshown r p (known ++ S ∷ [])) →
+    (D ≡ [] → ⊥) → AreAmong (used_up (Some r) p (common_sets r p (known ++ S ∷ []))) (used_up (Some r) p D)
 used-told r p known D S sub some =
     subst (λ (L : List Atoms). AreAmong L (used_up (Some r) p D)) (sym (used-common r p (known ++ S ∷ []))) (used-less r p (known ++ S ∷ []) D sub some)
 
@@ -159,7 +168,8 @@ agrees-told b s S r known bound is a =
     }
 
 -- what all that shows has in common is taken over
-pub agrees-adopted : (b : Board) (r : Reasoning) (known : List Atoms) (bound : Option (List ℤ)) → sought b.task.goal ≡ Some r → Agrees b known bound → Agrees b (common_sets r b.task.program (showing_of b)) bound
+pub agrees-adopted : (b : Board) (r : Reasoning) (known : List Atoms) (bound : Option (List ℤ)) → sought b.task.goal ≡ Some r → Agrees b known bound →
+    Agrees b (common_sets r b.task.program (showing_of b)) bound
 agrees-adopted b r known bound is a =
     let p : Program = b.task.program in
     let all : List Atoms = common_sets r p (showing_of b) in
@@ -168,6 +178,7 @@ agrees-adopted b r known bound is a =
     (subst (λ (L : List Atoms). AreAmong (used_up (Some r) p all) L) (used-common r p (showing_of b)) (λ S h. h)) in
     record {
       excused = λ T h. done-more p (used_by b all) (used b) bound (bound_of b) T among (λ e. a.excused T (or_right (list_any (same_set T) (used_by b known)) (costs_bound p bound T) e)) h;
-      recorded = subst (λ (k : Option Reasoning). AreRecorded k p all (showing_of b)) (sym is) (subst (IsSubset (unshown r p (showing_of b))) (sym (unshown-common r p (showing_of b))) (λ a h. h), omega arith);
+      recorded = subst (λ (k : Option Reasoning). AreRecorded k p all (showing_of b)) (sym is)
+          (subst (IsSubset (unshown r p (showing_of b))) (sym (unshown-common r p (showing_of b))) (λ a h. h), omega arith);
       bounded = a.bounded;
     }

@@ -53,14 +53,19 @@ none-of p ask budget none = sym (answers-same p ask budget) ∙ empty (answers_o
     empty [] h = refl
     empty (S ∷ L) h = absurd (false≢true (sym (h S) ∙ ap (λ x. x || list_any (same_set S) L) (same_itself S)))
 
-best-by : (p : Program) (n budget : ℕ) (best : Option Atoms) → MatchOption best ((S : Atoms) → is_answer (task_of p (asks Opt n false) budget) S ≡ false) (IsOptimum (task_of p (asks Opt n false) budget)) → IsBest p (option_map (with_cost p) best)
+best-by : (p : Program) (n budget : ℕ) (best : Option Atoms) →
+    MatchOption best ((S : Atoms) → is_answer (task_of p (asks Opt n false) budget) S ≡ false) (IsOptimum (task_of p (asks Opt n false) budget)) →
+    IsBest p (option_map (with_cost p) best)
 best-by p n budget None h = none-of p (asks Opt n false) budget h
 best-by p n budget (Some S) h = record {
-  answer = contains_from_test (answers p) S (ap (λ (L : List Atoms). list_any (same_set S) L) (sym (answers-same p (asks Opt n false) budget)) ∙ has-answers_of (task_of p (asks Opt n false) budget) S ∙ h.0);
+  answer = contains_from_test (answers p) S (ap (λ (L : List Atoms). list_any (same_set S) L) (sym (answers-same p (asks Opt n false) budget))
+      ∙ has-answers_of (task_of p (asks Opt n false) budget) S ∙ h.0);
   sums = refl;
   least = list_any_none (λ (T : Atoms). betters (cost p T) (cost p S)) (answers p) (λ k d within.
       let T : Atoms = get_or (answers p) k d in
-      h.1 T (sym (has-answers_of (task_of p (asks Opt n false) budget) T) ∙ ap (λ (L : List Atoms). list_any (same_set T) L) (answers-same p (asks Opt n false) budget) ∙ test_from_contains (answers p) T (Contains-get_or (answers p) k d within)));
+      h.1 T (sym (has-answers_of (task_of p (asks Opt n false) budget) T)
+      ∙ ap (λ (L : List Atoms). list_any (same_set T) L) (answers-same p (asks Opt n false) budget)
+      ∙ test_from_contains (answers p) T (Contains-get_or (answers p) k d within)));
 }
 
 pub sorted-nil : (A : List Atoms) → A ≡ [] → sorted_once A ≡ []
@@ -74,7 +79,8 @@ none-best t (Some S) q h = absurd (false≢true (sym q ∙ h.0))
 module _ (p : Program) (n budget : ℕ) (named : Bool) (journal : List Event) (L : List Atoms) where
   found-by : (mode : Mode) → IsLawful (start (task_of p (asks mode n named) budget)) journal → all_closed (replay (task_of p (asks mode n named) budget) journal).nodes ≡ true →
       L ≡ sorted_once (listed_by (reasoning_of mode) (replay (task_of p (asks mode n named) budget) journal).answers) →
-      IsFound named p mode L (option_map (with_cost p) (replay (task_of p (asks mode n named) budget) journal).best) (common_by (reasoning_of mode) p (showing (goal_of mode named) p (replay (task_of p (asks mode n named) budget) journal).answers))
+      IsFound named p mode L (option_map (with_cost p) (replay (task_of p (asks mode n named) budget) journal).best)
+      (common_by (reasoning_of mode) p (showing (goal_of mode named) p (replay (task_of p (asks mode n named) budget) journal).answers))
   found-by Enum lawful closed sorted =
       let t : Task = task_of p (asks Enum n named) budget in
       let b : Board = replay t journal in
@@ -99,15 +105,22 @@ module _ (p : Program) (n budget : ℕ) (named : Bool) (journal : List Event) (L
         sorted,
         ap (option_map (with_cost p)) (none-best b.task b.best (ap (λ (x : Task). optimises x.goal) task) is.best),
         ap (λ (x : Task). consequences_of r x.program (showing_by named r x.program b.answers)) (sym task) ∙ HasResult-finished t journal tt lawful closed
-            ∙ ap (λ (x : Task). consequences_of r x.program (showing_by named r x.program (answers_of x))) task ∙ ap (λ (L : List Atoms). consequences_of r p (showing_by named r p L)) (answers-same p (asks (Consequences r) n named) budget),
+            ∙ ap (λ (x : Task). consequences_of r x.program (showing_by named r x.program (answers_of x))) task
+            ∙ ap (λ (L : List Atoms). consequences_of r p (showing_by named r p L)) (answers-same p (asks (Consequences r) n named) budget),
       )
 
-pub found-once : (p : Program) (ask : Ask) (budget : ℕ) (journal : List Event) (L : List Atoms) → IsLawful (start (task_of p ask budget)) journal → all_closed (replay (task_of p ask budget) journal).nodes ≡ true →
+pub found-once : (p : Program) (ask : Ask) (budget : ℕ) (journal : List Event) (L : List Atoms) → IsLawful (start (task_of p ask budget)) journal →
+    all_closed (replay (task_of p ask budget) journal).nodes ≡ true →
     L ≡ sorted_once (listed_by (reasoning_of ask.mode) (replay (task_of p ask budget) journal).answers) →
-    IsFound ask.by_name p ask.mode L (option_map (with_cost p) (replay (task_of p ask budget) journal).best) (common_by (reasoning_of ask.mode) p (showing (goal_of ask.mode ask.by_name) p (replay (task_of p ask budget) journal).answers))
+    IsFound ask.by_name p ask.mode L (option_map (with_cost p) (replay (task_of p ask budget) journal).best)
+    (common_by (reasoning_of ask.mode) p (showing (goal_of ask.mode ask.by_name) p (replay (task_of p ask budget) journal).answers))
 found-once p ask budget journal L = found-by p ask.models budget ask.by_name journal L ask.mode
 
-pub found : (p : Program) (ask : Ask) (budget : ℕ) (journal : List Event) (M L : List Atoms) → IsLawful (start (task_of p ask budget)) journal → all_closed (replay (task_of p ask budget) journal).nodes ≡ true →
+pub found : (p : Program) (ask : Ask) (budget : ℕ) (journal : List Event) (M L : List Atoms) → IsLawful (start (task_of p ask budget)) journal →
+    all_closed (replay (task_of p ask budget) journal).nodes ≡ true →
     IsPermutation (listed_by (reasoning_of ask.mode) (replay (task_of p ask budget) journal).answers) M → IsSorted set_cmp M → IsFiltered (DiffersFromLast same_set) [] M L →
-    IsFound ask.by_name p ask.mode L (option_map (with_cost p) (replay (task_of p ask budget) journal).best) (common_by (reasoning_of ask.mode) p (showing (goal_of ask.mode ask.by_name) p (replay (task_of p ask budget) journal).answers))
-found p ask budget journal M L lawful closed moved sorted kept = found-once p ask budget journal L lawful closed (once-is (listed_by (reasoning_of ask.mode) (replay (task_of p ask budget) journal).answers) M L moved sorted kept)
+    IsFound ask.by_name p ask.mode L (option_map (with_cost p) (replay (task_of p ask budget) journal).best)
+    (common_by (reasoning_of ask.mode) p (showing (goal_of ask.mode ask.by_name) p (replay (task_of p ask budget) journal).answers))
+found p ask budget journal M L lawful closed moved sorted kept =
+    found-once p ask budget journal L lawful closed
+    (once-is (listed_by (reasoning_of ask.mode) (replay (task_of p ask budget) journal).answers) M L moved sorted kept)

@@ -33,7 +33,8 @@ less : (S : Atoms) (D : List Atoms) → list_any (same_set S) D ≡ true → len
 less S [] h = absurd (false≢true h)
 less S (T ∷ D) h = here (same_set S T) h (fewer S D) (less S D)
   where
-    here : (x : Bool) → (x || list_any (same_set S) D) ≡ true → length (filter (λ T. not (same_set S T)) D) ≤ length D → (list_any (same_set S) D ≡ true → length (filter (λ T. not (same_set S T)) D) + 1 ≤ length D)
+    here : (x : Bool) → (x || list_any (same_set S) D) ≡ true → length (filter (λ T. not (same_set S T)) D) ≤ length D →
+        (list_any (same_set S) D ≡ true → length (filter (λ T. not (same_set S T)) D) + 1 ≤ length D)
         → length (cond (not x) (T ∷ filter (λ T. not (same_set S T)) D) (filter (λ T. not (same_set S T)) D)) + 1 ≤ suc (length D)
     here true h f r = omega (arith, f)
     here false h f r = omega (arith, r h)
@@ -46,18 +47,22 @@ still S R (T ∷ D) ne h = here (same_set R T) refl (same_set S T) refl h (still
     or-right true b h = refl
     or-right false b h = h
 
-    here : (x : Bool) → x ≡ same_set R T → (y : Bool) → y ≡ same_set S T → (x || list_any (same_set R) D) ≡ true → (list_any (same_set R) D ≡ true → list_any (same_set R) (filter (λ T. not (same_set S T)) D) ≡ true)
+    here : (x : Bool) → x ≡ same_set R T → (y : Bool) → y ≡ same_set S T → (x || list_any (same_set R) D) ≡ true →
+        (list_any (same_set R) D ≡ true → list_any (same_set R) (filter (λ T. not (same_set S T)) D) ≡ true)
         → list_any (same_set R) (cond (not y) (T ∷ filter (λ T. not (same_set S T)) D) (filter (λ T. not (same_set S T)) D)) ≡ true
     here true p true q h r = absurd (false≢true (sym ne ∙ ap (same_set S) (same_text R T p) ∙ sym q))
     here true p false q h r = ap (λ x. x || list_any (same_set R) (filter (λ T. not (same_set S T)) D)) (sym p)
     here false p true q h r = r h
     here false p false q h r = or-right (same_set R T) (list_any (same_set R) (filter (λ T. not (same_set S T)) D)) (r h)
 
-all-still : (S : Atoms) (K D : List Atoms) → list_any (same_set S) K ≡ false → AllByRecursion (λ R. IsTrue (list_any (same_set R) D)) K → AllByRecursion (λ R. IsTrue (list_any (same_set R) (filter (λ T. not (same_set S T)) D))) K
+all-still : (S : Atoms) (K D : List Atoms) → list_any (same_set S) K ≡ false → AllByRecursion (λ R. IsTrue (list_any (same_set R) D)) K →
+    AllByRecursion (λ R. IsTrue (list_any (same_set R) (filter (λ T. not (same_set S T)) D))) K
 all-still S [] D new h = tt
 all-still S (R ∷ K) D new h = here (same_set S R) refl new (all-still S K D)
   where
-    here : (x : Bool) → x ≡ same_set S R → (x || list_any (same_set S) K) ≡ false → (list_any (same_set S) K ≡ false → AllByRecursion (λ R. IsTrue (list_any (same_set R) D)) K → AllByRecursion (λ R. IsTrue (list_any (same_set R) (filter (λ T. not (same_set S T)) D))) K)
+    here : (x : Bool) → x ≡ same_set S R → (x || list_any (same_set S) K) ≡ false →
+        (list_any (same_set S) K ≡ false → AllByRecursion (λ R. IsTrue (list_any (same_set R) D)) K →
+        AllByRecursion (λ R. IsTrue (list_any (same_set R) (filter (λ T. not (same_set S T)) D))) K)
         → AllByRecursion (λ R. IsTrue (list_any (same_set R) (filter (λ T. not (same_set S T)) D))) (R ∷ K)
     here true q e r = absurd (false≢true (sym e))
     here false q e r = (still S R D (sym q) h.0, r e h.1)
@@ -92,9 +97,13 @@ agrees-improved b s S e = record {
 }
 
 -- or a best that it doesn't better stands
-pub agrees-unimproved : (b : Board) (S B : Atoms) → b.task.goal ≡ goal.Opt → b.best ≡ Some B → betters (cost b.task.program S) (cost b.task.program B) ≡ false → Agrees b [] (Some (cost b.task.program S))
+pub agrees-unimproved : (b : Board) (S B : Atoms) → b.task.goal ≡ goal.Opt → b.best ≡ Some B →
+    betters (cost b.task.program S) (cost b.task.program B) ≡ false → Agrees b [] (Some (cost b.task.program S))
 agrees-unimproved b S B e best h = record {
-  excused = λ T k. excused-by b B T e best (ap not (betters_trans (cost b.task.program T) (cost b.task.program S) (cost b.task.program B) (not_true (betters (cost b.task.program T) (cost b.task.program S)) (none-known b.task.goal b.task.program (cost b.task.program S) T k)) h));
+  excused = λ T k. excused-by b B T e best
+      (ap not (betters_trans (cost b.task.program T) (cost b.task.program S) (cost b.task.program B)
+      (not_true (betters (cost b.task.program T) (cost b.task.program S)) (none-known b.task.goal b.task.program (cost b.task.program S) T k))
+      h));
   recorded = none-recorded (sought b.task.goal) b.task.program (showing_of b);
   bounded = bound-is b B (cost b.task.program S) e best h;
 }

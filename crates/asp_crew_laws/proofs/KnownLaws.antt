@@ -38,7 +38,8 @@ pub record MayTakeOver (b : Board) (mode : Mode) (known : List Atoms) (x : Knowi
   pub reasoning : Some x.reasoning ≡ reasoning_of mode
   pub all : IsSubset (unshown x.reasoning x.program x.sets) (unshown x.reasoning x.program known)
 
-pub may-take_over : (b : Board) (n : ℕ) (mode : Mode) (known : List Atoms) (bound : Option (List ℤ)) (u : Units) (x : Knowing) → IsAtWork b n mode known bound u → IsKnown b x → MayTakeOver b mode known x
+pub may-take_over : (b : Board) (n : ℕ) (mode : Mode) (known : List Atoms) (bound : Option (List ℤ)) (u : Units) (x : Knowing) →
+    IsAtWork b n mode known bound u → IsKnown b x → MayTakeOver b mode known x
 may-take_over b n mode known bound u x w k =
     let r : Reasoning = k.reasoning in
     let recorded : AreRecorded (Some r) b.task.program known (showing_of b) = subst (λ (o : Option Reasoning). AreRecorded o b.task.program known (showing_of b)) k.seeks w.agrees.recorded in
@@ -50,7 +51,8 @@ may-take_over b n mode known bound u x w k =
     }
 
 -- It goes with the board still.
-pub work-known : (b : Board) (n : ℕ) (mode : Mode) (known : List Atoms) (bound : Option (List ℤ)) (u : Units) (x : Knowing) → IsAtWork b n mode known bound u → IsKnown b x → IsAtWork b n mode x.sets bound u
+pub work-known : (b : Board) (n : ℕ) (mode : Mode) (known : List Atoms) (bound : Option (List ℤ)) (u : Units) (x : Knowing) →
+    IsAtWork b n mode known bound u → IsKnown b x → IsAtWork b n mode x.sets bound u
 work-known b n mode known bound u x w k = subst (λ (y : Knowing). IsAtWork b n mode y.sets bound u) (sym k.is) (here mode (sym (sought-is mode bound b.task.goal w.goal) ∙ k.seeks) w)
   where
     here : (m : Mode) → reasoning_of m ≡ Some k.reasoning → IsAtWork b n m known bound u → IsAtWork b n m (common_sets k.reasoning b.task.program (showing_of b)) bound u

@@ -141,4 +141,6 @@ pub in-order : (p : Program) (ask : Ask) (units : ℕ) (r : Report) → IsReport
 in-order p ask units r is = part-order ask.all_optima ask.by_name p ask.mode r.results (says-part p ask r r.results.end is.says)
 
 pub all-answers : (p : Program) (ask : Ask) (units : ℕ) (r : Report) (S : Atoms) → IsReport p ask units r → Contains r.results.answers S → Contains (answers p) S
-all-answers p ask units r S is has = contains_from_test (answers p) S (part-has ask.all_optima ask.by_name p ask.mode r.results S (says-part p ask r r.results.end is.says) (test_from_contains r.results.answers S has))
+all-answers p ask units r S is has =
+    contains_from_test (answers p) S (part-has ask.all_optima ask.by_name p ask.mode r.results S (says-part p ask r r.results.end is.says)
+    (test_from_contains r.results.answers S has))

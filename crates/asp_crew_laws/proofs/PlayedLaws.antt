@@ -74,25 +74,34 @@ sought-mode Opt n = refl
 sought-mode (Consequences r) n = refl
 
 -- A finished report has found what was asked.
-pub finished-found : (p : Program) (ask : Ask) (units : ℕ) (r : Report) → IsPlayed (task_of p ask units) r → r.results.end ≡ Finished → IsFound ask.by_name p ask.mode r.results.answers r.results.best r.results.known
+pub finished-found : (p : Program) (ask : Ask) (units : ℕ) (r : Report) → IsPlayed (task_of p ask units) r → r.results.end ≡ Finished →
+    IsFound ask.by_name p ask.mode r.results.answers r.results.best r.results.known
 finished-found p ask units r is e =
     subst (λ (o : Option (Atoms × List ℤ)). IsFound ask.by_name p ask.mode r.results.answers o r.results.known) (sym is.best)
-    (subst (λ (o : Option Atoms). IsFound ask.by_name p ask.mode r.results.answers (option_map (with_cost p) (board_by (task_of p ask units) r).best) o) (sym (is.common ∙ ap (λ (k : Option Reasoning). common_by k p (showing (goal_of ask.mode ask.by_name) p (board_by (task_of p ask units) r).answers)) (sought-mode ask.mode ask.by_name)))
-    (found-once p ask units r.journal r.results.answers is.lawful (closed-by (is_enough (board_by (task_of p ask units) r)) (all_closed (board_by (task_of p ask units) r).nodes) (sym is.end ∙ e)) (is.answers ∙ ap (λ (k : Option Reasoning). sorted_once (listed_by k (board_by (task_of p ask units) r).answers)) (sought-mode ask.mode ask.by_name))))
+    (subst (λ (o : Option Atoms). IsFound ask.by_name p ask.mode r.results.answers (option_map (with_cost p) (board_by (task_of p ask units) r).best)
+    o) (sym (is.common ∙ ap (λ (k : Option Reasoning). common_by k p
+    (showing (goal_of ask.mode ask.by_name) p (board_by (task_of p ask units) r).answers)) (sought-mode ask.mode ask.by_name)))
+    (found-once p ask units r.journal r.results.answers is.lawful
+    (closed-by (is_enough (board_by (task_of p ask units) r)) (all_closed (board_by (task_of p ask units) r).nodes) (sym is.end ∙ e))
+    (is.answers ∙ ap (λ (k : Option Reasoning). sorted_once (listed_by k (board_by (task_of p ask units) r).answers))
+    (sought-mode ask.mode ask.by_name))))
 
 -- No conflict that was paid for knew more answers than are reported.
 listed-common : (w : Reasoning) (p : Program) (A : List Atoms) → common_sets w p A ≡ option_to_list (consequences_of w p A)
 listed-common w p [] = refl
 listed-common w p (S ∷ A) = refl
 
-pub count-reported : (k : Option Reasoning) (p : Program) (A D : List Atoms) (r : Found) → (k ≡ None → D ≡ A) → r.answers ≡ sorted_once (listed_by k A) → r.known ≡ common_by k p D → count_by k p D ≡ length (known_in k r)
+pub count-reported : (k : Option Reasoning) (p : Program) (A D : List Atoms) (r : Found) → (k ≡ None → D ≡ A) →
+    r.answers ≡ sorted_once (listed_by k A) → r.known ≡ common_by k p D → count_by k p D ≡ length (known_in k r)
 count-reported None p A D r same answers known = ap (λ (L : List Atoms). length (distinct L)) (same refl) ∙ sym (ap length answers ∙ length-sorted_once A)
 count-reported (Some w) p A D r same answers known = ap length (listed-common w p D) ∙ ap (λ (o : Option Atoms). length (option_to_list o)) (sym known)
 
 -- What is reported uses up the same sets as what was delivered.
 used-reported : (k : Option Reasoning) (p : Program) (A D : List Atoms) (r : Found) → (k ≡ None → D ≡ A) → r.answers ≡ sorted_once (listed_by k A) → r.known ≡ common_by k p D → (S : Atoms) →
     list_any (same_set S) (used_up k p D) ≡ list_any (same_set S) (used_up k p (known_in k r))
-used-reported None p A D r same answers known S = ap (λ (L : List Atoms). list_any (same_set S) L) (same refl) ∙ sym (sorted-has [] A S) ∙ ap (λ (L : List Atoms). list_any (same_set S) L) (sym answers)
+used-reported None p A D r same answers known S =
+    ap (λ (L : List Atoms). list_any (same_set S) L) (same refl) ∙ sym (sorted-has [] A S)
+    ∙ ap (λ (L : List Atoms). list_any (same_set S) L) (sym answers)
 used-reported (Some w) p A D r same answers known S =
     ap (λ (U : List Atoms). list_any (same_set S) U) (sym (used-common w p D) ∙ ap (used_up (Some w) p) (listed-common w p D ∙ ap (λ (o : Option Atoms). option_to_list o) (sym known)))
 
@@ -122,12 +131,14 @@ both true false h = refl
 both false false h = refl
 
 module _ (p : Program) (n units : ℕ) (named : Bool) (r : Report) where
-  part-by : (mode : Mode) → IsPlayed (task_of p (asks mode n named) units) r → IsBoard (board_by (task_of p (asks mode n named) units) r) → (board_by (task_of p (asks mode n named) units) r).task ≡ task_of p (asks mode n named) units → IsPart named p mode r.results
+  part-by : (mode : Mode) → IsPlayed (task_of p (asks mode n named) units) r → IsBoard (board_by (task_of p (asks mode n named) units) r) →
+      (board_by (task_of p (asks mode n named) units) r).task ≡ task_of p (asks mode n named) units → IsPart named p mode r.results
   part-by Enum is board task =
       let b : Board = board_by (task_of p (asks Enum n named) units) r in
       let t : Task = task_of p (asks Enum n named) units in
       let q : Atoms → Bool = λ S. list_any (same_set S) b.answers in
-      let delivered : AllByRecursion (λ T. IsTrue (lists t T) × IsTrue (is_answer t T)) b.answers = subst (λ (x : Task). AllByRecursion (λ T. IsTrue (lists x T) × IsTrue (is_answer x T)) b.answers) task board.delivered in (
+      let delivered : AllByRecursion (λ T. IsTrue (lists t T) × IsTrue (is_answer t T)) b.answers =
+      subst (λ (x : Task). AllByRecursion (λ T. IsTrue (lists x T) × IsTrue (is_answer x T)) b.answers) task board.delivered in (
         (q, is.answers ∙ sorted-answers t q b.answers (λ S. both (is_answer t S) (q S) (λ h. listed-answers t b.answers S delivered h)) ∙ ap (filter q) (answers-same p (asks Enum n named) units)),
         is.best ∙ ap (option_map (with_cost p)) (none-kept b.task b.best (ap (λ (x : Task). x.goal) task) board.best),
       )
@@ -135,7 +146,8 @@ module _ (p : Program) (n units : ℕ) (named : Bool) (r : Report) where
       let b : Board = board_by (task_of p (asks (Consequences w) n named) units) r in
       let t : Task = task_of p (asks (Consequences w) n named) units in
       let q : Atoms → Bool = λ S. list_any (same_set S) b.answers in
-      let delivered : AllByRecursion (λ T. IsTrue (lists t T) × IsTrue (is_answer t T)) b.answers = subst (λ (x : Task). AllByRecursion (λ T. IsTrue (lists x T) × IsTrue (is_answer x T)) b.answers) task board.delivered in
+      let delivered : AllByRecursion (λ T. IsTrue (lists t T) × IsTrue (is_answer t T)) b.answers =
+      subst (λ (x : Task). AllByRecursion (λ T. IsTrue (lists x T) × IsTrue (is_answer x T)) b.answers) task board.delivered in
       let among : AreAmong b.answers (answers p) = λ S h.
       ap (λ (L : List Atoms). list_any (same_set S) L) (sym (answers-same p (asks (Consequences w) n named) units)) ∙ has-answers_of t S ∙ listed-answers t b.answers S delivered h in (
         is.answers,
@@ -145,15 +157,22 @@ module _ (p : Program) (n units : ℕ) (named : Bool) (r : Report) where
   part-by Opt is board task =
       let b : Board = board_by (task_of p (asks Opt n named) units) r in (
         is.answers ∙ sorted-nil b.answers (none-listed b.task b.answers (ap (λ (x : Task). x.goal) task) board.delivered),
-        subst (λ (o : Option (Atoms × List ℤ)). IfSome o (IsPriced p)) (sym is.best) (priced b.best (subst (λ (x : Task). IfSome b.best (λ S. IsTrue (optimises x.goal) × IsTrue (is_answer x S))) task board.best)),
+        subst (λ (o : Option (Atoms × List ℤ)). IfSome o (IsPriced p)) (sym is.best)
+            (priced b.best (subst (λ (x : Task). IfSome b.best (λ S. IsTrue (optimises x.goal) × IsTrue (is_answer x S))) task board.best)),
       )
     where
       priced : (o : Option Atoms) → IfSome o (λ S. IsTrue (optimises goal.Opt) × IsTrue (is_answer (task_of p (asks Opt n named) units) S)) → IfSome (option_map (with_cost p) o) (IsPriced p)
       priced None h = tt
-      priced (Some S) h = (contains_from_test (answers p) S (ap (λ (L : List Atoms). list_any (same_set S) L) (sym (answers-same p (asks Opt n named) units)) ∙ has-answers_of (task_of p (asks Opt n named) units) S ∙ h.1), refl)
+      priced (Some S) h = (
+        contains_from_test (answers p) S
+            (ap (λ (L : List Atoms). list_any (same_set S) L) (sym (answers-same p (asks Opt n named) units))
+            ∙ has-answers_of (task_of p (asks Opt n named) units) S ∙ h.1),
+        refl,
+      )
 
 -- ---- a bound that the search may have had is at least the best's cost
-at_least-by : (mode : Mode) (named : Bool) (p : Program) (best : Option Atoms) (o : Option (List ℤ)) → IfSome o (IsBoundBy (goal_of mode named) p best) → IsAtLeast (option_map (λ x. x.1) (option_map (with_cost p) best)) o
+at_least-by : (mode : Mode) (named : Bool) (p : Program) (best : Option Atoms) (o : Option (List ℤ)) →
+    IfSome o (IsBoundBy (goal_of mode named) p best) → IsAtLeast (option_map (λ x. x.1) (option_map (with_cost p) best)) o
 at_least-by mode named p best None h = tt
 at_least-by Enum named p best (Some c) h = absurd h
 at_least-by (Consequences w) named p best (Some c) h = absurd h
@@ -161,11 +180,16 @@ at_least-by Opt named p None (Some c) h = absurd h
 at_least-by Opt named p (Some S) (Some c) h = ap not h
 
 -- ---- a conflict by what was recorded is one by what is reported
-settled-more : (p : Program) (K L : List Atoms) (b c : Option (List ℤ)) (way : List Literal) → ((S : Atoms) → list_any (same_set S) K ≡ list_any (same_set S) L) → b ≡ c → Settled p K b way → Settled p L c way
+settled-more : (p : Program) (K L : List Atoms) (b c : Option (List ℤ)) (way : List Literal) →
+    ((S : Atoms) → list_any (same_set S) K ≡ list_any (same_set S) L) → b ≡ c → Settled p K b way → Settled p L c way
 settled-more p K L b c way same e =
-    HitsOnly-weaker p (is_done p K b) (is_done p L c) way (λ S h. ap (λ x. x || costs_bound p c S) (sym (same S)) ∙ ap (λ (o : Option (List ℤ)). list_any (same_set S) K || costs_bound p o S) (sym e) ∙ h)
+    HitsOnly-weaker p (is_done p K b) (is_done p L c) way
+    (λ S h. ap (λ x. x || costs_bound p c S) (sym (same S)) ∙ ap (λ (o : Option (List ℤ)). list_any (same_set S) K || costs_bound p o S) (sym e)
+    ∙ h)
 
-conflict-more : (p : Program) (K L : List Atoms) (b c : Option (List ℤ)) (x : Clash) → ((S : Atoms) → list_any (same_set S) K ≡ list_any (same_set S) L) → b ≡ c → IsConflict p K b x.cube x.decisions x.nogood → IsConflict p L c x.cube x.decisions x.nogood
+conflict-more : (p : Program) (K L : List Atoms) (b c : Option (List ℤ)) (x : Clash) →
+    ((S : Atoms) → list_any (same_set S) K ≡ list_any (same_set S) L) → b ≡ c → IsConflict p K b x.cube x.decisions x.nogood →
+    IsConflict p L c x.cube x.decisions x.nogood
 conflict-more p K L b c x same e is = record {
   decided = is.decided;
   consistent = is.consistent;
@@ -222,11 +246,14 @@ module _ (t : Task) (r : Report) (is : IsPlayed t r) (board : IsBoard (board_by 
   pub at-limit : sought t.goal ≡ None → r.results.end ≡ Limited → (0 < t.limit) × (length r.results.answers ≡ t.limit)
   at-limit none q = (limited-some q, enough-asked none (was-enough q))
 
-  less : sought t.goal ≡ None → (enough closed : Bool) → enough ≡ is_enough (board_by t r) → r.results.end ≡ end_by enough closed → (r.results.end ≡ Limited → ⊥) → 0 < t.limit → length r.results.answers < t.limit
+  less : sought t.goal ≡ None → (enough closed : Bool) → enough ≡ is_enough (board_by t r) → r.results.end ≡ end_by enough closed →
+      (r.results.end ≡ Limited → ⊥) → 0 < t.limit → length r.results.answers < t.limit
   less none true closed e end other some = absurd (other end)
   less none false closed e end other some =
       let b : Board = board_by t r in
-      let f : leb b.task.limit (length (distinct b.answers)) ≡ false = and-first (not (eqb b.task.limit 0)) (leb b.task.limit (length (distinct b.answers))) (is-not b.task.limit (omega (arith, some, limit))) (sym e) in
+      let f : leb b.task.limit (length (distinct b.answers)) ≡ false =
+      and-first (not (eqb b.task.limit 0)) (leb b.task.limit (length (distinct b.answers))) (is-not b.task.limit (omega (arith, some, limit)))
+      (sym e) in
       omega (arith, count none, limit, leb-false b.task.limit (length (distinct b.answers)) f)
     where
       is-not : (k : ℕ) → 0 < k → not (eqb k 0) ≡ true
@@ -246,7 +273,9 @@ limited-asked p Opt n named r part at = absurd (let f : ⊥ = omega (arith, at.0
 limited-asked p (Consequences w) n named r part at = absurd (let f : ⊥ = omega (arith, at.0, at.1, ap length part.0) in f)
 
 -- what a mode's first search says at its limit, which a search for consequences has none of
-limited-says : (p : Program) (mode : Mode) (n units : ℕ) (named : Bool) (r : Report) → IsPlayed (task_of p (asks mode n named) units) r → IsBoard (board_by (task_of p (asks mode n named) units) r) → (board_by (task_of p (asks mode n named) units) r).task ≡ task_of p (asks mode n named) units →
+limited-says : (p : Program) (mode : Mode) (n units : ℕ) (named : Bool) (r : Report) → IsPlayed (task_of p (asks mode n named) units) r →
+    IsBoard (board_by (task_of p (asks mode n named) units) r) →
+    (board_by (task_of p (asks mode n named) units) r).task ≡ task_of p (asks mode n named) units →
     IsPart named p mode r.results → r.results.end ≡ Limited → IsAsked p (asks mode n named) r.results
 limited-says p Enum n units named r is board task part q = limited-asked p Enum n named r.results part (at-limit (task_of p (asks Enum n named) units) r is board task refl q)
 limited-says p Opt n units named r is board task part q = limited-asked p Opt n named r.results part (at-limit (task_of p (asks Opt n named) units) r is board task refl q)
@@ -273,7 +302,9 @@ module _ (t : Task) (r : Report) (query : IsQuery t.program t.query) (lawful : I
   common-told = told.common ∙ ap (λ (x : Task). common_by (sought x.goal) x.program (showing x.goal x.program (board_by t r).answers)) task-is
 
   count-told : known_count (board_by t r) ≡ length (known_in (sought t.goal) r.results)
-  count-told = ap (λ (x : Task). count_by (sought x.goal) x.program (showing x.goal x.program (board_by t r).answers)) task-is ∙ count-reported (sought t.goal) t.program (board_by t r).answers shown r.results (sought-none t.goal t.program (board_by t r).answers) answers-told common-told
+  count-told = ap (λ (x : Task). count_by (sought x.goal) x.program (showing x.goal x.program (board_by t r).answers)) task-is
+      ∙ count-reported (sought t.goal) t.program (board_by t r).answers shown r.results (sought-none t.goal t.program (board_by t r).answers)
+      answers-told common-told
 
   best : r.results.best ≡ option_map (with_cost t.program) (board_by t r).best
   best = told.best ∙ ap (λ (q : Program). option_map (with_cost q) (board_by t r).best) program
@@ -337,7 +368,8 @@ module _ (t : Task) (r : Report) (query : IsQuery t.program t.query) (lawful : I
   told-bounds = subst (λ (x : Task). IfSome r.paid.least (IsBoundBy x.goal x.program (board_by t r).best)) task-is told.paid.fits.least
 
 -- the report of a first search
-module _ (p : Program) (mode : Mode) (n units : ℕ) (named : Bool) (r : Report) (lawful : IsJournalOf (task_of p (asks mode n named) units) r.journal) (told : IsToldBy (board_by (task_of p (asks mode n named) units) r) r) where
+module _ (p : Program) (mode : Mode) (n units : ℕ) (named : Bool) (r : Report) (lawful : IsJournalOf (task_of p (asks mode n named) units) r.journal)
+    (told : IsToldBy (board_by (task_of p (asks mode n named) units) r) r) where
   first-played : IsPlayed (task_of p (asks mode n named) units) r
   first-played = told-played (task_of p (asks mode n named) units) r tt lawful told
 
@@ -362,7 +394,8 @@ module _ (p : Program) (mode : Mode) (n units : ℕ) (named : Bool) (r : Report)
     budget = told-budget (task_of p (asks mode n named) units) r tt lawful told;
     reasoned = λ e. sym (ap is_some sought-here) ∙ told.paid.fits.reasoned e;
     known = subst (λ (k : Option Reasoning). r.paid.known ≤ length (known_in k r.results)) (sought-mode mode named) (paid-known (task_of p (asks mode n named) units) r first-played);
-    untold = λ e. first-played.common ∙ ap (λ (k : Option Reasoning). common_by k p (showing (goal_of mode named) p (board_by (task_of p (asks mode n named) units) r).answers)) (sought-mode mode named ∙ e);
+    untold = λ e. first-played.common ∙ ap (λ (k : Option Reasoning). common_by k p
+        (showing (goal_of mode named) p (board_by (task_of p (asks mode n named) units) r).answers)) (sought-mode mode named ∙ e);
     least =
         subst (λ (o : Option (Atoms × List ℤ)). IsAtLeast (option_map (λ y. y.1) o) r.paid.least) (sym first-played.best)
         (at_least-by mode named p (board_by (task_of p (asks mode n named) units) r).best r.paid.least (told-bounds (task_of p (asks mode n named) units) r tt lawful told));
@@ -378,11 +411,13 @@ played-part p ask units r is = part-by p ask.models units ask.by_name r ask.mode
 optima-none : (p : Program) → answers p ≡ [] → optima p ≡ []
 optima-none p e = ap (λ (A : List Atoms). filter (λ S. not (list_any (λ T. betters (cost p T) (cost p S)) A)) A) e
 
-whole-found : (named : Bool) (p : Program) (L : List Atoms) (best : Option (Atoms × List ℤ)) (known : Option Atoms) → IsFound named p Opt L best known → IsWhole true Finished best → IsAllFound true named p Opt L best known
+whole-found : (named : Bool) (p : Program) (L : List Atoms) (best : Option (Atoms × List ℤ)) (known : Option Atoms) →
+    IsFound named p Opt L best known → IsWhole true Finished best → IsAllFound true named p Opt L best known
 whole-found named p L None known found whole = (found.0 ∙ sym (optima-none p found.1), found.1)
 whole-found named p L (Some b) known found whole = absurd whole
 
-whole-says : (p : Program) (mode : Mode) (n : ℕ) (named : Bool) (r : Report) (e : End) → IsWhole true e r.results.best → Says p (asks mode n named) r e → Says p (record { mode = mode; models = n; all_optima = true; by_name = named }) r e
+whole-says : (p : Program) (mode : Mode) (n : ℕ) (named : Bool) (r : Report) (e : End) → IsWhole true e r.results.best →
+    Says p (asks mode n named) r e → Says p (record { mode = mode; models = n; all_optima = true; by_name = named }) r e
 whole-says p Enum n named r Finished whole h = h
 whole-says p Enum n named r Limited whole h = record { listing = refl; some = h.some; count = h.count; part = h.part; best = tt }
 whole-says p Enum n named r Unfinished whole h = h
@@ -397,7 +432,8 @@ whole-says p Opt n named r Unfinished whole h = ((((λ S. false), h.0.0 ∙ sym 
     none-chosen [] = refl
     none-chosen (S ∷ L) = none-chosen L
 
-alone-by : (all named : Bool) (p : Program) (mode : Mode) (n units : ℕ) (r : Report) → IsReport p (asks mode n named) units r → r.second ≡ None → IsWhole all r.results.end r.results.best → IsReport p (record { mode = mode; models = n; all_optima = all; by_name = named }) units r
+alone-by : (all named : Bool) (p : Program) (mode : Mode) (n units : ℕ) (r : Report) → IsReport p (asks mode n named) units r → r.second ≡ None →
+    IsWhole all r.results.end r.results.best → IsReport p (record { mode = mode; models = n; all_optima = all; by_name = named }) units r
 alone-by false named p mode n units r is alone whole = is
 alone-by true named p mode n units r is alone whole = record {
   mode_is = is.mode_is;
@@ -409,8 +445,10 @@ alone-by true named p mode n units r is alone whole = record {
   known = is.known;
   untold = is.untold;
   least = is.least;
-  played = subst (λ (o : Option (List Event)). IsPlayedBy o p (record { mode = mode; models = n; all_optima = true; by_name = named }) units r) (sym alone) (subst (λ (o : Option (List Event)). IsPlayedBy o p (asks mode n named) units r) alone is.played);
+  played = subst (λ (o : Option (List Event)). IsPlayedBy o p (record { mode = mode; models = n; all_optima = true; by_name = named }) units r)
+      (sym alone) (subst (λ (o : Option (List Event)). IsPlayedBy o p (asks mode n named) units r) alone is.played);
 }
 
-pub alone-reports : (p : Program) (ask : Ask) (units : ℕ) (r : Report) → IsReport p (asks ask.mode ask.models ask.by_name) units r → r.second ≡ None → IsWhole ask.all_optima r.results.end r.results.best → IsReport p ask units r
+pub alone-reports : (p : Program) (ask : Ask) (units : ℕ) (r : Report) → IsReport p (asks ask.mode ask.models ask.by_name) units r → r.second ≡ None →
+    IsWhole ask.all_optima r.results.end r.results.best → IsReport p ask units r
 alone-reports p ask units r = alone-by ask.all_optima ask.by_name p ask.mode ask.models units r

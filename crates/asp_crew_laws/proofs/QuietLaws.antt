@@ -66,11 +66,13 @@ module _ (t : Task) (P Q : ℕ → Bool) (journal : List Event) where
       here true f h = f refl
       here false f h = g h
 
-  cut-in : (u v : List Event) (a b : List Event) → Cut a b u v → AllByRecursion (λ e. P (maker e) ≡ true → IsBack e) b → AllByRecursion (λ e. Q (maker e) ≡ true → IsBack e) v → AllByRecursion (λ e. (P (maker e) || Q (maker e)) ≡ true → IsBack e) v
+  cut-in : (u v : List Event) (a b : List Event) → Cut a b u v → AllByRecursion (λ e. P (maker e) ≡ true → IsBack e) b →
+      AllByRecursion (λ e. Q (maker e) ≡ true → IsBack e) v → AllByRecursion (λ e. (P (maker e) || Q (maker e)) ≡ true → IsBack e) v
   cut-in u v a b k p q = all-join (λ e. P (maker e) ≡ true → IsBack e) (λ e. Q (maker e) ≡ true → IsBack e) (λ e. (P (maker e) || Q (maker e)) ≡ true → IsBack e) either-back v
       (back-append (λ e. P (maker e) ≡ true → IsBack e) k.mid v (subst (AllByRecursion (λ e. P (maker e) ≡ true → IsBack e)) k.back p)) q
 
-  cut-out : (u v : List Event) (a b : List Event) → Cut u v a b → AllByRecursion (λ e. P (maker e) ≡ true → IsBack e) b → AllByRecursion (λ e. Q (maker e) ≡ true → IsBack e) v → AllByRecursion (λ e. (P (maker e) || Q (maker e)) ≡ true → IsBack e) b
+  cut-out : (u v : List Event) (a b : List Event) → Cut u v a b → AllByRecursion (λ e. P (maker e) ≡ true → IsBack e) b →
+      AllByRecursion (λ e. Q (maker e) ≡ true → IsBack e) v → AllByRecursion (λ e. (P (maker e) || Q (maker e)) ≡ true → IsBack e) b
   cut-out u v a b k p q = all-join (λ e. P (maker e) ≡ true → IsBack e) (λ e. Q (maker e) ≡ true → IsBack e) (λ e. (P (maker e) || Q (maker e)) ≡ true → IsBack e) either-back b p
       (back-append (λ e. Q (maker e) ≡ true → IsBack e) k.mid b (subst (AllByRecursion (λ e. Q (maker e) ≡ true → IsBack e)) k.back q))
 
@@ -116,7 +118,8 @@ closed-from i (n ∷ nodes) o h = here n.status refl o (sum_by-cons (λ (x : Nod
         ∙ rest (ap (λ s. cond (is_open s) (i ∷ open_from (suc i) nodes) (open_from (suc i) nodes)) q ∙ o) (omega (arith, c, h))
 
 -- Where all numbers that still did something found no leaf open, and none is held, every leaf is closed.
-pub quiet-closed : (t : Task) (by : ℕ → Bool) (journal : List Event) → Quiet t by journal → ((n : ℕ) → by n ≡ true) → held_count (replay t journal).nodes ≡ 0 → all_closed (replay t journal).nodes ≡ true
+pub quiet-closed : (t : Task) (by : ℕ → Bool) (journal : List Event) → Quiet t by journal → ((n : ℕ) → by n ≡ true) →
+    held_count (replay t journal).nodes ≡ 0 → all_closed (replay t journal).nodes ≡ true
 quiet-closed t by journal q all none =
     let same : (replay t journal).nodes ≡ (replay t q.before).nodes =
     ap (λ (l : List Event). (replay t l).nodes) q.is ∙ ap (λ (b : Board). b.nodes) (run-append (start t) q.before q.after)

@@ -86,7 +86,8 @@ below-or (suc n) k = here (cases_lt k (suc n))
     here (inr le) = inr (inl (omega arith, le))
 
 -- what holds of each worker's events holds of all but number 0's
-each-of : (P : Event → Type 0) (workers : ℕ) (xs : List Event) → AllByRecursion (λ e. maker e ≤ workers) xs → ((n : ℕ) → 0 < n → n ≤ workers → AllByRecursion (λ e. maker e ≡ n → P e) xs) → AllByRecursion (λ e. (maker e ≡ 0 → ⊥) → P e) xs
+each-of : (P : Event → Type 0) (workers : ℕ) (xs : List Event) → AllByRecursion (λ e. maker e ≤ workers) xs →
+    ((n : ℕ) → 0 < n → n ≤ workers → AllByRecursion (λ e. maker e ≡ n → P e) xs) → AllByRecursion (λ e. (maker e ≡ 0 → ⊥) → P e) xs
 each-of P workers [] few h = tt
 each-of P workers (x ∷ xs) few h = (λ some. (h (maker x) (omega (arith, some)) few.0).0 refl, each-of P workers xs few.1 (λ n some le. (h n some le).1))
 
@@ -111,7 +112,14 @@ unshared-worker (event.Lease s n) ne kept u = u
 unshared-worker (event.Back s left burnt) ne kept u = u
 
 quiet-fewer : (t : Task) (P Q : ℕ → Bool) (xs : List Event) → ((n : ℕ) → Q n ≡ true → P n ≡ true) → Quiet t P xs → Quiet t Q xs
-quiet-fewer t P Q xs f q = record { before = q.before; after = q.after; is = q.is; none = q.none; since = each_weaker (λ e. P (maker e) ≡ true → IsBack e) (λ e. Q (maker e) ≡ true → IsBack e) (λ e h s. h (f (maker e) s)) q.after q.since }
+quiet-fewer t P Q xs f q = record {
+  before = q.before;
+  after = q.after;
+  is = q.is;
+  none = q.none;
+  since =
+      each_weaker (λ e. P (maker e) ≡ true → IsBack e) (λ e. Q (maker e) ≡ true → IsBack e) (λ e h s. h (f (maker e) s)) q.after q.since;
+}
 
 rest-is : (begun rest : List Event) → drop (length begun) (begun ++ rest) ≡ rest
 rest-is [] rest = refl
@@ -202,7 +210,8 @@ module _ (t : Task) (workers : ℕ) (short never : Bool) (begun rest : List Even
       }
 
   quiet-next : (k : ℕ) → Quiet t (λ n. leb n k) (begun ++ rest) → Quiet t (λ n. eqb n (suc k)) (begun ++ rest) → Quiet t (λ n. leb n (suc k)) (begun ++ rest)
-  quiet-next k p q = quiet-fewer t (λ n. leb n k || eqb n (suc k)) (λ n. leb n (suc k)) (begun ++ rest) (λ n h. at n (leb-true n (suc k) h) (cases_eq n (suc k))) (quiet-both t (λ n. leb n k) (λ n. eqb n (suc k)) (begun ++ rest) p q)
+  quiet-next k p q = quiet-fewer t (λ n. leb n k || eqb n (suc k)) (λ n. leb n (suc k)) (begun ++ rest)
+      (λ n h. at n (leb-true n (suc k) h) (cases_eq n (suc k))) (quiet-both t (λ n. leb n k) (λ n. eqb n (suc k)) (begun ++ rest) p q)
     where
       at : (n : ℕ) → n ≤ suc k → (n ≡ suc k) ⊎ (n ≡ suc k → ⊥) → (leb n k || eqb n (suc k)) ≡ true
       at n le (inl e) = or_right (leb n k) (eqb n (suc k)) (eq-eqb n (suc k) e)
@@ -247,7 +256,8 @@ module _ (t : Task) (workers : ℕ) (short never : Bool) (begun rest : List Even
         all-of P f (x ∷ xs) = (f x, all-of P f xs)
     causes-by (inl through) =
         each_weaker (λ e. IsUnshared e → ⊥) (λ e. IsUnshared e → IsCutShort t short never ((begun ++ rest) ++ more)) (λ e h u. absurd (h u)) ((begun ++ rest) ++ more)
-        (each-append (λ e. IsUnshared e → ⊥) (begun ++ rest) more (none-unshared through) (none-more (replay t (begun ++ rest)) more (all-shut through some) (lawful-rest (start t) (begun ++ rest) more lawful)))
+        (each-append (λ e. IsUnshared e → ⊥) (begun ++ rest) more (none-unshared through)
+        (none-more (replay t (begun ++ rest)) more (all-shut through some) (lawful-rest (start t) (begun ++ rest) more lawful)))
 
     -- The run was shared.
     pub shared-when : IsShared t short never ((begun ++ rest) ++ more)

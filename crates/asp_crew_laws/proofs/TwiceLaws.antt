@@ -43,7 +43,8 @@ filter-both : (f g : Atoms → Bool) (L : List Atoms) → filter (λ S. f S && g
 filter-both f g [] = refl
 filter-both f g (S ∷ L) = here (f S) (filter-both f g L)
   where
-    here : (x : Bool) → filter (λ S. f S && g S) L ≡ filter g (filter f L) → cond (x && g S) (S ∷ filter (λ S. f S && g S) L) (filter (λ S. f S && g S) L) ≡ filter g (cond x (S ∷ filter f L) (filter f L))
+    here : (x : Bool) → filter (λ S. f S && g S) L ≡ filter g (filter f L) →
+        cond (x && g S) (S ∷ filter (λ S. f S && g S) L) (filter (λ S. f S && g S) L) ≡ filter g (cond x (S ∷ filter f L) (filter f L))
     here true e = ap (λ (K : List Atoms). cond (g S) (S ∷ K) K) e
     here false e = e
 
@@ -80,7 +81,8 @@ both-unreasoned true y f g e = f refl
 both-unreasoned false y f g e = g e
 
 -- ---- the report of both
-module _ (p : Program) (n units : ℕ) (named : Bool) (first ties : Report) (S : Atoms) (c : List ℤ) (is : IsReport p (asks Opt n named) units first) (alone : first.second ≡ None) (finished : first.results.end ≡ Finished)
+module _ (p : Program) (n units : ℕ) (named : Bool) (first ties : Report) (S : Atoms) (c : List ℤ) (is : IsReport p (asks Opt n named) units first)
+    (alone : first.second ≡ None) (finished : first.results.end ≡ Finished)
     (found : first.results.best ≡ Some (S, c)) (lawful : IsJournalOf (ties_task p n first c) ties.journal) (told : IsToldBy (board_by (ties_task p n first c) ties) ties) where
   first-found : IsFound named p Opt first.results.answers first.results.best first.results.known
   first-found = subst (Says p (asks Opt n named) first) finished is.says
@@ -115,10 +117,13 @@ module _ (p : Program) (n units : ℕ) (named : Bool) (first ties : Report) (S :
       let t : Task = ties_task p n first c in
       let b : Board = board_by (ties_task p n first c) ties in
       let q : Atoms → Bool = λ R. list_any (same_set R) b.answers in
-      let delivered : AllByRecursion (λ T. IsTrue (lists (ties_task p n first c) T) × IsTrue (is_answer (ties_task p n first c) T)) b.answers = subst (λ (x : Task). AllByRecursion (λ T. IsTrue (lists x T) × IsTrue (is_answer x T)) b.answers) task board.delivered in (
+      let delivered : AllByRecursion (λ T. IsTrue (lists (ties_task p n first c) T) × IsTrue (is_answer (ties_task p n first c) T)) b.answers =
+      subst (λ (x : Task). AllByRecursion (λ T. IsTrue (lists x T) × IsTrue (is_answer x T)) b.answers) task board.delivered in (
         q,
         listed
-            ∙ sorted-answers t (λ R. lists t R && q R) b.answers (λ R. all-three (is_answer t R) (lists t R) (q R) (λ h. listed-answers t b.answers R delivered h) (λ h. listed-lists t b.answers R delivered h))
+            ∙ sorted-answers t (λ R. lists t R && q R) b.answers
+            (λ R. all-three (is_answer t R) (lists t R) (q R) (λ h. listed-answers t b.answers R delivered h)
+            (λ h. listed-lists t b.answers R delivered h))
             ∙ filter-both (lists t) q (answers_of t) ∙ ap (filter q) are-optima,
       )
 

@@ -56,7 +56,8 @@ sought-is Opt bound g e = ap sought e
 sought-is (Consequences r) bound g e = e
 
 -- ---- the board went on, and the number's units are as they were
-pub work-on : (b c : Board) (n : ℕ) (mode : Mode) (known : List Atoms) (bound : Option (List ℤ)) (u : Units) → IsAtWork b n mode known bound u → Grows b c → out_of c.out n ≡ out_of b.out n → IsAtWork c n mode known bound u
+pub work-on : (b c : Board) (n : ℕ) (mode : Mode) (known : List Atoms) (bound : Option (List ℤ)) (u : Units) → IsAtWork b n mode known bound u →
+    Grows b c → out_of c.out n ≡ out_of b.out n → IsAtWork c n mode known bound u
 work-on b c n mode known bound u w g out = record {
   goal = subst (λ (t : Task). IsSought mode bound t.goal) (sym g.task) w.goal;
   agrees = agrees-grows b c known bound g w.agrees;
@@ -85,7 +86,11 @@ none-apart (Consequences r) = tt
 pub work-begins : (b : Board) (n : ℕ) (mode : Mode) (named : Bool) (u : Units) → b.task.goal ≡ goal_of mode named → ComesBack b (out_of b.out n) u → IsAtWork b n mode [] None u
 work-begins b n mode named u e units = record {
   goal = sought-first mode named b.task.goal e;
-  agrees = record { excused = λ S h. absurd (false≢true (sym (ap (λ x. x || false) (used-none (sought b.task.goal) b.task.program S)) ∙ h)); recorded = none-recorded (sought b.task.goal) b.task.program (showing_of b); bounded = tt };
+  agrees = record {
+    excused = λ S h. absurd (false≢true (sym (ap (λ x. x || false) (used-none (sought b.task.goal) b.task.program S)) ∙ h));
+    recorded = none-recorded (sought b.task.goal) b.task.program (showing_of b);
+    bounded = tt;
+  };
   apart = none-apart mode;
   kept = none-kept mode;
   units = units;
@@ -107,7 +112,13 @@ bound-ties b c e = subst (λ (g : Goal). IfSome c (IsBoundBy g b.task.program b.
 pub ties-begin : (b : Board) (n : ℕ) (c : Option (List ℤ)) (u : Units) → b.task.goal ≡ goal.Ties c → ComesBack b (out_of b.out n) u → IsAtWork b n Enum [] c u
 ties-begin b n c u e units = record {
   goal = inr e;
-  agrees = record { excused = λ S h. too-dear b c S e (sym (ap (λ x. x || costs_bound b.task.program c S) (used-none (sought b.task.goal) b.task.program S)) ∙ h); recorded = none-recorded (sought b.task.goal) b.task.program (showing_of b); bounded = bound-ties b c e };
+  agrees = record {
+    excused = λ S h. too-dear b c S e
+        (sym (ap (λ x. x || costs_bound b.task.program c S) (used-none (sought b.task.goal) b.task.program S)) ∙ h);
+    recorded =
+        none-recorded (sought b.task.goal) b.task.program (showing_of b);
+    bounded = bound-ties b c e;
+  };
   apart = tt;
   kept = tt;
   units = units;
@@ -149,8 +160,17 @@ least-fits b (Some d) (Some e) h k = here (betters e d)
     here true = k
     here false = h
 
-pub work-burnt : (b : Board) (n : ℕ) (mode : Mode) (known : List Atoms) (bound : Option (List ℤ)) (u : Units) (x : Clash) → IsAtWork b n mode known bound u → 0 < u.left → x.reasoning ≡ reasoning_of mode → x.known ≡ length known → x.bound ≡ bound
-    → IsAtWork b n mode known bound (record { program = u.program; left = u.left - 1; burnt = u.burnt + 1; reasoned = u.reasoned || is_some x.reasoning; known = max u.known x.known; least = least_of u.least x.bound })
+pub work-burnt : (b : Board) (n : ℕ) (mode : Mode) (known : List Atoms) (bound : Option (List ℤ)) (u : Units) (x : Clash) →
+    IsAtWork b n mode known bound u → 0 < u.left → x.reasoning ≡ reasoning_of mode → x.known ≡ length known → x.bound ≡ bound
+    → IsAtWork b n mode known bound (record {
+      program = u.program;
+      left = u.left - 1;
+      burnt = u.burnt + 1;
+      reasoned =
+          u.reasoned || is_some x.reasoning;
+      known = max u.known x.known;
+      least = least_of u.least x.bound;
+    })
 work-burnt b n mode known bound u x w some seeks count under = record {
   goal = w.goal;
   agrees = w.agrees;
@@ -190,7 +210,8 @@ apart-push (T ∷ K) S apart new =
     let parts = or_parts (same_set S T) (list_any (same_set S) K) new in
     (any-push-false T K S apart.0 (same_turned S T parts.0), apart-push K S apart.1 parts.1)
 
-pub work-delivered : (b : Board) (n : ℕ) (S : Atoms) (known : List Atoms) (bound : Option (List ℤ)) (u : Units) → IsAtWork b n Enum known bound u → Guard b (event.Deliver n S) → list_any (same_set S) known ≡ false
+pub work-delivered : (b : Board) (n : ℕ) (S : Atoms) (known : List Atoms) (bound : Option (List ℤ)) (u : Units) → IsAtWork b n Enum known bound u →
+    Guard b (event.Deliver n S) → list_any (same_set S) known ≡ false
     → IsAtWork (happens b (event.Deliver n S)) n Enum (known ++ S ∷ []) bound u
 work-delivered b n S known bound u w guard new = record {
   goal = w.goal;
@@ -210,7 +231,8 @@ work-told b n S r known bound u w guard = record {
   units = (Fits-grows b (happens b (event.Deliver n S)) u (Grows-happens b (event.Deliver n S) guard) w.units.0, w.units.1);
 }
 
-pub work-adopted : (b : Board) (n : ℕ) (r : Reasoning) (known : List Atoms) (bound : Option (List ℤ)) (u : Units) → IsAtWork b n (Consequences r) known bound u → IsAtWork b n (Consequences r) (common_sets r b.task.program (showing_of b)) bound u
+pub work-adopted : (b : Board) (n : ℕ) (r : Reasoning) (known : List Atoms) (bound : Option (List ℤ)) (u : Units) →
+    IsAtWork b n (Consequences r) known bound u → IsAtWork b n (Consequences r) (common_sets r b.task.program (showing_of b)) bound u
 work-adopted b n r known bound u w = record {
   goal = w.goal;
   agrees = agrees-adopted b r known bound (sought-is (Consequences r) bound b.task.goal w.goal) w.agrees;
@@ -229,7 +251,8 @@ work-improved b n S known bound u w guard = record {
   units = (Fits-grows b (happens b (event.Improve n S)) u (Grows-happens b (event.Improve n S) guard) w.units.0, w.units.1);
 }
 
-pub work-unimproved : (b : Board) (n : ℕ) (S B : Atoms) (known : List Atoms) (bound : Option (List ℤ)) (u : Units) → IsAtWork b n Opt known bound u → b.best ≡ Some B → betters (cost b.task.program S) (cost b.task.program B) ≡ false
+pub work-unimproved : (b : Board) (n : ℕ) (S B : Atoms) (known : List Atoms) (bound : Option (List ℤ)) (u : Units) → IsAtWork b n Opt known bound u →
+    b.best ≡ Some B → betters (cost b.task.program S) (cost b.task.program B) ≡ false
     → IsAtWork b n Opt known (Some (cost b.task.program S)) u
 work-unimproved b n S B known bound u w best dearer = record {
   goal = w.goal;
@@ -249,10 +272,27 @@ out_of-leased s n (x ∷ out) = here (eqb x.0 s) refl (out_of-leased s n out)
     here false q rest = ap (λ y. let k : ℕ = cond y x.1 (out_of (leased s n out) s) in k) (sym q) ∙ rest
 
 -- two fuels of the board in one
-pub Fits-merged : (b : Board) (u v : Units) → Fits b u → Fits b v → Fits b (record { program = u.program; left = u.left + v.left; burnt = u.burnt + v.burnt; reasoned = u.reasoned || v.reasoned; known = max u.known v.known; least = least_of u.least v.least })
-Fits-merged b u v f g = record { program = f.program; reasoned = λ e. elim (or_cases u.reasoned v.reasoned e) [ inl x ↦ f.reasoned x | inr x ↦ g.reasoned x ]; known = omega (arith, f.known, g.known); least = least-fits b u.least v.least f.least g.least }
+pub Fits-merged : (b : Board) (u v : Units) → Fits b u → Fits b v →
+    Fits b (record {
+      program = u.program;
+      left = u.left + v.left;
+      burnt = u.burnt + v.burnt;
+      reasoned = u.reasoned || v.reasoned;
+      known =
+          max u.known v.known;
+      least = least_of u.least v.least;
+    })
+Fits-merged b u v f g = record {
+  program = f.program;
+  reasoned =
+      λ e. elim (or_cases u.reasoned v.reasoned e) [ inl x ↦ f.reasoned x | inr x ↦ g.reasoned x ];
+  known = omega (arith, f.known, g.known);
+  least =
+      least-fits b u.least v.least f.least g.least;
+}
 
-pub work-leased : (b : Board) (n k : ℕ) (mode : Mode) (known : List Atoms) (bound : Option (List ℤ)) (u v : Units) → IsAtWork b n mode known bound u → Guard b (event.Lease n k) → v.left + v.burnt ≡ u.left + u.burnt + k → Fits b v
+pub work-leased : (b : Board) (n k : ℕ) (mode : Mode) (known : List Atoms) (bound : Option (List ℤ)) (u v : Units) → IsAtWork b n mode known bound u →
+    Guard b (event.Lease n k) → v.left + v.burnt ≡ u.left + u.burnt + k → Fits b v
     → IsAtWork (happens b (event.Lease n k)) n mode known bound v
 work-leased b n k mode known bound u v w guard sum fits =
     let g : Grows b (happens b (event.Lease n k)) = Grows-happens b (event.Lease n k) guard in
@@ -285,11 +325,13 @@ pub may-optimise : (t : Task) → t.goal ≡ goal.Opt → IsTrue (optimises t.go
 may-optimise t e = ap optimises e
 
 -- ---- a conflict that is met
-settled-board : (b : Board) (known : List Atoms) (bound : Option (List ℤ)) (way : List Literal) → Agrees b known bound → Settled b.task.program (used_by b known) bound way → Settled b.task.program (used b) (bound_of b) way
+settled-board : (b : Board) (known : List Atoms) (bound : Option (List ℤ)) (way : List Literal) → Agrees b known bound →
+    Settled b.task.program (used_by b known) bound way → Settled b.task.program (used b) (bound_of b) way
 settled-board b known bound way a h = HitsOnly-weaker b.task.program (is_done b.task.program (used_by b known) bound) (is_excused b) way a.excused h
 
 -- A conflict of the search is one by what was recorded.
-pub work-met : (b : Board) (n : ℕ) (mode : Mode) (known : List Atoms) (bound : Option (List ℤ)) (u : Units) (x : Clash) → IsAtWork b n mode known bound u → x.program ≡ b.task.program → x.reasoning ≡ reasoning_of mode → x.known ≡ length known → x.bound ≡ bound
+pub work-met : (b : Board) (n : ℕ) (mode : Mode) (known : List Atoms) (bound : Option (List ℤ)) (u : Units) (x : Clash) →
+    IsAtWork b n mode known bound u → x.program ≡ b.task.program → x.reasoning ≡ reasoning_of mode → x.known ≡ length known → x.bound ≡ bound
     → IsConflict b.task.program (used_up (reasoning_of mode) b.task.program known) bound x.cube x.decisions x.nogood → IsMet b x
 work-met b n mode known bound u x w program seeks count under conflict =
     let is : sought b.task.goal ≡ reasoning_of mode = sought-is mode bound b.task.goal w.goal in

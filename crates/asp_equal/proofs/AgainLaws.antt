@@ -37,13 +37,16 @@ all-same : (S T : Atoms) → ((a : ℕ) → has S a ≡ has T a) → (ls : List 
 all-same S T h [] = refl
 all-same S T h (l ∷ ls) = ap (λ (b : Bool). b && all_hold S ls) (holds-same S T h l) ∙ ap (λ (b : Bool). holds T l && b) (all-same S T h ls)
 
-texts-same : (S T : Atoms) → ((a : ℕ) → has S a ≡ has T a) → (os : List Output) → map (λ (o : Output). o.text) (filter (λ (o : Output). all_hold S o.condition) os) ≡ map (λ (o : Output). o.text) (filter (λ (o : Output). all_hold T o.condition) os)
+texts-same : (S T : Atoms) → ((a : ℕ) → has S a ≡ has T a) → (os : List Output) →
+    map (λ (o : Output). o.text) (filter (λ (o : Output). all_hold S o.condition) os) ≡ map (λ (o : Output). o.text)
+    (filter (λ (o : Output). all_hold T o.condition) os)
 texts-same S T h [] = refl
 texts-same S T h (o ∷ os) =
     ap (λ (b : Bool). map (λ (x : Output). x.text) (cond b (o ∷ filter (λ (x : Output). all_hold S x.condition) os) (filter (λ (x : Output). all_hold S x.condition) os))) (all-same S T h o.condition)
     ∙ by (all_hold T o.condition) (filter (λ (x : Output). all_hold S x.condition) os) (filter (λ (x : Output). all_hold T x.condition) os) (texts-same S T h os)
   where
-    by : (b : Bool) (xs ys : List Output) → map (λ (x : Output). x.text) xs ≡ map (λ (x : Output). x.text) ys → map (λ (x : Output). x.text) (cond b (o ∷ xs) xs) ≡ map (λ (x : Output). x.text) (cond b (o ∷ ys) ys)
+    by : (b : Bool) (xs ys : List Output) → map (λ (x : Output). x.text) xs ≡ map (λ (x : Output). x.text) ys →
+        map (λ (x : Output). x.text) (cond b (o ∷ xs) xs) ≡ map (λ (x : Output). x.text) (cond b (o ∷ ys) ys)
     by true xs ys e = ap (λ (ts : List (List ℕ)). o.text ∷ ts) e
     by false xs ys e = e
 
@@ -67,9 +70,13 @@ copied_stands a b head.Never x other e = absurd (other (sym e))
 abbrev joins : ℕ → ℕ → Rule → Bool
 joins a b r = has_head a r && has (body_atoms r.body) b
 
-joined_step : (a b : ℕ) → (a ≡ 0 → ⊥) → (b ≡ a → ⊥) → (r : Rule) (rs : List Rule) (c : Bool) → (fold (noted a) 0 rs ≡ b → list_any (joins a b) rs ≡ true) → has_head a r ≡ c → fold (noted a) (cond c (copied a r.head r.body) 0) rs ≡ b → (joins a b r || list_any (joins a b) rs) ≡ true
+joined_step : (a b : ℕ) → (a ≡ 0 → ⊥) → (b ≡ a → ⊥) → (r : Rule) (rs : List Rule) (c : Bool) →
+    (fold (noted a) 0 rs ≡ b → list_any (joins a b) rs ≡ true) → has_head a r ≡ c → fold (noted a) (cond c (copied a r.head r.body) 0) rs ≡ b →
+    (joins a b r || list_any (joins a b) rs) ≡ true
 joined_step a b some other r rs true later t k =
-    or_left (joins a b r) (list_any (joins a b) rs) (and_from (has_head a r) (has (body_atoms r.body) b) t (copied_stands a b r.head r.body other (known-kept a b (copied a r.head r.body) some (copied-known a some r.head r.body) other rs k).0))
+    or_left (joins a b r) (list_any (joins a b) rs)
+    (and_from (has_head a r) (has (body_atoms r.body) b) t
+    (copied_stands a b r.head r.body other (known-kept a b (copied a r.head r.body) some (copied-known a some r.head r.body) other rs k).0))
 joined_step a b some other r rs false later t k = or_right (joins a b r) (list_any (joins a b) rs) (later k)
 
 joined : (a b : ℕ) → (a ≡ 0 → ⊥) → (b ≡ 0 → ⊥) → (b ≡ a → ⊥) → (rs : List Rule) → fold (noted a) 0 rs ≡ b → list_any (joins a b) rs ≡ true
@@ -83,7 +90,10 @@ rule_atoms r = head_atoms r.head ++ body_atoms r.body
 stands-rules : (p : Program) (a : ℕ) → list_any (λ r. has (rule_atoms r) a) p.rules ≡ true → has (atoms_of p) a ≡ true
 stands-rules p a h =
     has-set_of (mentions p) a
-    ∙ list_any-append (λ b. eqb b a) _ _ ∙ or_left _ _ (list_any-append (λ b. eqb b a) _ _ ∙ or_left _ _ (list_any-append (λ b. eqb b a) _ _ ∙ or_left _ _ (list_any-append (λ b. eqb b a) _ _ ∙ or_left _ _ (list_any-flat_map (λ b. eqb b a) rule_atoms p.rules ∙ h))))
+    ∙ list_any-append (λ b. eqb b a) _ _ ∙ or_left _ _
+    (list_any-append (λ b. eqb b a) _ _ ∙ or_left _ _
+    (list_any-append (λ b. eqb b a) _ _ ∙ or_left _ _
+    (list_any-append (λ b. eqb b a) _ _ ∙ or_left _ _ (list_any-flat_map (λ b. eqb b a) rule_atoms p.rules ∙ h))))
 
 head-stands : (a b : ℕ) (r : Rule) → joins a b r ≡ true → has (rule_atoms r) a ≡ true
 head-stands a b r h = list_any-append (λ c. eqb c a) (head_atoms r.head) (body_atoms r.body) ∙ grind arith

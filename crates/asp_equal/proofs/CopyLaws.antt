@@ -58,7 +58,9 @@ copies-say m S a (suc k) =
     ∙ ap (λ b. (nat_lt a k && goes m S a) || b) (one-says m S a k (eqb (m k) k))
     ∙ elim (cases_eq k a) [
       | inl e ↦ at_place m S a k e
-      | inr e ↦ ap (λ b. (nat_lt a k && goes m S a) || b) (and-false (not (eqb (m k) k)) (has S (m k) && eqb k a) (and-false (has S (m k)) (eqb k a) (ne_eqb k a e))) ∙ or-nil (nat_lt a k && goes m S a) ∙ ap (λ b. b && goes m S a) (other_place a k e)
+      | inr e ↦ ap (λ b. (nat_lt a k && goes m S a) || b)
+          (and-false (not (eqb (m k) k)) (has S (m k) && eqb k a) (and-false (has S (m k)) (eqb k a) (ne_eqb k a e)))
+          ∙ or-nil (nat_lt a k && goes m S a) ∙ ap (λ b. b && goes m S a) (other_place a k e)
     ]
 
 -- which atoms go
@@ -83,7 +85,8 @@ copies-gone m a (suc k) =
     ∙ ap (λ b. (nat_lt a k && not (eqb (m a) a)) || b) (one-gone m a k (eqb (m k) k))
     ∙ elim (cases_eq k a) [
       | inl e ↦ gone-place m a k e
-      | inr e ↦ ap (λ b. (nat_lt a k && not (eqb (m a) a)) || b) (and-false (not (eqb (m k) k)) (eqb k a) (ne_eqb k a e)) ∙ or-nil (nat_lt a k && not (eqb (m a) a)) ∙ ap (λ b. b && not (eqb (m a) a)) (other_place a k e)
+      | inr e ↦ ap (λ b. (nat_lt a k && not (eqb (m a) a)) || b) (and-false (not (eqb (m k) k)) (eqb k a) (ne_eqb k a e))
+          ∙ or-nil (nat_lt a k && not (eqb (m a) a)) ∙ ap (λ b. b && not (eqb (m a) a)) (other_place a k e)
     ]
 
 reading : (h low c g : Bool) → (c ≡ true → h ≡ g) → (c ≡ false → low ≡ true) → ((not (low && not c) && h) || (low && (not c && g))) ≡ g
@@ -97,7 +100,9 @@ extended-reads m n far S a =
     let copies = copies_below m n in
     has-fold (filter (λ b. not (has (gone copies) b)) S) (back copies S) a
     ∙ ap (λ b. b || has (back copies S) a) (has-filter (λ b. not (has (gone copies) b)) S a ∙ ap (λ b. not b && has S a) (copies-gone m a n))
-    ∙ ap (λ b. (not (nat_lt a n && not (eqb (m a) a)) && has S a) || b) (list_any-map (λ b. eqb b a) (λ (c : ℕ × ℕ). c.0) (filter (λ c. has S c.1) copies) ∙ list_any-filter (λ (c : ℕ × ℕ). eqb c.0 a) (λ (c : ℕ × ℕ). has S c.1) copies ∙ copies-say m S a n)
+    ∙ ap (λ b. (not (nat_lt a n && not (eqb (m a) a)) && has S a) || b)
+    (list_any-map (λ b. eqb b a) (λ (c : ℕ × ℕ). c.0) (filter (λ c. has S c.1) copies)
+    ∙ list_any-filter (λ (c : ℕ × ℕ). eqb c.0 a) (λ (c : ℕ × ℕ). has S c.1) copies ∙ copies-say m S a n)
     ∙ reading (has S a) (nat_lt a n) (eqb (m a) a) (has S (m a)) (λ e. ap (has S) (sym (eqb-true (m a) a e)))
     (λ e. elim (cases_lt a n) [ inl lt ↦ lt-ltb a n lt | inr ge ↦ absurd (both_ways (eqb (m a) a) e (eq-eqb (m a) a (far a ge))) ])
 
@@ -109,7 +114,8 @@ pub extended-ascends : (copies : List (ℕ × ℕ)) (S : Atoms) → IsAscending 
 extended-ascends copies S up = with-ascends (back copies S) (filter (λ a. not (has (gone copies) a)) S) (ascends-filter (λ a. not (has (gone copies) a)) S up)
 
 -- a list of the atoms of the set that stay and of those that went
-pub extended-from : (copies : List (ℕ × ℕ)) (S G : Atoms) (atoms : List ℕ) → IsAscending S → G ≡ set_of (gone copies) → atoms ≡ filter (λ a. not (has G a)) S ++ back copies S → set_of atoms ≡ extended copies S
+pub extended-from : (copies : List (ℕ × ℕ)) (S G : Atoms) (atoms : List ℕ) → IsAscending S → G ≡ set_of (gone copies) →
+    atoms ≡ filter (λ a. not (has G a)) S ++ back copies S → set_of atoms ≡ extended copies S
 extended-from copies S G atoms up is e =
     let stay = filter (λ a. not (has (gone copies) a)) S in
     let same : filter (λ a. not (has G a)) S ≡ stay = filter-atoms (λ a. not (has G a)) (λ a. not (has (gone copies) a)) S (λ a there. ap not (ap (λ T. has T a) is ∙ has-set_of (gone copies) a)) in

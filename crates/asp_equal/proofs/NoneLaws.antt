@@ -95,10 +95,30 @@ output-same o = ap (λ (ls : List ℤ). let x : Output = record { text = o.text;
 
 merged-same : (p : Program) → merged_by itself p ≡ p
 merged-same p =
-    ap (λ (rs : List Rule). let x : Program = record { rules = rs; minimize = map (renamed_minimize itself) p.minimize; outputs = map (renamed_output itself) p.outputs; externals = p.externals; assumptions = map (renamed itself) p.assumptions } in x) (rules-same p.rules)
-    ∙ ap (λ (ms : List Minimize). let x : Program = record { rules = p.rules; minimize = ms; outputs = map (renamed_output itself) p.outputs; externals = p.externals; assumptions = map (renamed itself) p.assumptions } in x) (map-id (renamed_minimize itself) statement-same p.minimize)
-    ∙ ap (λ (os : List Output). let x : Program = record { rules = p.rules; minimize = p.minimize; outputs = os; externals = p.externals; assumptions = map (renamed itself) p.assumptions } in x) (map-id (renamed_output itself) output-same p.outputs)
-    ∙ ap (λ (ls : List ℤ). let x : Program = record { rules = p.rules; minimize = p.minimize; outputs = p.outputs; externals = p.externals; assumptions = ls } in x) (map-id (renamed itself) literal-same p.assumptions)
+    ap (λ (rs : List Rule). let x : Program =
+    record {
+      rules = rs;
+      minimize = map (renamed_minimize itself) p.minimize;
+      outputs = map (renamed_output itself) p.outputs;
+      externals =
+          p.externals;
+      assumptions = map (renamed itself) p.assumptions;
+    } in x) (rules-same p.rules)
+    ∙ ap (λ (ms : List Minimize). let x : Program =
+    record {
+      rules = p.rules;
+      minimize = ms;
+      outputs = map (renamed_output itself) p.outputs;
+      externals = p.externals;
+      assumptions =
+          map (renamed itself) p.assumptions;
+    } in x) (map-id (renamed_minimize itself) statement-same p.minimize)
+    ∙ ap (λ (os : List Output). let x : Program =
+    record { rules = p.rules; minimize = p.minimize; outputs = os; externals = p.externals; assumptions = map (renamed itself) p.assumptions }
+    in x) (map-id (renamed_output itself) output-same p.outputs)
+    ∙ ap (λ (ls : List ℤ). let x : Program =
+    record { rules = p.rules; minimize = p.minimize; outputs = p.outputs; externals = p.externals; assumptions = ls } in x)
+    (map-id (renamed itself) literal-same p.assumptions)
 
 pub merged-none : (p : Program) → copies_of p ≡ [] → merged_of p ≡ p
 merged-none p e = (λ i. merged_by (λ a. each-stays p e a i) p) ∙ merged-same p

@@ -96,7 +96,8 @@ external-merged m a value.True e = ap (λ b. record { head = head.One b; body = 
 external-merged m a value.False e = refl
 external-merged m a value.Release e = refl
 
-externals-merged : (m : ℕ → ℕ) (es : List External) (L : List ℕ) → AllByRecursion (λ a. m a ≡ a) L → flat_map (merged_rule m) (flat_map (λ a. external_rule a (last_value es a)) L) ≡ flat_map (λ a. external_rule a (last_value es a)) L
+externals-merged : (m : ℕ → ℕ) (es : List External) (L : List ℕ) → AllByRecursion (λ a. m a ≡ a) L →
+    flat_map (merged_rule m) (flat_map (λ a. external_rule a (last_value es a)) L) ≡ flat_map (λ a. external_rule a (last_value es a)) L
 externals-merged m es [] all = refl
 externals-merged m es (a ∷ L) all =
     flat_map-append (merged_rule m) (external_rule a (last_value es a)) (flat_map (λ b. external_rule b (last_value es b)) L)
@@ -121,5 +122,7 @@ pub force-merged : (m : ℕ → ℕ) (p : Program) → AreAlone m p → rules_in
 force-merged m p alone =
     ap (λ L. flat_map (merged_rule m) p.rules ++ flat_map (λ a. external_rule a (last_value p.externals a)) L) (open-merged m p alone)
     ∙ ap (λ rs. flat_map (merged_rule m) p.rules ++ rs) (sym (externals-merged m p.externals (open_atoms p) (each-member (λ a. m a ≡ a) (open_atoms p) (λ a h.
-    (alone a (sym (has-set_of (named p) a) ∙ (and_parts (not (has (heads_of p.rules) a)) (has (set_of (named p)) a) (sym (has-filter (λ b. not (has (heads_of p.rules) b)) (set_of (named p)) a) ∙ h)).1)).0))))
+    (alone a (sym (has-set_of (named p) a) ∙
+    (and_parts (not (has (heads_of p.rules) a)) (has (set_of (named p)) a)
+    (sym (has-filter (λ b. not (has (heads_of p.rules) b)) (set_of (named p)) a) ∙ h)).1)).0))))
     ∙ sym (flat_map-append (merged_rule m) p.rules (opened_rules p))

@@ -83,7 +83,9 @@ all-consequences p w h =
     ∙ ap (option_map (united (facts_of p))) (results.all-consequences (goes_by q) (copied p) q (merged_of q) (has-results q (sound p h)) w)
     ∙ option-map (united (facts_of p)) (copied p) (consequences_of w (merged_of q) (answers (merged_of q)))
 
-pub some-consequences : (p : Program) (w : Reasoning) (chosen : Atoms → Bool) → IsSound p → consequences_of w p (map (whole p) (filter chosen (answers (reduced p)))) ≡ option_map (whole p) (consequences_of w (reduced p) (filter chosen (answers (reduced p))))
+pub some-consequences : (p : Program) (w : Reasoning) (chosen : Atoms → Bool) → IsSound p →
+    consequences_of w p (map (whole p) (filter chosen (answers (reduced p)))) ≡ option_map (whole p)
+    (consequences_of w (reduced p) (filter chosen (answers (reduced p))))
 some-consequences p w chosen h =
     let q = left_of p in
     let r = has-results q (sound p h) in

@@ -65,10 +65,12 @@ all-each h f g [] e = refl
 all-each h f g (x ∷ xs) e = ap (λ b. b && list_all f (map h xs)) e.0 ∙ ap (λ b. g x && b) (all-each h f g xs e.1)
 
 -- ---- optima
-any-better : (m : ℕ → ℕ) (x : Atoms → Atoms) (p q : Program) (c : List ℤ) (Ss : List Atoms) → AllByRecursion (IsOther m x p q) Ss → list_any (λ T. betters (cost p T) c) (map x Ss) ≡ list_any (λ T. betters (cost q T) c) Ss
+any-better : (m : ℕ → ℕ) (x : Atoms → Atoms) (p q : Program) (c : List ℤ) (Ss : List Atoms) → AllByRecursion (IsOther m x p q) Ss →
+    list_any (λ T. betters (cost p T) c) (map x Ss) ≡ list_any (λ T. betters (cost q T) c) Ss
 any-better m x p q c Ss all =
     list_any-map (λ T. betters (cost p T) c) x Ss
-    ∙ any-each (λ T. betters (cost p (x T)) c) (λ T. betters (cost q T) c) Ss (each_weaker (IsOther m x p q) (λ T. betters (cost p (x T)) c ≡ betters (cost q T) c) (λ T o. ap (λ d. betters d c) o.costs) Ss all)
+    ∙ any-each (λ T. betters (cost p (x T)) c) (λ T. betters (cost q T) c) Ss
+    (each_weaker (IsOther m x p q) (λ T. betters (cost p (x T)) c ≡ betters (cost q T) c) (λ T o. ap (λ d. betters d c) o.costs) Ss all)
 
 abbrev is_best : Program → List Atoms → Atoms → Bool
 is_best p Ss S = not (list_any (λ T. betters (cost p T) (cost p S)) Ss)
@@ -90,10 +92,13 @@ optimum-merged m x p q g S c o =
     }
 
 -- ---- some of the answers
-chosen_of : (m : ℕ → ℕ) (x : Atoms → Atoms) (p q : Program) → HasResultsOf m x p q → (chosen : Atoms → Bool) (Ss : List Atoms) → AllByRecursion (IsOther m x p q) Ss → map x (filter chosen Ss) ≡ filter (λ S. chosen (kept m S)) (map x Ss)
+chosen_of : (m : ℕ → ℕ) (x : Atoms → Atoms) (p q : Program) → HasResultsOf m x p q → (chosen : Atoms → Bool) (Ss : List Atoms) →
+    AllByRecursion (IsOther m x p q) Ss → map x (filter chosen Ss) ≡ filter (λ S. chosen (kept m S)) (map x Ss)
 chosen_of m x p q g chosen Ss all =
     sym (filter-map (λ S. chosen (kept m S)) x Ss
-    ∙ ap (map x) (filter-same (λ S. chosen (kept m (x S))) chosen Ss (each_weaker (IsOther m x p q) (λ S. chosen (kept m (x S)) ≡ chosen S) (λ S o. ap chosen (kept-extended m (x S) S (g.is.ascends S o.ascending) o.ascending o.apart o.reads)) Ss all)))
+    ∙ ap (map x) (filter-same (λ S. chosen (kept m (x S))) chosen Ss
+    (each_weaker (IsOther m x p q) (λ S. chosen (kept m (x S)) ≡ chosen S)
+    (λ S o. ap chosen (kept-extended m (x S) S (g.is.ascends S o.ascending) o.ascending o.apart o.reads)) Ss all)))
 
 pub chosen-merged : (m : ℕ → ℕ) (x : Atoms → Atoms) (p q : Program) → HasResultsOf m x p q → (chosen : Atoms → Bool) → map x (filter chosen (answers q)) ≡ filter (λ S. chosen (kept m S)) (answers p)
 chosen-merged m x p q g chosen = chosen_of m x p q g chosen (answers q) (others m x p q g) ∙ ap (filter (λ S. chosen (kept m S))) (sym (same-answers m x p q g))
@@ -130,7 +135,8 @@ pub record IsHeld (m : ℕ → ℕ) (p q : Program) (a b : ℕ) : Type 0 where
   pub left : has (atoms_of q) b ≡ true
   pub stands : has (atoms_of p) a ≡ true
 
-held-stands : (m : ℕ → ℕ) (x : Atoms → Atoms) (p q : Program) (w : Reasoning) (S : Atoms) (K : List Atoms) (a b : ℕ) → AllByRecursion (IsOther m x p q) (S ∷ K) → m a ≡ b → held_by w (S ∷ K) b ≡ true → IsHeld m p q a b
+held-stands : (m : ℕ → ℕ) (x : Atoms → Atoms) (p q : Program) (w : Reasoning) (S : Atoms) (K : List Atoms) (a b : ℕ) →
+    AllByRecursion (IsOther m x p q) (S ∷ K) → m a ≡ b → held_by w (S ∷ K) b ≡ true → IsHeld m p q a b
 held-stands m x p q w S K a b all e h =
     one_passes (IsHeld m p q a b) (λ T. has T b) (S ∷ K) (each_weaker (IsOther m x p q) (λ T. has T b ≡ true → IsHeld m p q a b) (λ T o t.
     record { left = (stable-subset q T o.stable).1 b t; stands = (stable-subset p (x T) o.whole).1 a (o.reads a ∙ ap (has T) e ∙ t) }) (S ∷ K) all) (held-some w S K b h)
@@ -139,20 +145,24 @@ same_both : (h s t : Bool) → (h ≡ true → (s ≡ true) × (t ≡ true)) →
 same_both true s t k = (k refl).1 ∙ sym (k refl).0
 same_both false s t k = refl
 
-common-merged : (m : ℕ → ℕ) (x : Atoms → Atoms) (p q : Program) → HasResultsOf m x p q → (w : Reasoning) (S : Atoms) (K : List Atoms) → AllByRecursion (IsOther m x p q) (S ∷ K) → consequences w p (map x (S ∷ K)) ≡ x (consequences w q (S ∷ K))
+common-merged : (m : ℕ → ℕ) (x : Atoms → Atoms) (p q : Program) → HasResultsOf m x p q → (w : Reasoning) (S : Atoms) (K : List Atoms) →
+    AllByRecursion (IsOther m x p q) (S ∷ K) → consequences w p (map x (S ∷ K)) ≡ x (consequences w q (S ∷ K))
 common-merged m x p q g w S K all =
-    same_from_has (consequences w p (map x (S ∷ K))) (x (consequences w q (S ∷ K))) (consequences-ascend w p (map x (S ∷ K))) (g.is.ascends (consequences w q (S ∷ K)) (consequences-ascend w q (S ∷ K))) (λ a.
+    same_from_has (consequences w p (map x (S ∷ K))) (x (consequences w q (S ∷ K))) (consequences-ascend w p (map x (S ∷ K)))
+    (g.is.ascends (consequences w q (S ∷ K)) (consequences-ascend w q (S ∷ K))) (λ a.
     has-consequences w p (map x (S ∷ K)) a
     ∙ ap (λ b. b && has (atoms_of p) a) (held-read m x p q w (S ∷ K) a all)
     ∙ same_both (held_by w (S ∷ K) (m a)) (has (atoms_of q) (m a)) (has (atoms_of p) a) (λ h. let t = held-stands m x p q w S K a (m a) all refl h in (t.left, t.stands))
     ∙ sym (g.is.reads (consequences w q (S ∷ K)) a ∙ has-consequences w q (S ∷ K) (m a)))
 
-common-of : (m : ℕ → ℕ) (x : Atoms → Atoms) (p q : Program) → HasResultsOf m x p q → (w : Reasoning) (K : List Atoms) → AllByRecursion (IsOther m x p q) K → consequences_of w p (map x K) ≡ option_map x (consequences_of w q K)
+common-of : (m : ℕ → ℕ) (x : Atoms → Atoms) (p q : Program) → HasResultsOf m x p q → (w : Reasoning) (K : List Atoms) →
+    AllByRecursion (IsOther m x p q) K → consequences_of w p (map x K) ≡ option_map x (consequences_of w q K)
 common-of m x p q g w [] all = refl
 common-of m x p q g w (S ∷ K) all = ap (λ C. Some C) (common-merged m x p q g w S K all)
 
 pub all-consequences : (m : ℕ → ℕ) (x : Atoms → Atoms) (p q : Program) → HasResultsOf m x p q → (w : Reasoning) → consequences_of w p (answers p) ≡ option_map x (consequences_of w q (answers q))
 all-consequences m x p q g w = ap (consequences_of w p) (same-answers m x p q g) ∙ common-of m x p q g w (answers q) (others m x p q g)
 
-pub some-consequences : (m : ℕ → ℕ) (x : Atoms → Atoms) (p q : Program) → HasResultsOf m x p q → (w : Reasoning) (chosen : Atoms → Bool) → consequences_of w p (map x (filter chosen (answers q))) ≡ option_map x (consequences_of w q (filter chosen (answers q)))
+pub some-consequences : (m : ℕ → ℕ) (x : Atoms → Atoms) (p q : Program) → HasResultsOf m x p q → (w : Reasoning) (chosen : Atoms → Bool) →
+    consequences_of w p (map x (filter chosen (answers q))) ≡ option_map x (consequences_of w q (filter chosen (answers q)))
 some-consequences m x p q g w chosen = common-of m x p q g w (filter chosen (answers q)) (each-filter (IsOther m x p q) chosen (answers q) (others m x p q g))

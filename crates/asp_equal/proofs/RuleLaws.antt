@@ -60,7 +60,8 @@ or-nil : (b : Bool) → (b || false) ≡ b
 or-nil true = refl
 or-nil false = refl
 
-pub copying-held : (m : ℕ → ℕ) (X Y T : Atoms) → Reads m Y T → (h : Head) (b : Body) (a : ℕ) → is_copying m h b ≡ true → has (reduct_heads X h) a ≡ true → body_holds_between X Y b ≡ true → has Y a ≡ true
+pub copying-held : (m : ℕ → ℕ) (X Y T : Atoms) → Reads m Y T → (h : Head) (b : Body) (a : ℕ) → is_copying m h b ≡ true →
+    has (reduct_heads X h) a ≡ true → body_holds_between X Y b ≡ true → has Y a ≡ true
 copying-held m X Y T s (head.One c) (body.All []) a copy there holding = absurd (false≢true copy)
 copying-held m X Y T s (head.One c) (body.All (l ∷ [])) a copy there holding =
     same_read m X Y T s c a l copy (eqb-true c a (sym (or-nil (eqb c a)) ∙ there)) (and_parts (holds_between X Y l) true holding).0
@@ -75,21 +76,24 @@ never-copying m (head.Choice atoms) b copy = refl
 never-copying m head.Never b copy = absurd (false≢true copy)
 
 -- ---- one rule
-pub rule-there : (m : ℕ → ℕ) (X S Y T : Atoms) → IsProper m → Reads m X S → Reads m Y T → (a : ℕ) (r : Rule) → derives_at X Y a r ≡ true → (list_any (derives_at S T (m a)) (merged_rule m r) ≡ true) ⊎ (has Y a ≡ true)
+pub rule-there : (m : ℕ → ℕ) (X S Y T : Atoms) → IsProper m → Reads m X S → Reads m Y T → (a : ℕ) (r : Rule) → derives_at X Y a r ≡ true →
+    (list_any (derives_at S T (m a)) (merged_rule m r) ≡ true) ⊎ (has Y a ≡ true)
 rule-there m X S Y T proper r s a rule h = by (is_copying m rule.head rule.body) refl
   where
     parts : (has (reduct_heads X rule.head) a ≡ true) × (body_holds_between X Y rule.body ≡ true)
     parts = and_parts (has (reduct_heads X rule.head) a) (body_holds_between X Y rule.body) h
 
     derived : derives_at S T (m a) (renamed_rule m rule) ≡ true
-    derived = and_from (has (reduct_heads S (renamed_head m rule.head)) (m a)) (body_holds_between S T (renamed_body m rule.body)) (head-there m X S r rule.head a parts.0) (body-between m X S Y T proper r s rule.body ∙ parts.1)
+    derived = and_from (has (reduct_heads S (renamed_head m rule.head)) (m a)) (body_holds_between S T (renamed_body m rule.body))
+        (head-there m X S r rule.head a parts.0) (body-between m X S Y T proper r s rule.body ∙ parts.1)
 
     by : (c : Bool) → is_copying m rule.head rule.body ≡ c → (list_any (derives_at S T (m a)) (cond c [] (renamed_rule m rule ∷ [])) ≡ true) ⊎ (has Y a ≡ true)
     by true e = inr (copying-held m X Y T s rule.head rule.body a e parts.0 parts.1)
     by false e = inl (or_left (derives_at S T (m a) (renamed_rule m rule)) false derived)
 
 -- The rule derives one of the atoms that go by what the merged one derives.
-pub rule-back : (m : ℕ → ℕ) (X S Y T : Atoms) → IsProper m → Reads m X S → Reads m Y T → (c : ℕ) (r : Rule) → list_any (derives_at S T c) (merged_rule m r) ≡ true → (a : ℕ) × (m a ≡ c) × (derives_at X Y a r ≡ true)
+pub rule-back : (m : ℕ → ℕ) (X S Y T : Atoms) → IsProper m → Reads m X S → Reads m Y T → (c : ℕ) (r : Rule) →
+    list_any (derives_at S T c) (merged_rule m r) ≡ true → (a : ℕ) × (m a ≡ c) × (derives_at X Y a r ≡ true)
 rule-back m X S Y T proper r s c rule h = by (is_copying m rule.head rule.body) h
   where
     by : (b : Bool) → list_any (derives_at S T c) (cond b [] (renamed_rule m rule ∷ [])) ≡ true → (a : ℕ) × (m a ≡ c) × (derives_at X Y a rule ≡ true)
@@ -121,7 +125,8 @@ rule-violated m X S proper r rule = by (is_copying m rule.head rule.body) refl
         ∙ ap (λ b. is_never rule.head && b) (body-read m X S proper r rule.body)
 
 -- ---- all rules
-pub rules-there : (m : ℕ → ℕ) (X S Y T : Atoms) → IsProper m → Reads m X S → Reads m Y T → (a : ℕ) (rs : List Rule) → list_any (derives_at X Y a) rs ≡ true → (list_any (derives_at S T (m a)) (flat_map (merged_rule m) rs) ≡ true) ⊎ (has Y a ≡ true)
+pub rules-there : (m : ℕ → ℕ) (X S Y T : Atoms) → IsProper m → Reads m X S → Reads m Y T → (a : ℕ) (rs : List Rule) →
+    list_any (derives_at X Y a) rs ≡ true → (list_any (derives_at S T (m a)) (flat_map (merged_rule m) rs) ≡ true) ⊎ (has Y a ≡ true)
 rules-there m X S Y T proper r s a [] h = absurd (false≢true h)
 rules-there m X S Y T proper r s a (x ∷ rs) h =
     let D = derives_at S T (m a) in
@@ -138,7 +143,8 @@ rules-there m X S Y T proper r s a (x ∷ rs) h =
       ]
     ]
 
-pub rules-back : (m : ℕ → ℕ) (X S Y T : Atoms) → IsProper m → Reads m X S → Reads m Y T → (c : ℕ) (rs : List Rule) → list_any (derives_at S T c) (flat_map (merged_rule m) rs) ≡ true → (a : ℕ) × (m a ≡ c) × (list_any (derives_at X Y a) rs ≡ true)
+pub rules-back : (m : ℕ → ℕ) (X S Y T : Atoms) → IsProper m → Reads m X S → Reads m Y T → (c : ℕ) (rs : List Rule) →
+    list_any (derives_at S T c) (flat_map (merged_rule m) rs) ≡ true → (a : ℕ) × (m a ≡ c) × (list_any (derives_at X Y a) rs ≡ true)
 rules-back m X S Y T proper r s c [] h = absurd (false≢true h)
 rules-back m X S Y T proper r s c (x ∷ rs) h =
     let D = derives_at S T c in

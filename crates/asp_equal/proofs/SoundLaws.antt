@@ -73,7 +73,9 @@ all_from p (x ∷ xs) h = and_from (p x) (list_all p xs) h.0 (all_from p xs h.1)
 
 sound-rules : (m : ℕ → ℕ) → IsLow m → IsProper m → (rs : List Rule) → list_all is_sound_rule rs ≡ true → list_all is_sound_rule (flat_map (merged_rule m) rs) ≡ true
 sound-rules m low proper rs e =
-    all_from is_sound_rule (flat_map (merged_rule m) rs) (each-flat_map (λ r. is_sound_rule r ≡ true) (merged_rule m) rs (each_weaker (λ r. is_sound_rule r ≡ true) (λ r. AllByRecursion (λ x. is_sound_rule x ≡ true) (merged_rule m r)) (λ r h.
+    all_from is_sound_rule (flat_map (merged_rule m) rs)
+    (each-flat_map (λ r. is_sound_rule r ≡ true) (merged_rule m) rs
+    (each_weaker (λ r. is_sound_rule r ≡ true) (λ r. AllByRecursion (λ x. is_sound_rule x ≡ true) (merged_rule m r)) (λ r h.
     each-cond (λ x. is_sound_rule x ≡ true) (is_copying m r.head r.body) (renamed_rule m r) (sound-rule m low proper r h)) rs (each_passes is_sound_rule rs e)))
 
 sound-statement : (m : ℕ → ℕ) → IsLow m → IsProper m → (s : Minimize) → is_sound_minimize s ≡ true → is_sound_minimize (renamed_minimize m s) ≡ true
@@ -121,7 +123,8 @@ same_total m (s ∷ ss) =
 below-limit : (a b n : ℕ) → a ≤ b → leb b n ≡ true → leb a n ≡ true
 below-limit a b n le h = le-leb a n (omega (arith, leb-true b n h))
 
-five : (a b c d e a' b' c' e' : Bool) → (a ≡ true → a' ≡ true) → (b ≡ true → b' ≡ true) → (c ≡ true → c' ≡ true) → (e ≡ true → e' ≡ true) → (a && b && c && d && e) ≡ true → (a' && b' && c' && d && e') ≡ true
+five : (a b c d e a' b' c' e' : Bool) → (a ≡ true → a' ≡ true) → (b ≡ true → b' ≡ true) → (c ≡ true → c' ≡ true) → (e ≡ true → e' ≡ true) →
+    (a && b && c && d && e) ≡ true → (a' && b' && c' && d && e') ≡ true
 five a b c d e a' b' c' e' fa fb fc fe h =
     let p = and_parts (a && b && c && d) e h in
     let q = and_parts (a && b && c) d p.0 in

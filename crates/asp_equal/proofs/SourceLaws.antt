@@ -57,7 +57,9 @@ known-itself : (a : ℕ) → (a ≡ 0 → ⊥) → (rs : List Rule) → fold (no
 known-itself a some [] = refl
 known-itself a some (r ∷ rs) = ap (λ s. fold (noted a) s rs) (noted-itself a some r) ∙ known-itself a some rs
 
-kept_step : (a b s : ℕ) → (a ≡ 0 → ⊥) → (s ≡ 0 → ⊥) → (b ≡ a → ⊥) → (r : Rule) (rs : List Rule) (c : Bool) → (fold (noted a) s rs ≡ b → (s ≡ b) × (list_any (has_head a) rs ≡ false)) → has_head a r ≡ c → fold (noted a) (cond c (cond (eqb s 0) (copied a r.head r.body) a) s) rs ≡ b → (s ≡ b) × ((has_head a r || list_any (has_head a) rs) ≡ false)
+kept_step : (a b s : ℕ) → (a ≡ 0 → ⊥) → (s ≡ 0 → ⊥) → (b ≡ a → ⊥) → (r : Rule) (rs : List Rule) (c : Bool) →
+    (fold (noted a) s rs ≡ b → (s ≡ b) × (list_any (has_head a) rs ≡ false)) → has_head a r ≡ c →
+    fold (noted a) (cond c (cond (eqb s 0) (copied a r.head r.body) a) s) rs ≡ b → (s ≡ b) × ((has_head a r || list_any (has_head a) rs) ≡ false)
 kept_step a b s some known other r rs true later t k =
     absurd (other (sym (sym (known-itself a some rs) ∙ ap (λ x. fold (noted a) x rs) (sym (ap (λ x. cond x (copied a r.head r.body) a) (ne_eqb s 0 known))) ∙ k)))
 kept_step a b s some known other r rs false later t k = let parts = later k in (parts.0, or_from (has_head a r) (list_any (has_head a) rs) t parts.1)
@@ -110,7 +112,9 @@ or-nil : (b : Bool) → (b || false) ≡ b
 or-nil true = refl
 or-nil false = refl
 
-sole_step : (S T : Atoms) (a b : ℕ) → (a ≡ 0 → ⊥) → (b ≡ a → ⊥) → (r : Rule) (rs : List Rule) (c : Bool) → (fold (noted a) 0 rs ≡ b → list_any (derives_at S T a) rs ≡ has T b) → has_head a r ≡ c → fold (noted a) (cond c (copied a r.head r.body) 0) rs ≡ b → (derives_at S T a r || list_any (derives_at S T a) rs) ≡ has T b
+sole_step : (S T : Atoms) (a b : ℕ) → (a ≡ 0 → ⊥) → (b ≡ a → ⊥) → (r : Rule) (rs : List Rule) (c : Bool) →
+    (fold (noted a) 0 rs ≡ b → list_any (derives_at S T a) rs ≡ has T b) → has_head a r ≡ c →
+    fold (noted a) (cond c (copied a r.head r.body) 0) rs ≡ b → (derives_at S T a r || list_any (derives_at S T a) rs) ≡ has T b
 sole_step S T a b some other r rs true later t k =
     let parts = known-kept a b (copied a r.head r.body) some (copied-known a some r.head r.body) other rs k in
     ap (λ x. derives_at S T a r || x) (underived S T a rs parts.1) ∙ or-nil (derives_at S T a r) ∙ copy_derives S T a b r.head r.body other t parts.0
@@ -130,14 +134,19 @@ external_head a x value.Release e = absurd (false≢true e)
 
 pub opened-named : (p : Program) (a : ℕ) → list_any (has_head a) (opened_rules p) ≡ true → has (named p) a ≡ true
 opened-named p a e =
-    let opened : has (open_atoms p) a ≡ true = list_any-weaker (λ x. list_any (has_head a) (external_rule x (last_value p.externals x))) (λ x. eqb x a) (open_atoms p) (each_of (λ x. list_any (has_head a) (external_rule x (last_value p.externals x)) ≡ true → eqb x a ≡ true) (λ x. external_head a x (last_value p.externals x)) (open_atoms p)) (sym (list_any-flat_map (has_head a) (λ x. external_rule x (last_value p.externals x)) (open_atoms p)) ∙ e) in
+    let opened : has (open_atoms p) a ≡ true =
+    list_any-weaker (λ x. list_any (has_head a) (external_rule x (last_value p.externals x))) (λ x. eqb x a) (open_atoms p)
+    (each_of (λ x. list_any (has_head a) (external_rule x (last_value p.externals x)) ≡ true → eqb x a ≡ true)
+    (λ x. external_head a x (last_value p.externals x)) (open_atoms p))
+    (sym (list_any-flat_map (has_head a) (λ x. external_rule x (last_value p.externals x)) (open_atoms p)) ∙ e) in
     let heads : List ℕ = flat_map (λ (r : Rule). head_atoms r.head) p.rules in
     sym (has-set_of (named p) a) ∙ (and_parts (not (has heads a)) (has (set_of (named p)) a) (sym (has-filter (λ b. not (has heads b)) (set_of (named p)) a) ∙ opened)).1
 
 pub derived-has : (p : Program) (S : Atoms) (a : ℕ) → IsSound p → has (step (reduct S (rules_in_force p)) (least_model p S)) a ≡ has (least_model p S) a
 derived-has p S a sound = ap (λ T. has T a) (least_model-derived p S sound)
 
-pub copy-derived : (p : Program) (S : Atoms) (a b : ℕ) → IsSound p → (a ≡ 0 → ⊥) → (b ≡ 0 → ⊥) → (b ≡ a → ⊥) → has (named p) a ≡ false → source p.rules a ≡ b → has (least_model p S) a ≡ has (least_model p S) b
+pub copy-derived : (p : Program) (S : Atoms) (a b : ℕ) → IsSound p → (a ≡ 0 → ⊥) → (b ≡ 0 → ⊥) → (b ≡ a → ⊥) → has (named p) a ≡ false →
+    source p.rules a ≡ b → has (least_model p S) a ≡ has (least_model p S) b
 copy-derived p S a b sound some known other out e =
     let L = least_model p S in
     let D = derives_at S L a in

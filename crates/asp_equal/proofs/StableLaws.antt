@@ -84,7 +84,8 @@ least-without m x p q g S =
     let M = least_model p (x S) in
     let reads : Reads m M (kept m M) = kept-reads m g.twice M (g.alike (x S)) in
     least_model-least q S (kept m M) g.sound (closed_from_step (reduct S (rules_in_force q)) (kept m M) (λ c h.
-    let t = rules-back m (x S) S M (kept m M) g.proper (g.reads S) reads c (rules_in_force p) (ap (list_any (derives_at S (kept m M) c)) (sym g.rules) ∙ sym (has-step S (kept m M) (rules_in_force q) c) ∙ h) in
+    let t = rules-back m (x S) S M (kept m M) g.proper (g.reads S) reads c (rules_in_force p)
+    (ap (list_any (derives_at S (kept m M) c)) (sym g.rules) ∙ sym (has-step S (kept m M) (rules_in_force q) c) ∙ h) in
     let there : has M t.0 ≡ true = sym (derived-has p (x S) t.0 g.whole) ∙ has-step (x S) M (rules_in_force p) t.0 ∙ t.2 in
     has-kept m M c
     ∙ and_from (eqb (m c) c) (has M c) (eq-eqb (m c) c (ap m (sym t.1) ∙ g.twice t.0 ∙ t.1)) (ap (has M) (sym t.1) ∙ sym (g.alike (x S) t.0) ∙ there)))
@@ -107,7 +108,9 @@ same_merged : (m : ℕ → ℕ) (x : Atoms → Atoms) (p q : Program) → IsMerg
 same_merged m x p q g S up apart =
     let L = least_model q S in
     same_bools (same_set (x S) (least_model p (x S))) (same_set S L)
-    (λ e. same_test S L (sym (kept-extended m (x S) S (g.ascends S up) up apart (g.reads S)) ∙ ap (kept m) (same_text (x S) (least_model p (x S)) (sym e) ∙ least-merged m x p q g S) ∙ kept-extended m (x L) L (g.ascends L (least_model-ascends q S)) (least_model-ascends q S) (least-apart m x p q g S) (g.reads L)))
+    (λ e. same_test S L (sym (kept-extended m (x S) S (g.ascends S up) up apart (g.reads S))
+    ∙ ap (kept m) (same_text (x S) (least_model p (x S)) (sym e) ∙ least-merged m x p q g S)
+    ∙ kept-extended m (x L) L (g.ascends L (least_model-ascends q S)) (least_model-ascends q S) (least-apart m x p q g S) (g.reads L)))
     (λ e. same_test (x S) (least_model p (x S)) (ap x (same_text S L (sym e)) ∙ sym (least-merged m x p q g S)))
 
 pub stable-merged : (m : ℕ → ℕ) (x : Atoms → Atoms) (p q : Program) → IsMerged m x p q → (S : Atoms) → IsAscending S → IsApart m S → is_stable p (x S) ≡ is_stable q S
@@ -133,7 +136,8 @@ extended-kept m x p q g X up r =
 -- ---- lists of sets
 pub contains-map : (f : Atoms → Atoms) (Ss : List Atoms) (S : Atoms) → Contains Ss S → Contains (map f Ss) (f S)
 contains-map f Ss S h =
-    contains_from_test (map f Ss) (f S) (list_any-map (same_set (f S)) f Ss ∙ list_any-weaker (same_set S) (λ T. same_set (f S) (f T)) Ss (each_of (λ T. same_set S T ≡ true → same_set (f S) (f T) ≡ true) (λ T e.
+    contains_from_test (map f Ss) (f S) (list_any-map (same_set (f S)) f Ss
+    ∙ list_any-weaker (same_set S) (λ T. same_set (f S) (f T)) Ss (each_of (λ T. same_set S T ≡ true → same_set (f S) (f T) ≡ true) (λ T e.
     same_test (f S) (f T) (ap f (same_text S T (sym e)))) Ss) (test_from_contains Ss S h))
 
 pub map-contains : (f : Atoms → Atoms) (Ss : List Atoms) (X : Atoms) → Contains (map f Ss) X → (S : Atoms) × Contains Ss S × (X ≡ f S)
@@ -158,7 +162,8 @@ before-extended m x p q g S T aT h =
       λ b lt. g.reads S b ∙ h.3 (m b) (omega (arith, g.low b, lt)) ∙ sym (g.reads T b),
     )
 
-each-before : (m : ℕ → ℕ) (x : Atoms → Atoms) (p q : Program) → IsMerged m x p q → (S : Atoms) (Ss : List Atoms) → AllByRecursion (IsApart m) Ss → AllByRecursion (IsBefore S) Ss → AllByRecursion (IsBefore (x S)) (map x Ss)
+each-before : (m : ℕ → ℕ) (x : Atoms → Atoms) (p q : Program) → IsMerged m x p q → (S : Atoms) (Ss : List Atoms) → AllByRecursion (IsApart m) Ss →
+    AllByRecursion (IsBefore S) Ss → AllByRecursion (IsBefore (x S)) (map x Ss)
 each-before m x p q g S [] apart h = tt
 each-before m x p q g S (T ∷ Ss) apart h = (before-extended m x p q g S T apart.0 h.0, each-before m x p q g S Ss apart.1 h.1)
 
@@ -176,7 +181,10 @@ AreAssumed m p q = (X S : Atoms) → Reads m X S → all_hold S q.assumptions �
 
 pub answers-merged : (m : ℕ → ℕ) (x : Atoms → Atoms) (p q : Program) → IsMerged m x p q → AreAssumed m p q → answers p ≡ map x (answers q)
 answers-merged m x p q g assumed =
-    same_from_members (answers p) (map x (answers q)) (answers-rise p) (pairs_from_rising (map x (answers q)) (rising-extended m x p q g (answers q) (each-contained (IsApart m) (answers q) (λ S h. (stable-apart m x p q g S ((answers-are q S).0 h).0).1)) (rising_from_pairs (answers q) (answers-rise q)))) (λ X. (there X, back X))
+    same_from_members (answers p) (map x (answers q)) (answers-rise p)
+    (pairs_from_rising (map x (answers q)) (rising-extended m x p q g (answers q)
+    (each-contained (IsApart m) (answers q) (λ S h. (stable-apart m x p q g S ((answers-are q S).0 h).0).1))
+    (rising_from_pairs (answers q) (answers-rise q)))) (λ X. (there X, back X))
   where
     there : (X : Atoms) → Contains (answers p) X → Contains (map x (answers q)) X
     there X h =

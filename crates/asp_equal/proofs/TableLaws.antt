@@ -30,15 +30,18 @@ aimed n h b a = or_itself (nat_lt 0 a && nat_lt 0 b && nat_lt a n && nat_lt b n 
 aimed-past : (n : ℕ) (h : ℕ → Bool) (b a : ℕ) → n ≤ a → aimed n h b a ≡ a
 aimed-past n h b a far = ap (λ c. or_itself c b a) (third_false (nat_lt 0 a) (nat_lt 0 b) (nat_lt a n) (nat_lt b n) (not (h a)) (not (h b)) (le-ltb a n far))
 
-pub target-read : (p : Program) (known : List ℕ) (names : Atoms) → length known ≡ places p → AreSources p.rules known → names ≡ set_of (named p) → (a : ℕ) → target_in known names a ≡ target (places p) p a
+pub target-read : (p : Program) (known : List ℕ) (names : Atoms) → length known ≡ places p → AreSources p.rules known → names ≡ set_of (named p) →
+    (a : ℕ) → target_in known names a ≡ target (places p) p a
 target-read p known names count sources e a = elim (cases_lt a (length known)) [
-  | inl lt ↦ ap (λ b. aimed (length known) (has names) b a) (sources a lt) ∙ ap (λ n. aimed n (has names) (source p.rules a) a) count ∙ ap (λ N. aimed (places p) (has N) (source p.rules a) a) e ∙ (λ i. aimed (places p) (λ b. has-set_of (named p) b i) (source p.rules a) a)
+  | inl lt ↦ ap (λ b. aimed (length known) (has names) b a) (sources a lt) ∙ ap (λ n. aimed n (has names) (source p.rules a) a) count
+      ∙ ap (λ N. aimed (places p) (has N) (source p.rules a) a) e ∙ (λ i. aimed (places p) (λ b. has-set_of (named p) b i) (source p.rules a) a)
   | inr far ↦ aimed-past (length known) (has names) (get_or known a 0) a far ∙ sym (aimed-past (places p) (has (named p)) (source p.rules a) a (omega (arith, count, far)))
 ]
 
 pub root-read : (p : Program) (known : List ℕ) (names : Atoms) → length known ≡ places p → AreSources p.rules known → names ≡ set_of (named p) → (a : ℕ) → root_in known names a ≡ root (places p) p a
 root-read p known names count sources e a =
-    λ i. or_itself (eqb (target-read p known names count sources e (target-read p known names count sources e a i) i) (target-read p known names count sources e a i)) (target-read p known names count sources e a i) a
+    λ i. or_itself (eqb (target-read p known names count sources e (target-read p known names count sources e a i) i)
+    (target-read p known names count sources e a i)) (target-read p known names count sources e a i) a
 
 root-below : (n : ℕ) (p : Program) (a : ℕ) → a < n → root n p a < n
 root-below n p a lt = elim (root-copied n p a) [ inl e ↦ omega (arith, e) | inr c ↦ omega (arith, c.0, c.1.within) ]
@@ -56,7 +59,8 @@ pub least-any : (f : ℕ → ℕ) (r n d e a : ℕ) → a < n → f a ≡ r → 
 least-any f r zero d e a lt h = absurd (omega arith)
 least-any f r (suc k) d e a lt h = any_step f r k d e a (eqb (f k) r) (λ low. least-any f r k d e a low h) lt h refl
 
-pub same-table : (p : Program) (known table sends : List ℕ) (names : Atoms) → length known ≡ places p → AreSources p.rules known → names ≡ set_of (named p) → length table ≡ length known → AreLeast known names table →
+pub same-table : (p : Program) (known table sends : List ℕ) (names : Atoms) → length known ≡ places p → AreSources p.rules known →
+    names ≡ set_of (named p) → length table ≡ length known → AreLeast known names table →
     length sends ≡ length known → ((a : ℕ) → a < length known → get_or sends a 0 ≡ sent table (root_in known names a)) → IsSameTable p sends
 same-table p known table sends names count sources e counted lows many reads = record {
   count = many ∙ count;

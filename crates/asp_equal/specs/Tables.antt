@@ -24,7 +24,8 @@ AreSources rules known = (a : ℕ) → a < length known → slice_index known a 
 -- ---- targets and roots, read from the table of the sources and the set of the atoms that externals name
 abbrev pub target_in : List ℕ → Atoms → ℕ → ℕ
 target_in known named a =
-    or_itself (nat_lt 0 a && nat_lt 0 (slice_index known a) && nat_lt a (length known) && nat_lt (slice_index known a) (length known) && not (has named a) && not (has named (slice_index known a))) (slice_index known a) a
+    or_itself (nat_lt 0 a && nat_lt 0 (slice_index known a) && nat_lt a (length known) && nat_lt (slice_index known a) (length known)
+    && not (has named a) && not (has named (slice_index known a))) (slice_index known a) a
 
 abbrev pub root_in : List ℕ → Atoms → ℕ → ℕ
 root_in known named a = or_itself (target_in known named (target_in known named a) == target_in known named a) (target_in known named a) a

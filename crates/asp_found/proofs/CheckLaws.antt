@@ -27,7 +27,9 @@ empty_list (x ∷ xs) e = absurd (zero_suc (eqb-true (length (x ∷ xs)) 0 e))
     zero_suc : suc (length xs) ≡ zero → ⊥
     zero_suc q = cc q
 
-pub check_stable : (p : Program) (S L xs : Atoms) → IsSound p → IsAscending S → list_all (keeps S) (rules_in_force p) ≡ true → list_all (λ a. not (has S a) || is_supported p S a) (atoms_of p) ≡ true → L ≡ least_model p S → xs ≡ filter (λ a. not (has L a)) S → eqb (length xs) 0 ≡ true → is_stable p S ≡ true
+pub check_stable : (p : Program) (S L xs : Atoms) → IsSound p → IsAscending S → list_all (keeps S) (rules_in_force p) ≡ true →
+    list_all (λ a. not (has S a) || is_supported p S a) (atoms_of p) ≡ true → L ≡ least_model p S → xs ≡ filter (λ a. not (has L a)) S →
+    eqb (length xs) 0 ≡ true → is_stable p S ≡ true
 check_stable p S L xs sound up kept supported least e empty =
     stable_without_rest p S sound up (none_hit p S (completion p) (none_broken p S kept supported))
     (sym (rest_is p S L xs least e) ∙ empty_list xs empty)
@@ -41,7 +43,9 @@ stable_no_rest p S (x ∷ xs) e some stable =
     let there : has (least_model p S) x ≡ true = ap (λ T. has T x) (sym (stable-least p S stable)) ∙ parts.0 in
     false≢true (ap not (sym there) ∙ parts.1)
 
-pub check_unfounded : (p : Program) (S L xs : Atoms) → IsSound p → IsAscending S → list_all (keeps S) (rules_in_force p) ≡ true → list_all (λ a. not (has S a) || is_supported p S a) (atoms_of p) ≡ true → L ≡ least_model p S → xs ≡ filter (λ a. not (has L a)) S → eqb (length xs) 0 ≡ false → HasUnfounded p S xs × (is_stable p S ≡ false)
+pub check_unfounded : (p : Program) (S L xs : Atoms) → IsSound p → IsAscending S → list_all (keeps S) (rules_in_force p) ≡ true →
+    list_all (λ a. not (has S a) || is_supported p S a) (atoms_of p) ≡ true → L ≡ least_model p S → xs ≡ filter (λ a. not (has L a)) S →
+    eqb (length xs) 0 ≡ false → HasUnfounded p S xs × (is_stable p S ≡ false)
 check_unfounded p S L xs sound up kept supported least e some =
     let same : xs ≡ rest p S = rest_is p S L xs least e in
     let unbroken : list_any (hits (values p S)) (completion p) ≡ false = none_broken p S kept supported in
@@ -61,7 +65,8 @@ check_unfounded p S L xs sound up kept supported least e some =
     cases true q f = absurd (f (sym q))
 
 -- a set without an unfounded subset
-pub no_unfounded_stable : (p : Program) (S : Atoms) → IsSound p → IsAscending S → list_any (hits (values p S)) (completion p) ≡ false → ((U : Atoms) → IsSubset U S → is_unfounded p (assigned p S) U ≡ false) → is_stable p S ≡ true
+pub no_unfounded_stable : (p : Program) (S : Atoms) → IsSound p → IsAscending S → list_any (hits (values p S)) (completion p) ≡ false →
+    ((U : Atoms) → IsSubset U S → is_unfounded p (assigned p S) U ≡ false) → is_stable p S ≡ true
 no_unfounded_stable p S sound up unbroken none = cases (is_stable p S) refl
   where
     cases : (t : Bool) → t ≡ is_stable p S → is_stable p S ≡ true

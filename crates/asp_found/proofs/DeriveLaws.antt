@@ -117,6 +117,10 @@ all_derived S (v ∷ heads) s h =
         grow true e = refl
         grow false e = absurd (false≢true e)
 
-    done : (w : ℕ) (b : Bool) → b ≡ eqb v w → (eqb v w || has heads w) ≡ true → is_marked S w ≡ true → (has (v ∷ []) w ≡ true → is_marked S w ≡ true → is_marked (derive S s v).0 w ≡ true) → (is_marked (derive S s v).0 w ≡ true → is_marked (fold (derive S) (derive S s v) heads).0 w ≡ true) → (has heads w ≡ true → is_marked S w ≡ true → is_marked (fold (derive S) (derive S s v) heads).0 w ≡ true) → is_marked (fold (derive S) (derive S s v) heads).0 w ≡ true
+    done : (w : ℕ) (b : Bool) → b ≡ eqb v w → (eqb v w || has heads w) ≡ true → is_marked S w ≡ true →
+        (has (v ∷ []) w ≡ true → is_marked S w ≡ true → is_marked (derive S s v).0 w ≡ true) →
+        (is_marked (derive S s v).0 w ≡ true → is_marked (fold (derive S) (derive S s v) heads).0 w ≡ true) →
+        (has heads w ≡ true → is_marked S w ≡ true → is_marked (fold (derive S) (derive S s v) heads).0 w ≡ true) →
+        is_marked (fold (derive S) (derive S s v) heads).0 w ≡ true
     done w true q e inside here kept later = kept (here (ap (λ b. b || false) (sym q)) inside)
     done w false q e inside here kept later = later (ap (λ b. b || has heads w) q ∙ e) inside

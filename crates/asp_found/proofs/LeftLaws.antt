@@ -63,7 +63,8 @@ not_less true b f e = sym (ap not (f refl)) ∙ e
 not_less false b f e = refl
 
 -- ---- the whole set is derived
-pub whole_rest : (p : Program) (S : Atoms) (set marks : List Bool) (found xs : List ℕ) → Shows p S set → IsDeriving p set marks found → xs ≡ filter (λ a. not (has (shown p marks) a)) S → eqb (length xs) 0 ≡ true → xs ≡ rest p S
+pub whole_rest : (p : Program) (S : Atoms) (set marks : List Bool) (found xs : List ℕ) → Shows p S set → IsDeriving p set marks found →
+    xs ≡ filter (λ a. not (has (shown p marks) a)) S → eqb (length xs) 0 ≡ true → xs ≡ rest p S
 whole_rest p S set marks found xs shows h is none =
     let empty : xs ≡ [] = empty_list xs none in
     empty ∙ sym (none_more (λ a. not (has (shown p marks) a)) (λ a. not (has (least_model p S) a)) S (λ a. not_less (has (shown p marks) a) (has (least_model p S) a) (derived a)) (sym is ∙ empty))
@@ -74,7 +75,9 @@ whole_rest p S set marks found xs shows h is none =
         h.sound S shows a parts.1 parts.0
 
 -- ---- nothing is left to derive
-pub closed_rest : (p : Program) (S : Atoms) (set marks : List Bool) (found xs : List ℕ) → IsSound p → list_all (keeps S) (rules_in_force p) ≡ true → Shows p S set → IsDeriving p set marks found → AreDerived p set marks (length (bodies_of p)) → xs ≡ filter (λ a. not (has (shown p marks) a)) S → xs ≡ rest p S
+pub closed_rest : (p : Program) (S : Atoms) (set marks : List Bool) (found xs : List ℕ) → IsSound p → list_all (keeps S) (rules_in_force p) ≡ true →
+    Shows p S set → IsDeriving p set marks found → AreDerived p set marks (length (bodies_of p)) → xs ≡ filter (λ a. not (has (shown p marks) a)) S →
+    xs ≡ rest p S
 closed_rest p S set marks found xs sound kept shows h closed is =
     is ∙ same_filter (λ a. not (has (shown p marks) a)) (λ a. not (has (least_model p S) a)) S (λ a. ap not (same a))
   where

@@ -32,7 +32,8 @@ reach_no b w left is positive = no b w (omega (arith, ints))
     no : (b w : ℤ) → w <ℤ b → false ≡ int_le b w
     no b w h = grind (arith, ints)
 
-pub holds_weighted : (p : Program) (set derived : List Bool) (b : Body) (c : ℤ) → bound_of b ≡ Some c → int_le c (weigh (lit_between set derived) (form_literals p b) (form_weights b)) ≡ marks_hold p set derived b
+pub holds_weighted : (p : Program) (set derived : List Bool) (b : Body) (c : ℤ) → bound_of b ≡ Some c →
+    int_le c (weigh (lit_between set derived) (form_literals p b) (form_weights b)) ≡ marks_hold p set derived b
 holds_weighted p set derived (body.All ls) c e = cc e
 holds_weighted p set derived (body.AtLeast bound items) c e =
     let same : bound ≡ c = cc e in

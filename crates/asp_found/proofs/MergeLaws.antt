@@ -48,7 +48,9 @@ pub end_is : (S : Atoms) (a i : ℕ) → IsReached S i a → length S ≤ i → 
 end_is S a i h end = lt_no i (length S) end ∙ absent_end S a i h end
 
 -- ---- the marks of a set, atom by atom
-pub marks_more : (L S T A : Atoms) (i place : ℕ) (old new : List Bool) (b : Bool) → T ≡ S → A ≡ L → IsAscending A → i < length A → IsReached T place (get_or A i 0) → b ≡ has T (get_or A i 0) → new ≡ old ++ b ∷ [] → old ≡ false ∷ map (has S) (take i L) → (new ≡ false ∷ map (has S) (take (i + 1) L)) × ((place ≤ length S) × (i + 1 < length L → (k : ℕ) → k < place → get_or S k 0 < get_or L (i + 1) 0))
+pub marks_more : (L S T A : Atoms) (i place : ℕ) (old new : List Bool) (b : Bool) → T ≡ S → A ≡ L → IsAscending A → i < length A →
+    IsReached T place (get_or A i 0) → b ≡ has T (get_or A i 0) → new ≡ old ++ b ∷ [] → old ≡ false ∷ map (has S) (take i L) →
+    (new ≡ false ∷ map (has S) (take (i + 1) L)) × ((place ≤ length S) × (i + 1 < length L → (k : ℕ) → k < place → get_or S k 0 < get_or L (i + 1) 0))
 marks_more L S T A i place old new b same_set same_atoms up lt h is new_is before =
     let Next : Atoms → Atoms → Type 0 = λ X Y. (new ≡ false ∷ map (has X) (take (i + 1) Y)) × ((place ≤ length X) × (i + 1 < length Y → (k : ℕ) → k < place → get_or X k 0 < get_or Y (i + 1) 0)) in
     let old_is : old ≡ false ∷ map (has T) (take i A) = before ∙ ap (λ X. false ∷ map (has X) (take i L)) (sym same_set) ∙ ap (λ Y. false ∷ map (has T) (take i Y)) (sym same_atoms) in
@@ -59,7 +61,9 @@ marks_more L S T A i place old new b same_set same_atoms up lt h is new_is befor
     subst (λ (X : Atoms). Next X L) same_set (subst (λ (Y : Atoms). Next T Y) same_atoms (first, (h.within, λ more. next_below A T i place up more h.before)))
 
 -- ---- what isn't marked, atom by atom
-pub rest_more : (q : ℕ → Bool) (L S T A : Atoms) (i place : ℕ) (old new : List ℕ) → T ≡ S → A ≡ L → IsAscending T → i < length T → IsReached A place (get_or T i 0) → new ≡ old ++ filter q (get_or T i 0 ∷ []) → old ≡ filter q (take i S) → (new ≡ filter q (take (i + 1) S)) × ((place ≤ length L) × (i + 1 < length S → (k : ℕ) → k < place → get_or L k 0 < get_or S (i + 1) 0))
+pub rest_more : (q : ℕ → Bool) (L S T A : Atoms) (i place : ℕ) (old new : List ℕ) → T ≡ S → A ≡ L → IsAscending T → i < length T →
+    IsReached A place (get_or T i 0) → new ≡ old ++ filter q (get_or T i 0 ∷ []) → old ≡ filter q (take i S) → (new ≡ filter q (take (i + 1) S)) ×
+    ((place ≤ length L) × (i + 1 < length S → (k : ℕ) → k < place → get_or L k 0 < get_or S (i + 1) 0))
 rest_more q L S T A i place old new same_set same_atoms up lt h new_is before =
     let Next : Atoms → Atoms → Type 0 = λ X Y. (new ≡ filter q (take (i + 1) X)) × ((place ≤ length Y) × (i + 1 < length X → (k : ℕ) → k < place → get_or Y k 0 < get_or X (i + 1) 0)) in
     let old_is : old ≡ filter q (take i T) = before ∙ ap (λ X. filter q (take i X)) (sym same_set) in

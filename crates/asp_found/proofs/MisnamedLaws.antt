@@ -71,7 +71,9 @@ broken_by : (p : Program) (S : Atoms) (n : List Literal) → IsNogood p n → hi
 broken_by p S n is hit = record { pure = refl; listed = is.0; entailed = is.1; hit = hit }
 
 -- ---- a body that holds, whose literal is false
-holding_broken : (p : Program) (S : Atoms) (ls : List ℤ) → is_wide (body.All ls) ≡ true → AreNogoods p (body_nogoods p (body.All ls)) → Stands (atoms_of p) (body.All ls) → all_hold S ls ≡ true → is_true (values p S) (literal_of_form p (body.All ls)) ≡ false → Breaks p S (holding_literals p (body.All ls))
+holding_broken : (p : Program) (S : Atoms) (ls : List ℤ) → is_wide (body.All ls) ≡ true → AreNogoods p (body_nogoods p (body.All ls)) →
+    Stands (atoms_of p) (body.All ls) → all_hold S ls ≡ true → is_true (values p S) (literal_of_form p (body.All ls)) ≡ false →
+    Breaks p S (holding_literals p (body.All ls))
 holding_broken p S ls wide nogoods stand all lacks = cases (is_barred p (body.All ls)) refl
   where
     lit : Literal
@@ -101,13 +103,16 @@ found_false : (P : Literal → Type 0) (v : List Bool) (ls : List Literal) → A
 found_false P v [] h e = absurd (false≢true (sym e))
 found_false P v (l ∷ ls) h e = cases (is_true v l) refl (found_false P v ls h.1)
   where
-    cases : (t : Bool) → t ≡ is_true v l → (hits v ls ≡ false → (k : Literal) × (first_false v ls ≡ Some k) × (is_true v k ≡ false) × P k) → (k : Literal) × (first_false v (l ∷ ls) ≡ Some k) × (is_true v k ≡ false) × P k
+    cases : (t : Bool) → t ≡ is_true v l → (hits v ls ≡ false → (k : Literal) × (first_false v ls ≡ Some k) × (is_true v k ≡ false) × P k) →
+        (k : Literal) × (first_false v (l ∷ ls) ≡ Some k) × (is_true v k ≡ false) × P k
     cases true q f =
         let found = f (ap (λ t. t && hits v ls) q ∙ e) in
         (found.0, ap (λ t. cond t (first_false v ls) (Some l)) (sym q) ∙ found.1, found.2, found.3)
     cases false q f = (l, ap (λ t. cond t (first_false v ls) (Some l)) (sym q), sym q, h.0)
 
-lacking_broken : (p : Program) (S : Atoms) (ls : List ℤ) → is_wide (body.All ls) ≡ true → AreOfRules p → AreNogoods p (body_nogoods p (body.All ls)) → Stands (atoms_of p) (body.All ls) → all_hold S ls ≡ false → is_true (values p S) (literal_of_form p (body.All ls)) ≡ true → Breaks p S (lacking_literals p (values p S) (body.All ls))
+lacking_broken : (p : Program) (S : Atoms) (ls : List ℤ) → is_wide (body.All ls) ≡ true → AreOfRules p → AreNogoods p (body_nogoods p (body.All ls)) →
+    Stands (atoms_of p) (body.All ls) → all_hold S ls ≡ false → is_true (values p S) (literal_of_form p (body.All ls)) ≡ true →
+    Breaks p S (lacking_literals p (values p S) (body.All ls))
 lacking_broken p S ls wide rules nogoods stand fails stays = cases (is_barred p (body.All ls)) refl
   where
     lit : Literal
@@ -136,7 +141,9 @@ lacking_broken p S ls wide rules nogoods stand fails stays = cases (is_barred p 
         let found = found_false (λ k. IsNogood p (lit ∷ complement k ∷ [])) (values p S) parts each (hits-literals p S ls stand ∙ fails) in
         let other : Literal = complement found.0 in
         let broken : Breaks p S (lit ∷ other ∷ []) =
-        broken_by p S (lit ∷ other ∷ []) found.3 (and_from (is_true (values p S) lit) (is_true (values p S) other && true) stays (ap (λ t. t && true) (is_true-complement (values p S) found.0 ∙ ap not found.2))) in
+        broken_by p S (lit ∷ other ∷ []) found.3
+        (and_from (is_true (values p S) lit) (is_true (values p S) other && true) stays
+        (ap (λ t. t && true) (is_true-complement (values p S) found.0 ∙ ap not found.2))) in
         subst (λ (b : Bool). Breaks p S (lit ∷ cond b [] (complements (first_false (values p S) parts)))) e
         (subst (λ o. Breaks p S (lit ∷ complements o)) (sym found.1) broken)
 
@@ -149,11 +156,15 @@ and_true : (a : Bool) → (a && true) ≡ a
 and_true true = refl
 and_true false = refl
 
-wide_broken : (p : Program) (S : Atoms) (ls : List ℤ) → is_wide (body.All ls) ≡ true → AreOfRules p → AreNogoods p (body_nogoods p (body.All ls)) → Stands (atoms_of p) (body.All ls) → (t : Bool) → t ≡ all_hold S ls → is_true (values p S) (literal_of_form p (body.All ls)) ≡ not t → Breaks p S (misnamed_literals p (values p S) (body.All ls) t)
+wide_broken : (p : Program) (S : Atoms) (ls : List ℤ) → is_wide (body.All ls) ≡ true → AreOfRules p → AreNogoods p (body_nogoods p (body.All ls)) →
+    Stands (atoms_of p) (body.All ls) → (t : Bool) → t ≡ all_hold S ls → is_true (values p S) (literal_of_form p (body.All ls)) ≡ not t →
+    Breaks p S (misnamed_literals p (values p S) (body.All ls) t)
 wide_broken p S ls wide rules nogoods stand true is differs = holding_broken p S ls wide nogoods stand (sym is) differs
 wide_broken p S ls wide rules nogoods stand false is differs = lacking_broken p S ls wide rules nogoods stand (sym is) differs
 
-form_broken : (p : Program) (S : Atoms) (b : Body) → list_any (body_eq b) (bodies_of p) ≡ true → AreOfRules p → AreNogoods p (body_nogoods p b) → Stands (atoms_of p) b → (t : Bool) → t ≡ body_holds S b → is_true (values p S) (literal_of_form p b) ≡ not t → Breaks p S (misnamed_literals p (values p S) b t)
+form_broken : (p : Program) (S : Atoms) (b : Body) → list_any (body_eq b) (bodies_of p) ≡ true → AreOfRules p → AreNogoods p (body_nogoods p b) →
+    Stands (atoms_of p) b → (t : Bool) → t ≡ body_holds S b → is_true (values p S) (literal_of_form p b) ≡ not t →
+    Breaks p S (misnamed_literals p (values p S) b t)
 form_broken p S (body.All []) listed rules nogoods stand t is differs = wide_broken p S [] refl rules nogoods stand t is differs
 form_broken p S (body.All (l ∷ [])) listed rules nogoods stand t is differs =
     absurd (no_self t (is ∙ and_true (holds S l) ∙ sym (literal-holds p S l stand.0) ∙ differs))
@@ -166,7 +177,9 @@ value_at p S v j is lt =
     let shows : Shows p S v = values_show p S v is in
     marks_link p S S v v (nth_body p j) shows shows (body_stands p j lt) ∙ same_body S (nth_body p j)
 
-pub misnamed_broken : (p : Program) (S : Atoms) (v : List Bool) (j : ℕ) (t : Bool) → IsSound p → v ≡ values p S → j < length (bodies_of p) → t ≡ marks_hold p v v (nth_body p j) → is_true v (literal_of_form p (nth_body p j)) ≡ not t → IsBroken p S (record { lits = misnamed_literals p v (nth_body p j) t; base = base.Pure })
+pub misnamed_broken : (p : Program) (S : Atoms) (v : List Bool) (j : ℕ) (t : Bool) → IsSound p → v ≡ values p S → j < length (bodies_of p) →
+    t ≡ marks_hold p v v (nth_body p j) → is_true v (literal_of_form p (nth_body p j)) ≡ not t →
+    IsBroken p S (record { lits = misnamed_literals p v (nth_body p j) t; base = base.Pure })
 misnamed_broken p S v j t sound is lt holds differs =
     let b : Body = nth_body p j in
     let listed : list_any (body_eq b) (bodies_of p) ≡ true = at_each (λ c. list_any (body_eq c) (bodies_of p) ≡ true) (bodies_of p) j (body.All []) (bodies_of-themselves p) lt in

@@ -35,7 +35,9 @@ item_among p r i lt is =
 pub rule_at : (p : Program) (r : Rule) (i : ℕ) → i < length (rules_in_force p) → r ≡ nth_rule p i → r ≡ get_or (rules_in_force p) i r
 rule_at p r i lt is = is ∙ get_or-any (rules_in_force p) i (record { head = head.Never; body = body.All [] }) r lt
 
-pub keeps_more : (p : Program) (S : Atoms) (r : Rule) (i : ℕ) → i < length (rules_in_force p) → r ≡ get_or (rules_in_force p) i r → list_all (keeps S) (take i (rules_in_force p)) ≡ true → keeps S r ≡ true → list_all (keeps S) (take (i + 1) (rules_in_force p)) ≡ true
+pub keeps_more : (p : Program) (S : Atoms) (r : Rule) (i : ℕ) → i < length (rules_in_force p) → r ≡ get_or (rules_in_force p) i r →
+    list_all (keeps S) (take i (rules_in_force p)) ≡ true → keeps S r ≡ true → list_all (keeps S) (take (i + 1) (rules_in_force p)) ≡ true
 keeps_more p S r i lt is before kept =
     ap (list_all (keeps S)) (take_more (rules_in_force p) i r lt) ∙ list_all-append (keeps S) (take i (rules_in_force p)) (get_or (rules_in_force p) i r ∷ [])
-    ∙ and_from (list_all (keeps S) (take i (rules_in_force p))) (keeps S (get_or (rules_in_force p) i r) && true) before (and_from (keeps S (get_or (rules_in_force p) i r)) true (sym (ap (keeps S) is) ∙ kept) refl)
+    ∙ and_from (list_all (keeps S) (take i (rules_in_force p))) (keeps S (get_or (rules_in_force p) i r) && true) before
+    (and_from (keeps S (get_or (rules_in_force p) i r)) true (sym (ap (keeps S) is) ∙ kept) refl)

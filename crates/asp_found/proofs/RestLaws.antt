@@ -52,7 +52,9 @@ not_false true e = refl
 not_false false e = absurd (false≢true (sym e))
 
 -- what a rule derives from S is in S
-rule_keeps : (p : Program) (S : Atoms) (r : Rule) (h : Head) (a : ℕ) → IsReadBy p S → Among (rules_in_force p) r → has (head_atoms h) a ≡ true → AllByRecursion (λ x. has (atoms_of p) x ≡ true) (head_atoms h) → NoneHit p S (rule_nogoods p (literal_of_body p r.body) h) → body_holds S r.body ≡ true → has (reduct_heads S h) a ≡ true → has S a ≡ true
+rule_keeps : (p : Program) (S : Atoms) (r : Rule) (h : Head) (a : ℕ) → IsReadBy p S → Among (rules_in_force p) r → has (head_atoms h) a ≡ true →
+    AllByRecursion (λ x. has (atoms_of p) x ≡ true) (head_atoms h) → NoneHit p S (rule_nogoods p (literal_of_body p r.body) h) →
+    body_holds S r.body ≡ true → has (reduct_heads S h) a ≡ true → has S a ≡ true
 rule_keeps p S r (head.One b) a read m in_head stand unhit holds_body in_reduct = cases (eqb b a) refl in_head
   where
     lit : Literal
@@ -146,12 +148,16 @@ least-within p S sound unhit =
     (λ r. has (derived_heads S S r) a ≡ true → has S a ≡ true) (λ r f e.
     let parts = derived_split S S r a e in
     rule_keeps p S r r.head a (read_by p S unhit) f.0.0 (reduct_in_heads S a r.head parts.1) f.0.1 f.1 (sym (same_body S r.body) ∙ parts.0) parts.1) (rules_in_force p)
-    (each_both (λ r. Among (rules_in_force p) r × AllByRecursion (λ x. has (atoms_of p) x ≡ true) (head_atoms r.head)) (λ r. NoneHit p S (rule_nogoods p (literal_of_body p r.body) r.head)) (rules_in_force p)
-    (each_both (Among (rules_in_force p)) (λ r. AllByRecursion (λ x. has (atoms_of p) x ≡ true) (head_atoms r.head)) (rules_in_force p) (each_among (rules_in_force p)) (heads_stand p)) (rules_unhit p S unhit)))
-    (sym (list_any-flat_map (λ b. eqb b a) (derived_heads S S) (rules_in_force p)) ∙ sym (has-set_of (flat_map (derived_heads S S) (rules_in_force p)) a) ∙ ap (λ T. has T a) (sym (step_read S S (rules_in_force p))) ∙ h)))
+    (each_both (λ r. Among (rules_in_force p) r × AllByRecursion (λ x. has (atoms_of p) x ≡ true) (head_atoms r.head))
+    (λ r. NoneHit p S (rule_nogoods p (literal_of_body p r.body) r.head)) (rules_in_force p)
+    (each_both (Among (rules_in_force p)) (λ r. AllByRecursion (λ x. has (atoms_of p) x ≡ true) (head_atoms r.head)) (rules_in_force p)
+    (each_among (rules_in_force p)) (heads_stand p)) (rules_unhit p S unhit)))
+    (sym (list_any-flat_map (λ b. eqb b a) (derived_heads S S) (rules_in_force p))
+    ∙ sym (has-set_of (flat_map (derived_heads S S) (rules_in_force p)) a) ∙ ap (λ T. has T a) (sym (step_read S S (rules_in_force p))) ∙ h)))
 
 -- ---- no constraint is broken
-never_fails : (p : Program) (S : Atoms) (r : Rule) (h : Head) → IsReadBy p S → Among (rules_in_force p) r → NoneHit p S (rule_nogoods p (literal_of_body p r.body) h) → (is_never h && body_holds S r.body) ≡ false
+never_fails : (p : Program) (S : Atoms) (r : Rule) (h : Head) → IsReadBy p S → Among (rules_in_force p) r →
+    NoneHit p S (rule_nogoods p (literal_of_body p r.body) h) → (is_never h && body_holds S r.body) ≡ false
 never_fails p S r (head.One a) read m u = refl
 never_fails p S r (head.Choice xs) read m u = refl
 never_fails p S r head.Never read m u =
@@ -164,7 +170,8 @@ never_fails p S r head.Never read m u =
 unviolated : (p : Program) (S : Atoms) → NoneHit p S (completion p) → list_any (is_violated S) (rules_in_force p) ≡ false
 unviolated p S unhit =
     none_passes (is_violated S) (rules_in_force p)
-    (each_weaker (λ r. Among (rules_in_force p) r × NoneHit p S (rule_nogoods p (literal_of_body p r.body) r.head)) (λ r. is_violated S r ≡ false) (λ r f. never_fails p S r r.head (read_by p S unhit) f.0 f.1) (rules_in_force p)
+    (each_weaker (λ r. Among (rules_in_force p) r × NoneHit p S (rule_nogoods p (literal_of_body p r.body) r.head)) (λ r. is_violated S r ≡ false)
+    (λ r f. never_fails p S r r.head (read_by p S unhit) f.0 f.1) (rules_in_force p)
     (each_both (Among (rules_in_force p)) (λ r. NoneHit p S (rule_nogoods p (literal_of_body p r.body) r.head)) (rules_in_force p) (each_among (rules_in_force p)) (rules_unhit p S unhit)))
 
 -- ---- no rest

@@ -49,7 +49,8 @@ reduct_from_heads S a (head.One b) e f = e
 reduct_from_heads S a (head.Choice xs) e f = has-filter_from (has S) xs a e f
 reduct_from_heads S a head.Never e f = e
 
-pub body_fails : (p : Program) (S : Atoms) (r : Rule) (a : ℕ) → IsSound p → Among (rules_in_force p) r → has (head_atoms r.head) a ≡ true → has S a ≡ true → has (least_model p S) a ≡ false → body_holds_between S (least_model p S) r.body ≡ false
+pub body_fails : (p : Program) (S : Atoms) (r : Rule) (a : ℕ) → IsSound p → Among (rules_in_force p) r → has (head_atoms r.head) a ≡ true →
+    has S a ≡ true → has (least_model p S) a ≡ false → body_holds_between S (least_model p S) r.body ≡ false
 body_fails p S r a sound m in_head in_set lacks = cases (body_holds_between S (least_model p S) r.body) refl
   where
     cases : (b : Bool) → b ≡ body_holds_between S (least_model p S) r.body → body_holds_between S (least_model p S) r.body ≡ false
@@ -97,7 +98,9 @@ needs_rest : (p : Program) (S : Atoms) (ls : List ℤ) → all_hold S ls ≡ tru
 needs_rest p S [] h e = absurd (false≢true (sym e))
 needs_rest p S (l ∷ ls) h e = cases (holds_between S (least_model p S) l) refl (needs_rest p S ls (and_right (holds S l) (all_hold S ls) h))
   where
-    cases : (b : Bool) → b ≡ holds_between S (least_model p S) l → (list_all (holds_between S (least_model p S)) ls ≡ false → list_any (is_inside (rest p S)) ls ≡ true) → (is_inside (rest p S) l || list_any (is_inside (rest p S)) ls) ≡ true
+    cases : (b : Bool) → b ≡ holds_between S (least_model p S) l →
+        (list_all (holds_between S (least_model p S)) ls ≡ false → list_any (is_inside (rest p S)) ls ≡ true) →
+        (is_inside (rest p S) l || list_any (is_inside (rest p S)) ls) ≡ true
     cases true q f = skip (is_inside (rest p S) l) (list_any (is_inside (rest p S)) ls) (f (ap (λ b. b && list_all (holds_between S (least_model p S)) ls) q ∙ e))
       where
         skip : (b c : Bool) → c ≡ true → (b || c) ≡ true
@@ -113,7 +116,8 @@ has-rest p S a h = cases (has (least_model p S) a) (has (rest p S) a) refl refl
     cases true false q r = sym r ∙ ap not q
     cases true true q r = absurd (false≢true (ap not q ∙ (has-filtered (λ x. not (has (least_model p S) x)) S a (sym r)).1))
 
-counts_outside : (p : Program) (S : Atoms) (l : ℤ) → IsSubset (least_model p S) S → has (atoms_of p) (atom_of l) ≡ true → (is_false p (assigned p S) l || is_inside (rest p S) l) ≡ not (holds_between S (least_model p S) l)
+counts_outside : (p : Program) (S : Atoms) (l : ℤ) → IsSubset (least_model p S) S → has (atoms_of p) (atom_of l) ≡ true →
+    (is_false p (assigned p S) l || is_inside (rest p S) l) ≡ not (holds_between S (least_model p S) l)
 counts_outside p S (pos a) within e = ap (λ b. b || has (rest p S) a) (is_false-holds p S (pos a) e) ∙ cases (has S a) refl
   where
     cases : (b : Bool) → b ≡ has S a → (not (has S a) || has (rest p S) a) ≡ not (has (least_model p S) a)
@@ -129,7 +133,9 @@ counts_outside p S (negsuc a) within e = ap (λ b. b || false) (is_false-holds p
     plain true = refl
     plain false = refl
 
-outside-rest : (p : Program) (S : Atoms) (items : List (ℤ × ℤ)) → IsSubset (least_model p S) S → AllByRecursion (λ i. has (atoms_of p) (atom_of i.0) ≡ true) items → outside_weight p (assigned p S) (rest p S) items ≡ weight_between S (least_model p S) items
+outside-rest : (p : Program) (S : Atoms) (items : List (ℤ × ℤ)) → IsSubset (least_model p S) S →
+    AllByRecursion (λ i. has (atoms_of p) (atom_of i.0) ≡ true) items →
+    outside_weight p (assigned p S) (rest p S) items ≡ weight_between S (least_model p S) items
 outside-rest p S [] within h = refl
 outside-rest p S (i ∷ items) within h =
     ap (λ b. cond b (pos 0) i.1 +ℤ outside_weight p (assigned p S) (rest p S) items) (counts_outside p S i.0 within h.0)
@@ -143,12 +149,14 @@ outside-rest p S (i ∷ items) within h =
 below_bound : (c w : ℤ) → int_le c w ≡ false → int_lt w c ≡ true
 below_bound c w e = grind (arith, ints)
 
-body_needs : (p : Program) (S : Atoms) (b : Body) → IsSubset (least_model p S) S → Stands (atoms_of p) b → body_holds S b ≡ true → body_holds_between S (least_model p S) b ≡ false → needs p (assigned p S) (rest p S) b ≡ true
+body_needs : (p : Program) (S : Atoms) (b : Body) → IsSubset (least_model p S) S → Stands (atoms_of p) b → body_holds S b ≡ true →
+    body_holds_between S (least_model p S) b ≡ false → needs p (assigned p S) (rest p S) b ≡ true
 body_needs p S (body.All ls) within stands h e = needs_rest p S ls h e
 body_needs p S (body.AtLeast c items) within stands h e =
     ap (λ w. int_lt w c) (outside-rest p S items within stands) ∙ below_bound c (weight_between S (least_model p S) items) e
 
-body_excused : (p : Program) (S : Atoms) (b : Body) → IsReadBy p S → IsSubset (least_model p S) S → Stands (atoms_of p) b → list_any (body_eq b) (bodies_of p) ≡ true → body_holds_between S (least_model p S) b ≡ false → is_excused p (assigned p S) (rest p S) b ≡ true
+body_excused : (p : Program) (S : Atoms) (b : Body) → IsReadBy p S → IsSubset (least_model p S) S → Stands (atoms_of p) b →
+    list_any (body_eq b) (bodies_of p) ≡ true → body_holds_between S (least_model p S) b ≡ false → is_excused p (assigned p S) (rest p S) b ≡ true
 body_excused p S b read within stands has_var e = cases (body_holds S b) refl
   where
     first : holds_in (assigned p S) (complement (literal_of_form p b)) ≡ not (body_holds S b)
@@ -187,7 +195,9 @@ nonempty : (xs : List ℕ) → (xs ≡ [] → ⊥) → ltb 0 (length xs) ≡ tru
 nonempty [] f = absurd (f refl)
 nonempty (x ∷ xs) f = grind (arith, nat_tests)
 
-rule_excused : (p : Program) (S : Atoms) (r : Rule) → IsSound p → IsReadBy p S → IsSubset (least_model p S) S → Among (rules_in_force p) r → Stands (atoms_of p) (normal r.body) → list_any (has (rest p S)) (head_atoms r.head) ≡ true → is_excused p (assigned p S) (rest p S) (normal r.body) ≡ true
+rule_excused : (p : Program) (S : Atoms) (r : Rule) → IsSound p → IsReadBy p S → IsSubset (least_model p S) S → Among (rules_in_force p) r →
+    Stands (atoms_of p) (normal r.body) → list_any (has (rest p S)) (head_atoms r.head) ≡ true →
+    is_excused p (assigned p S) (rest p S) (normal r.body) ≡ true
 rule_excused p S r sound read within m stands e =
     let found = any_member (has (rest p S)) (head_atoms r.head) e in
     let parts = has-filtered (λ x. not (has (least_model p S) x)) S found.0 found.2 in
@@ -207,5 +217,6 @@ rest_unfounded p S sound up unhit unstable =
     (all_pass (λ r. not (list_any (has (rest p S)) (head_atoms r.head)) || is_excused p (assigned p S) (rest p S) (normal r.body)) (rules_in_force p)
     (each_weaker (λ r. Among (rules_in_force p) r × AllByRecursion (λ a. has (atoms_of p) a ≡ true) (body_atoms r.body))
     (λ r. (not (list_any (has (rest p S)) (head_atoms r.head)) || is_excused p (assigned p S) (rest p S) (normal r.body)) ≡ true) (λ r f.
-    or_when (list_any (has (rest p S)) (head_atoms r.head)) (is_excused p (assigned p S) (rest p S) (normal r.body)) (rule_excused p S r sound (read_by p S unhit) within f.0 (normal-stands (atoms_of p) r.body f.1))) (rules_in_force p)
+    or_when (list_any (has (rest p S)) (head_atoms r.head)) (is_excused p (assigned p S) (rest p S) (normal r.body))
+    (rule_excused p S r sound (read_by p S unhit) within f.0 (normal-stands (atoms_of p) r.body f.1))) (rules_in_force p)
     (each_both (Among (rules_in_force p)) (λ r. AllByRecursion (λ a. has (atoms_of p) a ≡ true) (body_atoms r.body)) (rules_in_force p) (each_among (rules_in_force p)) (rules_in_force-bodies p))))

@@ -61,7 +61,9 @@ wide_value p v b wide = ap (is_true v) (literal_by-wide (atoms_of p) (var_of_for
 literals_read : (p : Program) (v : List Bool) (ls : List ℤ) → AllByRecursion (λ l. has (atoms_of p) (atom_of l) ≡ true) ls → AreRead p v (true_atoms p v) ls
 literals_read p v ls stand = each_weaker (λ l. has (atoms_of p) (atom_of l) ≡ true) (λ l. is_true v (literal_of p l) ≡ holds (true_atoms p v) l) (literal_value p v) ls stand
 
-form_value : (p : Program) (v : List Bool) (b : Body) → is_wide b ≡ true → RulesUnhit p v → KeepsWeights p v → list_any (body_eq b) (bodies_of p) ≡ true → Stands (atoms_of p) b → Unhit v (body_nogoods p b) → get_or v (var_of_form p b) false ≡ body_holds (true_atoms p v) b
+form_value : (p : Program) (v : List Bool) (b : Body) → is_wide b ≡ true → RulesUnhit p v → KeepsWeights p v →
+    list_any (body_eq b) (bodies_of p) ≡ true → Stands (atoms_of p) b → Unhit v (body_nogoods p b) →
+    get_or v (var_of_form p b) false ≡ body_holds (true_atoms p v) b
 form_value p v (body.All ls) wide rules keeps listed stand unhit = sym (wide_value p v (body.All ls) wide) ∙ normal_literal p v (true_atoms p v) ls wide (literals_read p v ls stand) rules unhit
 form_value p v (body.AtLeast bound items) wide rules keeps listed stand unhit = sym (beq_true (get_or v (var_of_form p (body.AtLeast bound items)) false)) ∙ keeps bound items listed
 
@@ -121,7 +123,8 @@ IsAscending-filter q (a ∷ S) h = cases (q a) refl (IsAscending-filter q S h.1)
     cases true e rest = rw (← e) (part-above q a S h.0, rest)
     cases false e rest = rw (← e) rest
 
-pub values_stable : (p : Program) (v : List Bool) → IsSound p → IsValuation p v → list_any (hits v) (completion p) ≡ false → KeepsWeights p v → ((U : Atoms) → IsSubset U (true_atoms p v) → is_unfounded p (map (λ b. Some b) v) U ≡ false) → is_stable p (true_atoms p v) ≡ true
+pub values_stable : (p : Program) (v : List Bool) → IsSound p → IsValuation p v → list_any (hits v) (completion p) ≡ false → KeepsWeights p v →
+    ((U : Atoms) → IsSubset U (true_atoms p v) → is_unfounded p (map (λ b. Some b) v) U ≡ false) → is_stable p (true_atoms p v) ≡ true
 values_stable p v sound is e keeps none =
     let S : Atoms = true_atoms p v in
     let same : v ≡ values p S = values_are p v is e keeps in

@@ -33,7 +33,10 @@ begun_shows p S V ys is a stands =
     ap (λ m. is_marked m (var_of_atom p a)) is
     ∙ get_or-place_of (λ b. eqb b a) (has S) (atoms_of p) ys (has S a) (λ x e. ap (has S) (eqb-true x a e)) stands
 
-pub value_more : (p : Program) (S : Atoms) (V W : List Bool) (j : ℕ) → j < length (bodies_of p) → V ≡ (false ∷ map (has S) (atoms_of p)) ++ map (body_holds S) (filter (is_apart p) (take j (bodies_of p))) → W ≡ V ++ map (marks_hold p V V) (filter (is_apart p) (nth_body p j ∷ [])) → W ≡ (false ∷ map (has S) (atoms_of p)) ++ map (body_holds S) (filter (is_apart p) (take (j + 1) (bodies_of p)))
+pub value_more : (p : Program) (S : Atoms) (V W : List Bool) (j : ℕ) → j < length (bodies_of p) →
+    V ≡ (false ∷ map (has S) (atoms_of p)) ++ map (body_holds S) (filter (is_apart p) (take j (bodies_of p))) →
+    W ≡ V ++ map (marks_hold p V V) (filter (is_apart p) (nth_body p j ∷ [])) →
+    W ≡ (false ∷ map (has S) (atoms_of p)) ++ map (body_holds S) (filter (is_apart p) (take (j + 1) (bodies_of p)))
 value_more p S V W j lt is new =
     let b : Body = nth_body p j in
     let before : List Body = filter (is_apart p) (take j (bodies_of p)) in
@@ -70,7 +73,8 @@ atom_value p S V i is lt =
 pub nth_among : (p : Program) (i : ℕ) → i < length (rules_in_force p) → Among (rules_in_force p) (nth_rule p i)
 nth_among p i lt = at_each (Among (rules_in_force p)) (rules_in_force p) i _ (each_among (rules_in_force p)) lt
 
-pub rule_value : (p : Program) (S : Atoms) (V : List Bool) (i : ℕ) (l : Literal) → V ≡ values p S → IsReadBy p S → i < length (rules_in_force p) → l ≡ literal_of_body p (nth_rule p i).body → is_true V l ≡ body_holds S (nth_rule p i).body
+pub rule_value : (p : Program) (S : Atoms) (V : List Bool) (i : ℕ) (l : Literal) → V ≡ values p S → IsReadBy p S → i < length (rules_in_force p) →
+    l ≡ literal_of_body p (nth_rule p i).body → is_true V l ≡ body_holds S (nth_rule p i).body
 rule_value p S V i l is read lt lit = ap (λ U. is_true U l) is ∙ ap (is_true (values p S)) lit ∙ rule-true p S read (nth_rule p i) (nth_among p i lt)
 
 any_not_hit : (V : List Bool) (f : ℕ → Literal) (ns : List ℕ) → list_any (λ n. is_true V (f n)) ns ≡ not (hits V (map (λ n. complement (f n)) ns))
@@ -84,7 +88,8 @@ any_not_hit V f (n ∷ ns) =
     turned true b = refl
     turned false b = refl
 
-pub supported_is : (p : Program) (S : Atoms) (V : List Bool) (a : ℕ) (numbers : List ℕ) → V ≡ values p S → IsReadBy p S → numbers ≡ supports p a → list_any (λ n. is_true V (literal_of_form p (form_at p n))) numbers ≡ is_supported p S a
+pub supported_is : (p : Program) (S : Atoms) (V : List Bool) (a : ℕ) (numbers : List ℕ) → V ≡ values p S → IsReadBy p S → numbers ≡ supports p a →
+    list_any (λ n. is_true V (literal_of_form p (form_at p n))) numbers ≡ is_supported p S a
 supported_is p S V a numbers is read row =
     ap (λ U. list_any (λ n. is_true U (literal_of_form p (form_at p n))) numbers) is
     ∙ ap (list_any (λ n. is_true (values p S) (literal_of_form p (form_at p n)))) row

@@ -41,7 +41,8 @@ or_right true b e = refl
 or_right false b e = e
 
 -- ---- nogoods of the completion
-rule_listed : (p : Program) (r : Rule) (n : List Literal) → Among (rules_in_force p) r → ((q : List Literal → Bool) → q n ≡ true → list_any q (rule_nogoods p (literal_of_body p r.body) r.head) ≡ true) → IsListed p n
+rule_listed : (p : Program) (r : Rule) (n : List Literal) → Among (rules_in_force p) r →
+    ((q : List Literal → Bool) → q n ≡ true → list_any q (rule_nogoods p (literal_of_body p r.body) r.head) ≡ true) → IsListed p n
 rule_listed p r n m at q e =
     let bodies : List (List Literal) = flat_map (body_nogoods p) (bodies_of p) in
     let rules : List (List Literal) = flat_map (λ (s : Rule). rule_nogoods p (literal_of_body p s.body) s.head) (rules_in_force p) in
@@ -82,17 +83,23 @@ both_true true true e f = refl
 both_true true false e f = f
 both_true false b e f = absurd (false≢true e)
 
-pub rule_broken : (p : Program) (S : Atoms) (r : Rule) (h : Head) → IsSound p → IsReadBy p S → Among (rules_in_force p) r → r.head ≡ h → HasAll (atoms_of p) (head_atoms h) → (not (body_holds S r.body) || is_kept S h) ≡ false → IsBroken p S (record { lits = rule_literals p (literal_of_body p r.body) h; base = base.Pure })
+pub rule_broken : (p : Program) (S : Atoms) (r : Rule) (h : Head) → IsSound p → IsReadBy p S → Among (rules_in_force p) r → r.head ≡ h →
+    HasAll (atoms_of p) (head_atoms h) → (not (body_holds S r.body) || is_kept S h) ≡ false →
+    IsBroken p S (record { lits = rule_literals p (literal_of_body p r.body) h; base = base.Pure })
 rule_broken p S r (head.One a) sound read m e stand fails =
     let parts = and_parts' (body_holds S r.body) (has S a) fails in
     let lit : Literal = literal_of_body p r.body in
     let other : Literal = F (var_of_atom p a) in
     let first : is_true (values p S) lit ≡ true = rule-true p S read r m ∙ parts.0 in
     let second : is_true (values p S) other ≡ true = atom-false p S a stand.0 ∙ ap not parts.1 in
-    let differs : literal_eq lit (T (var_of_atom p a)) ≡ false = false_unless (literal_eq lit (T (var_of_atom p a))) (λ same. opposite (values p S) (var_of_atom p a) (ap (is_true (values p S)) (sym (same_literal lit (T (var_of_atom p a)) same)) ∙ first) second) in
+    let differs : literal_eq lit (T (var_of_atom p a)) ≡ false =
+    false_unless (literal_eq lit (T (var_of_atom p a)))
+    (λ same. opposite (values p S) (var_of_atom p a) (ap (is_true (values p S)) (sym (same_literal lit (T (var_of_atom p a)) same)) ∙ first)
+    second) in
     record {
       pure = refl;
-      listed = rule_listed p r _ m (λ q f. subst (λ (h : Head). list_any q (rule_nogoods p lit h) ≡ true) (sym e) (listed_unless q (literal_eq lit (T (var_of_atom p a))) (lit ∷ other ∷ []) differs f));
+      listed = rule_listed p r _ m (λ q f. subst (λ (h : Head). list_any q (rule_nogoods p lit h) ≡ true) (sym e)
+          (listed_unless q (literal_eq lit (T (var_of_atom p a))) (lit ∷ other ∷ []) differs f));
       entailed = head_entailed p r a sound m e stand.0;
       hit = both_true (is_true (values p S) lit) (is_true (values p S) other) first second;
     }
@@ -107,7 +114,8 @@ rule_broken p S r head.Never sound read m e stand fails =
     }
 
 -- ---- an atom that no rule supports
-supported_false : (p : Program) (S : Atoms) (a : ℕ) (b : Body) → is_supported p S a ≡ false → list_any (λ r. has (head_atoms r.head) a && body_eq (normal r.body) b) (rules_in_force p) ≡ true → body_holds S b ≡ false
+supported_false : (p : Program) (S : Atoms) (a : ℕ) (b : Body) → is_supported p S a ≡ false →
+    list_any (λ r. has (head_atoms r.head) a && body_eq (normal r.body) b) (rules_in_force p) ≡ true → body_holds S b ≡ false
 supported_false p S a b none e =
     one_passes (body_holds S b ≡ false) (λ r. has (head_atoms r.head) a && body_eq (normal r.body) b) (rules_in_force p)
     (each_weaker (Among (rules_in_force p)) (λ r. (has (head_atoms r.head) a && body_eq (normal r.body) b) ≡ true → body_holds S b ≡ false) (λ r m f.
@@ -122,24 +130,35 @@ supported_false p S a b none e =
         cases false q = sym q
         cases true q = absurd (false≢true (sym none ∙ m (λ s. has (head_atoms s.head) a && body_holds S s.body) (and_from (has (head_atoms r.head) a) (body_holds S r.body) h (sym q))))
 
-falses_hit : (p : Program) (S : Atoms) → IsReadBy p S → (q : Body → Bool) (bs : List Body) → AllByRecursion (λ b. list_any (body_eq b) (bodies_of p) ≡ true) bs → ((b : Body) → q b ≡ true → body_holds S b ≡ false) → hits (values p S) (map (λ c. complement (literal_of_form p c)) (filter q bs)) ≡ true
+falses_hit : (p : Program) (S : Atoms) → IsReadBy p S → (q : Body → Bool) (bs : List Body) →
+    AllByRecursion (λ b. list_any (body_eq b) (bodies_of p) ≡ true) bs → ((b : Body) → q b ≡ true → body_holds S b ≡ false) →
+    hits (values p S) (map (λ c. complement (literal_of_form p c)) (filter q bs)) ≡ true
 falses_hit p S read q [] stand f = refl
 falses_hit p S read q (b ∷ bs) stand f = cases (q b) refl (falses_hit p S read q bs stand.1 f)
   where
-    cases : (t : Bool) → t ≡ q b → hits (values p S) (map (λ c. complement (literal_of_form p c)) (filter q bs)) ≡ true → hits (values p S) (map (λ c. complement (literal_of_form p c)) (cond (q b) (b ∷ filter q bs) (filter q bs))) ≡ true
+    cases : (t : Bool) → t ≡ q b → hits (values p S) (map (λ c. complement (literal_of_form p c)) (filter q bs)) ≡ true →
+        hits (values p S) (map (λ c. complement (literal_of_form p c)) (cond (q b) (b ∷ filter q bs) (filter q bs))) ≡ true
     cases true e rest_hit = ap (λ t. hits (values p S) (map (λ c. complement (literal_of_form p c)) (cond t (b ∷ filter q bs) (filter q bs)))) (sym e)
-        ∙ and_from (is_true (values p S) (complement (literal_of_form p b))) (hits (values p S) (map (λ c. complement (literal_of_form p c)) (filter q bs))) (form-false p S read b stand.0 ∙ ap not (f b (sym e))) rest_hit
+        ∙ and_from (is_true (values p S) (complement (literal_of_form p b)))
+        (hits (values p S) (map (λ c. complement (literal_of_form p c)) (filter q bs))) (form-false p S read b stand.0 ∙ ap not (f b (sym e)))
+        rest_hit
     cases false e rest_hit = ap (λ t. hits (values p S) (map (λ c. complement (literal_of_form p c)) (cond t (b ∷ filter q bs) (filter q bs)))) (sym e) ∙ rest_hit
 
 pub supports_hit : (p : Program) (S : Atoms) (a : ℕ) → IsReadBy p S → is_supported p S a ≡ false → hits (values p S) (map (λ c. complement (literal_of_form p c)) (support_bodies p a)) ≡ true
 supports_hit p S a read none =
-    falses_hit p S read (λ b. list_any (λ (r : Rule). has (head_atoms r.head) a && body_eq (normal r.body) b) (rules_in_force p)) (bodies_of p) (bodies_of-themselves p) (λ b e. supported_false p S a b none e)
+    falses_hit p S read (λ b. list_any (λ (r : Rule). has (head_atoms r.head) a && body_eq (normal r.body) b) (rules_in_force p)) (bodies_of p)
+    (bodies_of-themselves p) (λ b e. supported_false p S a b none e)
 
-pub atom_broken : (p : Program) (S : Atoms) (a : ℕ) → IsSound p → IsReadBy p S → Among (atoms_of p) a → has (atoms_of p) a ≡ true → has S a ≡ true → is_supported p S a ≡ false → IsBroken p S (record { lits = atom_nogood p a; base = base.Pure })
+pub atom_broken : (p : Program) (S : Atoms) (a : ℕ) → IsSound p → IsReadBy p S → Among (atoms_of p) a → has (atoms_of p) a ≡ true → has S a ≡ true →
+    is_supported p S a ≡ false → IsBroken p S (record { lits = atom_nogood p a; base = base.Pure })
 atom_broken p S a sound read m stands in_set none =
     let first : is_true (values p S) (T (var_of_atom p a)) ≡ true = atom-true p S a stands ∙ in_set in
-    let hit : hits (values p S) (atom_nogood p a) ≡ true = and_from (is_true (values p S) (T (var_of_atom p a))) (hits (values p S) (map (λ c. complement (literal_of_form p c)) (support_bodies p a))) first (supports_hit p S a read none) in
-    let apart : has_literal (atom_nogood p a) (F (var_of_atom p a)) ≡ false = false_unless (has_literal (atom_nogood p a) (F (var_of_atom p a))) (λ stands. opposite (values p S) (var_of_atom p a) first (hits-has (values p S) (atom_nogood p a) (F (var_of_atom p a)) hit stands)) in
+    let hit : hits (values p S) (atom_nogood p a) ≡ true =
+    and_from (is_true (values p S) (T (var_of_atom p a))) (hits (values p S) (map (λ c. complement (literal_of_form p c)) (support_bodies p a)))
+    first (supports_hit p S a read none) in
+    let apart : has_literal (atom_nogood p a) (F (var_of_atom p a)) ≡ false =
+    false_unless (has_literal (atom_nogood p a) (F (var_of_atom p a)))
+    (λ stands. opposite (values p S) (var_of_atom p a) first (hits-has (values p S) (atom_nogood p a) (F (var_of_atom p a)) hit stands)) in
     record {
       pure = refl;
       listed = atom_listed p a (atom_nogood p a) m (λ q f. listed_unless q (has_literal (atom_nogood p a) (F (var_of_atom p a))) (atom_nogood p a) apart f);
@@ -162,13 +181,15 @@ kept_constraint : (a b : Bool) → b ≡ false → (not a || b) ≡ true → a �
 kept_constraint true b e h = absurd (false≢true (sym e ∙ h))
 kept_constraint false b e h = refl
 
-barred_unhit : (p : Program) (S : Atoms) (ls : List ℤ) → AllByRecursion (λ r. keeps S r ≡ true) (rules_in_force p) → Stands (atoms_of p) (body.All ls) → is_barred p (body.All ls) ≡ true → hits (values p S) (map (literal_of p) ls) ≡ false
+barred_unhit : (p : Program) (S : Atoms) (ls : List ℤ) → AllByRecursion (λ r. keeps S r ≡ true) (rules_in_force p) →
+    Stands (atoms_of p) (body.All ls) → is_barred p (body.All ls) ≡ true → hits (values p S) (map (literal_of p) ls) ≡ false
 barred_unhit p S ls kept stands barred =
     hits-literals p S ls stands
     ∙ barred_by (λ r. keeps S r ≡ true) (all_hold S ls ≡ false) p (body.All ls) kept (λ r k is same.
     ap (body_holds S) (sym same) ∙ body_holds-normal S r.body ∙ kept_constraint (body_holds S r.body) (is_kept S r.head) (ap (is_kept S) is) k) barred
 
-body_unhit : (p : Program) (S : Atoms) (b : Body) → IsReadBy p S → AllByRecursion (λ r. keeps S r ≡ true) (rules_in_force p) → list_any (body_eq b) (bodies_of p) ≡ true → Stands (atoms_of p) b → NoneHit p S (body_nogoods p b)
+body_unhit : (p : Program) (S : Atoms) (b : Body) → IsReadBy p S → AllByRecursion (λ r. keeps S r ≡ true) (rules_in_force p) →
+    list_any (body_eq b) (bodies_of p) ≡ true → Stands (atoms_of p) b → NoneHit p S (body_nogoods p b)
 body_unhit p S (body.All ls) read kept has_var stands =
     each_of_body (λ n. hits (values p S) n ≡ false) p ls (barred_unhit p S ls kept stands) (
       ap (λ b. b && hits (values p S) (map (literal_of p) ls)) (form-false p S read (body.All ls) has_var)
@@ -192,7 +213,8 @@ never_no : (a : Bool) → (not a || false) ≡ true → (a && true) ≡ false
 never_no true e = absurd (false≢true e)
 never_no false e = refl
 
-rule_unhit : (p : Program) (S : Atoms) (r : Rule) (h : Head) → IsReadBy p S → Among (rules_in_force p) r → HasAll (atoms_of p) (head_atoms h) → (not (body_holds S r.body) || is_kept S h) ≡ true → NoneHit p S (rule_nogoods p (literal_of_body p r.body) h)
+rule_unhit : (p : Program) (S : Atoms) (r : Rule) (h : Head) → IsReadBy p S → Among (rules_in_force p) r → HasAll (atoms_of p) (head_atoms h) →
+    (not (body_holds S r.body) || is_kept S h) ≡ true → NoneHit p S (rule_nogoods p (literal_of_body p r.body) h)
 rule_unhit p S r (head.One a) read m stand kept =
     each_unless (λ n. hits (values p S) n ≡ false) (literal_eq (literal_of_body p r.body) (T (var_of_atom p a))) (literal_of_body p r.body ∷ F (var_of_atom p a) ∷ [])
     (ap (λ b. b && (is_true (values p S) (F (var_of_atom p a)) && true)) (rule-true p S read r m)
@@ -208,7 +230,9 @@ supports_unhit p S a read h supported =
     one_passes ⊥ (λ r. has (head_atoms r.head) a && body_holds S r.body) (rules_in_force p)
     (each_weaker (Among (rules_in_force p)) (λ r. (has (head_atoms r.head) a && body_holds S r.body) ≡ true → ⊥) (λ r m e.
     let parts = and_parts (has (head_atoms r.head) a) (body_holds S r.body) e in
-    let tested : test (normal r.body) ≡ true = m (λ s. has (head_atoms s.head) a && body_eq (normal s.body) (normal r.body)) (and_from (has (head_atoms r.head) a) (body_eq (normal r.body) (normal r.body)) parts.0 (body_eq-itself (normal r.body))) in
+    let tested : test (normal r.body) ≡ true =
+    m (λ s. has (head_atoms s.head) a && body_eq (normal s.body) (normal r.body))
+    (and_from (has (head_atoms r.head) a) (body_eq (normal r.body) (normal r.body)) parts.0 (body_eq-itself (normal r.body))) in
     let fails : body_holds S (normal r.body) ≡ false = one_passes (body_holds S (normal r.body) ≡ false) (body_eq (normal r.body)) (bodies_of p)
     (each_weaker (λ b. test b ≡ true → body_holds S b ≡ false) (λ b. body_eq (normal r.body) b ≡ true → body_holds S (normal r.body) ≡ false) (λ b f same.
     let eq : normal r.body ≡ b = equal_body (normal r.body) b same in
@@ -233,7 +257,9 @@ among_passes q xs x h m = cases (q x) refl
   where
     cases : (t : Bool) → t ≡ q x → q x ≡ true
     cases true e = sym e
-    cases false e = absurd (one_passes ⊥ (λ y. not (q y)) xs (each_weaker (λ y. q y ≡ true) (λ y. not (q y) ≡ true → ⊥) (λ y f g. false≢true (ap not (sym f) ∙ g)) xs h) (m (λ y. not (q y)) (ap not (sym e))))
+    cases false e = absurd (one_passes ⊥ (λ y. not (q y)) xs
+        (each_weaker (λ y. q y ≡ true) (λ y. not (q y) ≡ true → ⊥) (λ y f g. false≢true (ap not (sym f) ∙ g)) xs h)
+        (m (λ y. not (q y)) (ap not (sym e))))
 
 then_holds : (a b : Bool) → (not a || b) ≡ true → a ≡ true → b ≡ true
 then_holds true b e f = e
@@ -247,7 +273,8 @@ kept_read p S kept supported =
     (each_weaker (λ b. (not (has S b) || is_supported p S b) ≡ true) (λ b. eqb b a ≡ true → is_supported p S a ≡ true) (λ b f same.
     then_holds (has S a) (is_supported p S a) (subst (λ (c : ℕ). (not (has S c) || is_supported p S c) ≡ true) (eqb-true b a same) f) in_set) (atoms_of p) supported) stands)
 
-pub none_broken : (p : Program) (S : Atoms) → list_all (keeps S) (rules_in_force p) ≡ true → list_all (λ a. not (has S a) || is_supported p S a) (atoms_of p) ≡ true → list_any (hits (values p S)) (completion p) ≡ false
+pub none_broken : (p : Program) (S : Atoms) → list_all (keeps S) (rules_in_force p) ≡ true →
+    list_all (λ a. not (has S a) || is_supported p S a) (atoms_of p) ≡ true → list_any (hits (values p S)) (completion p) ≡ false
 none_broken p S kept supported =
     let P : List Literal → Type 0 = λ n. hits (values p S) n ≡ false in
     let bodies : List (List Literal) = flat_map (body_nogoods p) (bodies_of p) in
@@ -257,10 +284,13 @@ none_broken p S kept supported =
     let each_supported : AllByRecursion (λ a. (not (has S a) || is_supported p S a) ≡ true) (atoms_of p) = each_passes (λ a. not (has S a) || is_supported p S a) (atoms_of p) supported in
     let read : IsReadBy p S = kept_read p S each_kept each_supported in
     none_passes (hits (values p S)) (completion p) (each-append P (bodies ++ rules) atoms (each-append P bodies rules
-    (each-flat_map P (body_nogoods p) (bodies_of p) (each_weaker (λ b. (list_any (body_eq b) (bodies_of p) ≡ true) × Stands (atoms_of p) b) (λ b. AllByRecursion P (body_nogoods p b)) (λ b h. body_unhit p S b read each_kept h.0 h.1) (bodies_of p)
+    (each-flat_map P (body_nogoods p) (bodies_of p) (each_weaker (λ b. (list_any (body_eq b) (bodies_of p) ≡ true) × Stands (atoms_of p) b)
+    (λ b. AllByRecursion P (body_nogoods p b)) (λ b h. body_unhit p S b read each_kept h.0 h.1) (bodies_of p)
     (each_both (λ b. list_any (body_eq b) (bodies_of p) ≡ true) (Stands (atoms_of p)) (bodies_of p) (bodies_of-themselves p) (bodies_of-stand p))))
     (each-flat_map P (λ (r : Rule). rule_nogoods p (literal_of_body p r.body) r.head) (rules_in_force p)
-    (each_weaker (λ r. (Among (rules_in_force p) r × HasAll (atoms_of p) (head_atoms r.head)) × (keeps S r ≡ true)) (λ r. AllByRecursion P (rule_nogoods p (literal_of_body p r.body) r.head)) (λ r h. rule_unhit p S r r.head read h.0.0 h.0.1 h.1) (rules_in_force p)
+    (each_weaker (λ r. (Among (rules_in_force p) r × HasAll (atoms_of p) (head_atoms r.head)) × (keeps S r ≡ true))
+    (λ r. AllByRecursion P (rule_nogoods p (literal_of_body p r.body) r.head)) (λ r h. rule_unhit p S r r.head read h.0.0 h.0.1 h.1)
+    (rules_in_force p)
     (each_both (λ r. Among (rules_in_force p) r × HasAll (atoms_of p) (head_atoms r.head)) (λ r. keeps S r ≡ true) (rules_in_force p)
     (each_both (Among (rules_in_force p)) (λ r. HasAll (atoms_of p) (head_atoms r.head)) (rules_in_force p) (each_among (rules_in_force p)) (rules_in_force-heads p)) each_kept))))
     (each-flat_map P (atom_nogoods p) (atoms_of p)

@@ -39,7 +39,8 @@ one_quoted false o xs ys e = e
 
 shown-quoted : (S : Atoms) (os : List Output) → shown_of S (map quoted_output os) ≡ map quoted (shown_of S os)
 shown-quoted S [] = refl
-shown-quoted S (o ∷ os) = one_quoted (all_hold S o.condition) o (filter (λ (o : Output). all_hold S o.condition) (map quoted_output os)) (filter (λ (o : Output). all_hold S o.condition) os) (shown-quoted S os)
+shown-quoted S (o ∷ os) = one_quoted (all_hold S o.condition) o (filter (λ (o : Output). all_hold S o.condition) (map quoted_output os))
+    (filter (λ (o : Output). all_hold S o.condition) os) (shown-quoted S os)
 
 pub texts-joined : (p : Program) (S : Atoms) → pieces 44 S false (map quoted_output p.outputs) ≡ join_with_byte 44 (map quoted (shown p S))
 texts-joined p S = pieces-joined 44 S (map quoted_output p.outputs) ∙ ap (join_with_byte 44) (shown-quoted S p.outputs)
@@ -50,7 +51,8 @@ texts-turn S any now os i o lt is flag =
     ap (λ (t : List Output). pieces 44 S any (map quoted_output t)) (drop_turn os i o lt is)
     ∙ ap (λ (b : Bool). piece 44 S any (quoted_output o) ++ pieces 44 S b (map quoted_output (drop (i + 1) os))) (sym flag)
 
-pub outputs_more : (os qs : List Output) (i : ℕ) (o q : Output) → i < length os → o ≡ get_or os i o → q ≡ quoted_output o → qs ≡ map quoted_output (take i os) → qs ++ q ∷ [] ≡ map quoted_output (take (i + 1) os)
+pub outputs_more : (os qs : List Output) (i : ℕ) (o q : Output) → i < length os → o ≡ get_or os i o → q ≡ quoted_output o →
+    qs ≡ map quoted_output (take i os) → qs ++ q ∷ [] ≡ map quoted_output (take (i + 1) os)
 outputs_more os qs i o q lt at is all =
     ap (λ (t : List Output). t ++ q ∷ []) all ∙ ap (λ (x : Output). map quoted_output (take i os) ++ x ∷ []) (is ∙ ap quoted_output at)
     ∙ sym (ap (map quoted_output) (take_more os i o lt) ∙ map-append quoted_output (take i os) (get_or os i o ∷ []))
@@ -59,6 +61,7 @@ pub view-quoted : (o : Output) (t : List ℕ) → t ≡ quoted o.text → record
 view-quoted o t e = ap (λ (x : List ℕ). let q : Output = record { text = x; condition = o.condition } in q) e
 
 -- ---- answers in brackets
-pub witnesses-some : (p : Program) (best : Option (Atoms × List ℤ)) (Ss : List Atoms) → (length Ss ≡ 0 → ⊥) → codes "\"Witnesses\":[" ++ commas false (map (witness p best) Ss) ++ codes "\n]" ≡ witnesses p best Ss
+pub witnesses-some : (p : Program) (best : Option (Atoms × List ℤ)) (Ss : List Atoms) → (length Ss ≡ 0 → ⊥) →
+    codes "\"Witnesses\":[" ++ commas false (map (witness p best) Ss) ++ codes "\n]" ≡ witnesses p best Ss
 witnesses-some p best [] some = absurd (some refl)
 witnesses-some p best (S ∷ Ss) some = ap (λ (t : List ℕ). codes "\"Witnesses\":[" ++ (t ++ codes "\n]")) (commas-join (map (witness p best) (S ∷ Ss)))

@@ -23,7 +23,9 @@ byte-back : (b : ℕ) (rest : List ℕ) → unescaped nothing (escaped b ++ rest
 byte-back b rest = by (b == 34) (b == 92) (nat_lt b 32) refl refl refl
   where
     by : (p q r : Bool) → (b == 34) ≡ p → (b == 92) ≡ q → nat_lt b 32 ≡ r
-        → unescaped nothing ((if p || q then 92 ∷ b ∷ [] else (if r then 92 ∷ 117 ∷ 48 ∷ 48 ∷ hex_digit (b / 16) ∷ hex_digit (b % 16) ∷ [] else b ∷ [])) ++ rest) ≡ option_map (λ t. b ∷ t) (unescaped nothing rest)
+        → unescaped nothing ((if p || q then 92 ∷ b ∷ []
+        else (if r then 92 ∷ 117 ∷ 48 ∷ 48 ∷ hex_digit (b / 16) ∷ hex_digit (b % 16) ∷ [] else b ∷ [])) ++ rest) ≡ option_map (λ t. b ∷ t)
+        (unescaped nothing rest)
     by true q r is _ _ = let e : b ≡ 34 = eqb-true b 34 is in rw e refl
     by false true r _ is _ = let e : b ≡ 92 = eqb-true b 92 is in rw e refl
     by false false true _ _ is = code-back b rest (ltb-true b 32 is)

@@ -23,7 +23,8 @@ module _ {Z : Type 0} where
 
   blocked-push : (blocks : List (Arc Block Z)) (b : Arc Block Z) → blocked (blocks ++ b ∷ []) ≡ blocked blocks ++ (arc_value b).items.items
   blocked-push [] b = append-nil (arc_value b).items.items
-  blocked-push (x ∷ blocks) b = ap (λ (l : List Nogood). (arc_value x).items.items ++ l) (blocked-push blocks b) ∙ sym (append_assoc (arc_value x).items.items (blocked blocks) (arc_value b).items.items)
+  blocked-push (x ∷ blocks) b = ap (λ (l : List Nogood). (arc_value x).items.items ++ l) (blocked-push blocks b)
+      ∙ sym (append_assoc (arc_value x).items.items (blocked blocks) (arc_value b).items.items)
 
   -- the tail and one entry more are a block
   pub stored-filled : (blocks new : List (Arc Block Z)) (b : Arc Block Z) (tail none : List Nogood) (e : Nogood) → new ≡ blocks ++ b ∷ [] → (arc_value b).items.items ≡ tail ++ e ∷ [] → none ≡ []
@@ -77,13 +78,16 @@ module _ {Z : Type 0} where
       ap (λ (i : ℕ). get_or (stored blocks tail) i d) place ∙ get_or-append-add (blocked blocks) tail m d
 
   -- a reader's entries: blocks with the contents of those from the k-th on, and the tail
-  pub stored-shown : (blocks more : List (Arc Block Z)) (tail copies : List Nogood) (from : ℕ) → from ≤ length (stored blocks tail) → length tail < 64 → map arc_value more ≡ map arc_value (drop (from / 64) blocks) → copies ≡ tail
+  pub stored-shown : (blocks more : List (Arc Block Z)) (tail copies : List Nogood) (from : ℕ) → from ≤ length (stored blocks tail) →
+      length tail < 64 → map arc_value more ≡ map arc_value (drop (from / 64) blocks) → copies ≡ tail
       → drop (from % 64) (stored more copies) ≡ drop from (stored blocks tail)
   stored-shown blocks more tail copies from within small same copied =
-      ap (λ (l : List Nogood). drop (from % 64) (l ++ copies)) (blocked-same more (drop (from / 64) blocks) same) ∙ ap (λ (l : List Nogood). drop (from % 64) (stored (drop (from / 64) blocks) l)) copied
+      ap (λ (l : List Nogood). drop (from % 64) (l ++ copies)) (blocked-same more (drop (from / 64) blocks) same)
+      ∙ ap (λ (l : List Nogood). drop (from % 64) (stored (drop (from / 64) blocks) l)) copied
       ∙ sym (drop-stored blocks tail (from / 64) (from % 64) from (omega (arith, length-stored blocks tail)) (omega arith))
 
-  pub length-shown : (blocks more : List (Arc Block Z)) (tail copies : List Nogood) (from : ℕ) → from ≤ length (stored blocks tail) → length tail < 64 → map arc_value more ≡ map arc_value (drop (from / 64) blocks) → copies ≡ tail
+  pub length-shown : (blocks more : List (Arc Block Z)) (tail copies : List Nogood) (from : ℕ) → from ≤ length (stored blocks tail) →
+      length tail < 64 → map arc_value more ≡ map arc_value (drop (from / 64) blocks) → copies ≡ tail
       → length (stored more copies) + 64 * (from / 64) ≡ length (stored blocks tail)
   length-shown blocks more tail copies from within small same copied =
       omega (

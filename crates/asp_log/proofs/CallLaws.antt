@@ -14,7 +14,8 @@ use Rattle.asp_log.specs.Entries.{unsigned}
 abbrev Knows : Type 0
 Knows = View Scope Nogood
 
-module _ (kept : List Nogood → Type 0) (v u w : Knows) (m : ℕ) (xs ys : List Nogood) (n : Nogood) (took : u ≡ holding xs (after_misses m v)) (gave : w ≡ given_back ys u) (learnt : Learnt unsigned v xs) where
+module _ (kept : List Nogood → Type 0) (v u w : Knows) (m : ℕ) (xs ys : List Nogood) (n : Nogood) (took : u ≡ holding xs (after_misses m v))
+    (gave : w ≡ given_back ys u) (learnt : Learnt unsigned v xs) where
   given : (added : List Nogood) → ys ≡ xs ++ added → w ≡ given_back (xs ++ added) u
   given added e = gave ∙ ap (λ (l : List Nogood). given_back l u) e
 
@@ -22,7 +23,8 @@ module _ (kept : List Nogood → Type 0) (v u w : Knows) (m : ℕ) (xs ys : List
   append-stays (Ok at) ok err = stays_by unsigned v u w m xs (n ∷ []) took (given (n ∷ []) ok.1) learnt
   append-stays (Err e) ok err = stays_by unsigned v u w m xs [] took (given [] (err ∙ sym (append-nil xs))) learnt
 
-  pub append-moment : {X : Type 0} (r : Result ℕ X) → kept ys → IfOk r (λ at. (at ≡ length xs) × (ys ≡ xs ++ n ∷ [])) → IfOk r (λ at. (before : List Nogood) × (at ≡ length before) × Moment unsigned kept v w before (n ∷ []))
+  pub append-moment : {X : Type 0} (r : Result ℕ X) → kept ys → IfOk r (λ at. (at ≡ length xs) × (ys ≡ xs ++ n ∷ [])) →
+      IfOk r (λ at. (before : List Nogood) × (at ≡ length before) × Moment unsigned kept v w before (n ∷ []))
   append-moment (Ok at) keeps ok = (xs, ok.0, moment_of unsigned kept v u w m xs (n ∷ []) took (given (n ∷ []) ok.1) learnt (subst kept ok.1 keeps))
   append-moment (Err e) keeps ok = tt
 

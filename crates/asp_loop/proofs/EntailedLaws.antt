@@ -72,7 +72,8 @@ less false true w p f = p
 less false false w p f = omega (arith, ints)
 
 -- what passes the one test passes the other
-pub weight_less : (S T : Atoms) (q : ℤ → Bool) (items : List (ℤ × ℤ)) → AreItems items → AllByRecursion (λ (i : ℤ × ℤ). holds_between S T i.0 ≡ true → q i.0 ≡ true) items → weight_between S T items ≤ℤ weight_where q items
+pub weight_less : (S T : Atoms) (q : ℤ → Bool) (items : List (ℤ × ℤ)) → AreItems items →
+    AllByRecursion (λ (i : ℤ × ℤ). holds_between S T i.0 ≡ true → q i.0 ≡ true) items → weight_between S T items ≤ℤ weight_where q items
 weight_less S T q [] weighted f = omega (arith, ints)
 weight_less S T q (i ∷ items) weighted f =
     let a = less (holds_between S T i.0) (q i.0) i.1 weighted.0 f.0 in
@@ -111,14 +112,17 @@ turned : (b : Bool) → b ≡ false → not b ≡ true
 turned true e = absurd (false≢true (sym e))
 turned false e = refl
 
-pub body_not_false : (p : Program) (S T U : Atoms) (b : Body) → IsReadBy p S → list_any (body_eq b) (bodies_of p) ≡ true → Apart S T U → AreItems (form_items b) → body_holds_between S T b ≡ true → is_true (values p S) (complement (literal_of_form p b)) ≡ true → ⊥
+pub body_not_false : (p : Program) (S T U : Atoms) (b : Body) → IsReadBy p S → list_any (body_eq b) (bodies_of p) ≡ true → Apart S T U →
+    AreItems (form_items b) → body_holds_between S T b ≡ true → is_true (values p S) (complement (literal_of_form p b)) ≡ true → ⊥
 body_not_false p S T U b read listed h weighted e f =
     false≢true (sym (ap not (body_between S T U b h weighted e)) ∙ sym (form-false p S read b listed) ∙ f)
 
 -- a literal that holds is left
-pub left_holds : (p : Program) (S T U : Atoms) (part : List Literal) (l : ℤ) → has (atoms_of p) (atom_of l) ≡ true → hits (values p S) part ≡ true → Apart S T U → holds_between S T l ≡ true → is_left p U part l ≡ true
+pub left_holds : (p : Program) (S T U : Atoms) (part : List Literal) (l : ℤ) → has (atoms_of p) (atom_of l) ≡ true → hits (values p S) part ≡ true →
+    Apart S T U → holds_between S T l ≡ true → is_left p U part l ≡ true
 left_holds p S T U part l stands hit h e =
-    and_from (not (is_inside U l)) (not (has_literal part (complement (literal_of p l)))) (turned (is_inside U l) (between_outside S T U l h e)) (turned (has_literal part (complement (literal_of p l))) (cases (has_literal part (complement (literal_of p l))) refl))
+    and_from (not (is_inside U l)) (not (has_literal part (complement (literal_of p l)))) (turned (is_inside U l) (between_outside S T U l h e))
+    (turned (has_literal part (complement (literal_of p l))) (cases (has_literal part (complement (literal_of p l))) refl))
   where
     cases : (b : Bool) → b ≡ has_literal part (complement (literal_of p l)) → has_literal part (complement (literal_of p l)) ≡ false
     cases false q = sym q
@@ -127,7 +131,9 @@ left_holds p S T U part l stands hit h e =
         let fails : not (holds S l) ≡ true = sym (ap not (literal-holds p S l stands)) ∙ sym (is_true-complement (values p S) (literal_of p l)) ∙ held in
         absurd (false≢true (sym (not_true (holds S l) fails) ∙ between_holds S T U l h e))
 
-part_hit : (p : Program) (S T U : Atoms) (b : Body) (part : List Literal) → IsReadBy p S → list_any (body_eq b) (bodies_of p) ≡ true → Stands (atoms_of p) b → AreItems (form_items b) → Apart S T U → body_holds_between S T b ≡ true → IsPart p U b part → hits (values p S) part ≡ true → ⊥
+part_hit : (p : Program) (S T U : Atoms) (b : Body) (part : List Literal) → IsReadBy p S → list_any (body_eq b) (bodies_of p) ≡ true →
+    Stands (atoms_of p) b → AreItems (form_items b) → Apart S T U → body_holds_between S T b ≡ true → IsPart p U b part →
+    hits (values p S) part ≡ true → ⊥
 part_hit p S T U (body.All ls) part read listed stands weighted h e shape hit =
     let none : list_any (is_inside U) ls ≡ false = none_inside S T U ls h e in
     let is : part ≡ complement (literal_of_form p (body.All ls)) ∷ [] = shape ∙ ap (λ b. cond b [] (complement (literal_of_form p (body.All ls)) ∷ [])) none in
@@ -146,18 +152,22 @@ part_hit p S T U (body.AtLeast c items) part read listed stands weighted h e sha
     cases true q = too_light c (weight_between S T items) (weight_where (λ l. not (is_inside U l)) items) e (weight_less S T (λ l. not (is_inside U l)) items weighted (outside items)) (sym q)
     cases false q = elim (subst (λ (b : Bool). MatchBool b (part ≡ []) ((part ≡ complement (literal_of_form p (body.AtLeast c items)) ∷ []) ⊎ IsChosen p U c items part)) (sym q) shape) [
       | inl is ↦
-          body_not_false p S T U (body.AtLeast c items) read listed h weighted e (and_left (is_true (values p S) (complement (literal_of_form p (body.AtLeast c items)))) true (sym (ap (hits (values p S)) is) ∙ hit))
+          body_not_false p S T U (body.AtLeast c items) read listed h weighted e
+          (and_left (is_true (values p S) (complement (literal_of_form p (body.AtLeast c items)))) true (sym (ap (hits (values p S)) is) ∙ hit))
       | inr chosen ↦ too_light c (weight_between S T items) (weight_where (is_left p U part) items) e (weight_less S T (is_left p U part) items weighted (left items stands)) chosen.enough
     ]
 
 -- the part of one of the bodies
-parts_hit : (p : Program) (S U : Atoms) (b : Body) (bodies : List Body) (rest : List Literal) → list_any (body_eq b) bodies ≡ true → AreParts p U bodies rest → hits (values p S) rest ≡ true → (part : List Literal) × IsPart p U b part × (hits (values p S) part ≡ true)
+parts_hit : (p : Program) (S U : Atoms) (b : Body) (bodies : List Body) (rest : List Literal) → list_any (body_eq b) bodies ≡ true →
+    AreParts p U bodies rest → hits (values p S) rest ≡ true → (part : List Literal) × IsPart p U b part × (hits (values p S) part ≡ true)
 parts_hit p S U b [] rest e parts hit = absurd (false≢true e)
 parts_hit p S U b (c ∷ bodies) rest e parts hit =
     let both = and_parts (hits (values p S) parts.0) (hits (values p S) parts.1) (sym (hits-append (values p S) parts.0 parts.1) ∙ sym (ap (hits (values p S)) parts.2) ∙ hit) in
     cases (body_eq b c) refl both (parts_hit p S U b bodies parts.1)
   where
-    cases : (t : Bool) → t ≡ body_eq b c → (hits (values p S) parts.0 ≡ true) × (hits (values p S) parts.1 ≡ true) → (list_any (body_eq b) bodies ≡ true → AreParts p U bodies parts.1 → hits (values p S) parts.1 ≡ true → (part : List Literal) × IsPart p U b part × (hits (values p S) part ≡ true)) → (part : List Literal) × IsPart p U b part × (hits (values p S) part ≡ true)
+    cases : (t : Bool) → t ≡ body_eq b c → (hits (values p S) parts.0 ≡ true) × (hits (values p S) parts.1 ≡ true) →
+        (list_any (body_eq b) bodies ≡ true → AreParts p U bodies parts.1 → hits (values p S) parts.1 ≡ true → (part : List Literal) ×
+        IsPart p U b part × (hits (values p S) part ≡ true)) → (part : List Literal) × IsPart p U b part × (hits (values p S) part ≡ true)
     cases true q both later = (parts.0, subst (λ (d : Body). IsPart p U d parts.0) (sym (same_body b c (sym q))) parts.3, both.0)
     cases false q both later = later (ap (λ t. t || list_any (body_eq b) bodies) q ∙ e) parts.4 both.1
 
@@ -186,7 +196,8 @@ derived_parts S T r a e = cases (body_holds_between S T r.body) refl
     cases true q = (sym q, in_head S r.head a (ap (λ b. has (cond b (reduct_heads S r.head) []) a) q ∙ e))
     cases false q = absurd (false≢true (ap (λ b. has (cond b (reduct_heads S r.head) []) a) q ∙ e))
 
-pub loop_entailed : (p : Program) (U : Atoms) (a : ℕ) (bodies : List Body) (rest : List Literal) → IsSound p → has U a ≡ true → has (atoms_of p) a ≡ true → AreSupports p U bodies → AreParts p U bodies rest → Entailed p (T (var_of_atom p a) ∷ rest)
+pub loop_entailed : (p : Program) (U : Atoms) (a : ℕ) (bodies : List Body) (rest : List Literal) → IsSound p → has U a ≡ true →
+    has (atoms_of p) a ≡ true → AreSupports p U bodies → AreParts p U bodies rest → Entailed p (T (var_of_atom p a) ∷ rest)
 loop_entailed p U a bodies rest sound member stands supports parts = record { excused = λ S stable hit. absurd (broken S stable hit) }
   where
     outside : (s u v : Bool) → u ≡ true → v ≡ (s && u) → (not v && s) ≡ false
@@ -208,11 +219,19 @@ loop_entailed p U a bodies rest sound member stands supports parts = record { ex
           meets_not = λ b e. has-without V S b ∙ outside (has S b) (has U b) (has V b) e (has-filter (has S) U b);
         } in
         let founded = stable-founded p S V sound stable (λ b e. and_left (has S b) (has U b) (sym (has-filter (has S) U b) ∙ e)) a in_V in
-        let rule = some (λ r. Among (rules_in_force p) r × AllByRecursion (λ c. has (atoms_of p) c ≡ true) (body_atoms r.body)) (λ r. has (derived_heads S W r) founded.0) (rules_in_force p) (each_both (Among (rules_in_force p)) (λ r. AllByRecursion (λ c. has (atoms_of p) c ≡ true) (body_atoms r.body)) (rules_in_force p) (each_among (rules_in_force p)) (rules_in_force-bodies p))
+        let rule = some (λ r. Among (rules_in_force p) r × AllByRecursion (λ c. has (atoms_of p) c ≡ true) (body_atoms r.body))
+        (λ r. has (derived_heads S W r) founded.0) (rules_in_force p)
+        (each_both (Among (rules_in_force p)) (λ r. AllByRecursion (λ c. has (atoms_of p) c ≡ true) (body_atoms r.body)) (rules_in_force p)
+        (each_among (rules_in_force p)) (rules_in_force-bodies p))
         (sym (list_any-flat_map (λ b. eqb b founded.0) (derived_heads S W) (rules_in_force p)) ∙ sym (has-set_of (flat_map (derived_heads S W) (rules_in_force p)) founded.0) ∙ founded.2) in
         let derived = derived_parts S W rule.0 founded.0 rule.2 in
         let form : Body = normal rule.0.body in
         let in_U : has U founded.0 ≡ true = and_right (has S founded.0) (has U founded.0) (sym (has-filter (has S) U founded.0) ∙ founded.1) in
-        let supported : supports_some p U form ≡ true = rule.1.0 (λ r. list_any (has U) (head_atoms r.head) && body_eq (normal r.body) form) (and_from (list_any (has U) (head_atoms rule.0.head)) (body_eq form form) (any_of (has U) (head_atoms rule.0.head) founded.0 derived.1 in_U) (body_eq-itself form)) in
+        let supported : supports_some p U form ≡ true =
+        rule.1.0 (λ r. list_any (has U) (head_atoms r.head) && body_eq (normal r.body) form)
+        (and_from (list_any (has U) (head_atoms rule.0.head)) (body_eq form form)
+        (any_of (has U) (head_atoms rule.0.head) founded.0 derived.1 in_U) (body_eq-itself form)) in
         let part = parts_hit p S U form bodies rest (supports form ∙ supported) parts both.1 in
-        part_hit p S W U form part.0 (stable-read p S sound stable) (rule_has_form p rule.0 rule.1.0) (normal-stands (atoms_of p) rule.0.body rule.1.1) (form_weighted p rule.0 sound rule.1.0) apart (body_holds_between-normal S W rule.0.body ∙ derived.0) part.1 part.2
+        part_hit p S W U form part.0 (stable-read p S sound stable) (rule_has_form p rule.0 rule.1.0)
+        (normal-stands (atoms_of p) rule.0.body rule.1.1) (form_weighted p rule.0 sound rule.1.0) apart
+        (body_holds_between-normal S W rule.0.body ∙ derived.0) part.1 part.2

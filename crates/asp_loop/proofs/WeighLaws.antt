@@ -19,10 +19,16 @@ taken : (b : Bool) (w : ℤ) → pos 0 ≤ℤ w → pos 0 ≤ℤ cond b w (pos 0
 taken true w h = h
 taken false w h = omega (arith, ints)
 
-pub weigh_more : (q : Literal → Bool) (lits : List Literal) (weights : List ℤ) (i : ℕ) (d : Literal) (e : ℤ) → i < length lits → length weights ≡ length lits → weigh q (take (i + 1) lits) (take (i + 1) weights) ≡ (weigh q (take i lits) (take i weights) +ℤ cond (q (get_or lits i d)) (get_or weights i e) (pos 0))
-weigh_more q lits weights i d e lt same = subst (λ (n : ℕ). weigh q (take n lits) (take n weights) ≡ (weigh q (take i lits) (take i weights) +ℤ cond (q (get_or lits i d)) (get_or weights i e) (pos 0))) (let k : suc i ≡ i + 1 = omega arith in k) (along lits weights i lt same)
+pub weigh_more : (q : Literal → Bool) (lits : List Literal) (weights : List ℤ) (i : ℕ) (d : Literal) (e : ℤ) → i < length lits →
+    length weights ≡ length lits → weigh q (take (i + 1) lits) (take (i + 1) weights) ≡
+    (weigh q (take i lits) (take i weights) +ℤ cond (q (get_or lits i d)) (get_or weights i e) (pos 0))
+weigh_more q lits weights i d e lt same = subst
+    (λ (n : ℕ). weigh q (take n lits) (take n weights) ≡
+    (weigh q (take i lits) (take i weights) +ℤ cond (q (get_or lits i d)) (get_or weights i e) (pos 0)))
+    (let k : suc i ≡ i + 1 = omega arith in k) (along lits weights i lt same)
   where
-    along : (ls : List Literal) (ws : List ℤ) (k : ℕ) → k < length ls → length ws ≡ length ls → weigh q (take (suc k) ls) (take (suc k) ws) ≡ (weigh q (take k ls) (take k ws) +ℤ cond (q (get_or ls k d)) (get_or ws k e) (pos 0))
+    along : (ls : List Literal) (ws : List ℤ) (k : ℕ) → k < length ls → length ws ≡ length ls →
+        weigh q (take (suc k) ls) (take (suc k) ws) ≡ (weigh q (take k ls) (take k ws) +ℤ cond (q (get_or ls k d)) (get_or ws k e) (pos 0))
     along [] ws k lt same = absurd (omega arith)
     along (l ∷ ls) [] k lt same = absurd (omega arith)
     along (l ∷ ls) (w ∷ ws) zero lt same = omega (arith, ints)
@@ -49,17 +55,24 @@ take_whole (x ∷ xs) zero h = absurd (omega arith)
 take_whole (x ∷ xs) (suc n) h = ap (λ ys. x ∷ ys) (take_whole xs n (omega arith))
 
 -- ---- what is left of a bound
-pub slack_more : (q : Literal → Bool) (lits : List Literal) (weights : List ℤ) (i : ℕ) (d : Literal) (e bound : ℤ) (left left' : ℕ) → i < length lits → length weights ≡ length lits → pos left ≡ (bound -ℤ weigh q (take i lits) (take i weights)) → IsSlack (pos left) (cond (q (get_or lits i d)) (get_or weights i e) (pos 0)) (Some left') → (0 < left') × (pos left' ≡ (bound -ℤ weigh q (take (i + 1) lits) (take (i + 1) weights)))
+pub slack_more : (q : Literal → Bool) (lits : List Literal) (weights : List ℤ) (i : ℕ) (d : Literal) (e bound : ℤ) (left left' : ℕ) →
+    i < length lits → length weights ≡ length lits → pos left ≡ (bound -ℤ weigh q (take i lits) (take i weights)) →
+    IsSlack (pos left) (cond (q (get_or lits i d)) (get_or weights i e) (pos 0)) (Some left') → (0 < left') ×
+    (pos left' ≡ (bound -ℤ weigh q (take (i + 1) lits) (take (i + 1) weights)))
 slack_more q lits weights i d e bound left left' lt same before step =
     let more = weigh_more q lits weights i d e lt same in (step.1, (let s = step.0 in omega (arith, ints, more, before, s)))
 
-pub slack_none : (q : Literal → Bool) (lits : List Literal) (weights : List ℤ) (i : ℕ) (d : Literal) (e bound : ℤ) (left : ℕ) → i < length lits → length weights ≡ length lits → AreWeights weights → pos left ≡ (bound -ℤ weigh q (take i lits) (take i weights)) → IsSlack (pos left) (cond (q (get_or lits i d)) (get_or weights i e) (pos 0)) None → bound ≤ℤ weigh q lits weights
+pub slack_none : (q : Literal → Bool) (lits : List Literal) (weights : List ℤ) (i : ℕ) (d : Literal) (e bound : ℤ) (left : ℕ) → i < length lits →
+    length weights ≡ length lits → AreWeights weights → pos left ≡ (bound -ℤ weigh q (take i lits) (take i weights)) →
+    IsSlack (pos left) (cond (q (get_or lits i d)) (get_or weights i e) (pos 0)) None → bound ≤ℤ weigh q lits weights
 slack_none q lits weights i d e bound left lt same positive before step =
     let more = weigh_more q lits weights i d e lt same in
     let front = weigh_front q lits weights (i + 1) positive in
     omega (arith, ints, more, front, before, step)
 
-pub slack_whole : (q : Literal → Bool) (lits : List Literal) (weights : List ℤ) (i : ℕ) (bound : ℤ) (left : ℕ) → length lits ≤ i → length weights ≡ length lits → 0 < left → pos left ≡ (bound -ℤ weigh q (take i lits) (take i weights)) → IsSlack bound (weigh q lits weights) (Some left)
+pub slack_whole : (q : Literal → Bool) (lits : List Literal) (weights : List ℤ) (i : ℕ) (bound : ℤ) (left : ℕ) → length lits ≤ i →
+    length weights ≡ length lits → 0 < left → pos left ≡ (bound -ℤ weigh q (take i lits) (take i weights)) →
+    IsSlack bound (weigh q lits weights) (Some left)
 slack_whole q lits weights i bound left end same positive is =
     (is ∙ ap (λ ls. bound -ℤ weigh q ls (take i weights)) (take_whole lits i end) ∙ ap (λ ws. bound -ℤ weigh q lits ws) (take_whole weights i (omega arith)), positive)
 
@@ -69,7 +82,8 @@ pub record Choosing (x : List (Option Bool)) (vars : Atoms) (lits : List Literal
   pub is : now ≡ old ++ part
   pub positive : 0 < left
   pub chosen : AllByRecursion (λ l. list_any (λ k. is_choice x vars k && literal_eq (complement k) l) lits ≡ true) part
-  pub enough : (n : List Literal) → ((l : Literal) → has_literal part l ≡ true → has_literal n l ≡ true) → (weigh (is_kept vars n) (take i lits) (take i weights) +ℤ pos left) ≤ℤ (weigh (counts x vars true) (take i lits) (take i weights) +ℤ pos slack)
+  pub enough : (n : List Literal) → ((l : Literal) → has_literal part l ≡ true → has_literal n l ≡ true) →
+      (weigh (is_kept vars n) (take i lits) (take i weights) +ℤ pos left) ≤ℤ (weigh (counts x vars true) (take i lits) (take i weights) +ℤ pos slack)
 
 append_nil : {X : Type 0} (xs : List X) → xs ++ [] ≡ xs
 append_nil [] = refl
@@ -112,7 +126,10 @@ literal_eq-itself l = and_from (eqb l.var l.var) (beq l.truth l.truth) (eq-eqb l
     same true = refl
     same false = refl
 
-pub choose_more : (x : List (Option Bool)) (vars : Atoms) (lits : List Literal) (weights : List ℤ) (slack : ℕ) (old now now' : List Literal) (left rest i : ℕ) (d : Literal) (e : ℤ) → i < length lits → length weights ≡ length lits → AreWeights weights → ChoosesOne x vars (get_or lits i d) (get_or weights i e) left rest now now' → Choosing x vars lits weights slack old now left i → Choosing x vars lits weights slack old now' rest (i + 1)
+pub choose_more : (x : List (Option Bool)) (vars : Atoms) (lits : List Literal) (weights : List ℤ) (slack : ℕ) (old now now' : List Literal)
+    (left rest i : ℕ) (d : Literal) (e : ℤ) → i < length lits → length weights ≡ length lits → AreWeights weights →
+    ChoosesOne x vars (get_or lits i d) (get_or weights i e) left rest now now' → Choosing x vars lits weights slack old now left i →
+    Choosing x vars lits weights slack old now' rest (i + 1)
 choose_more x vars lits weights slack old now now' left rest i d e lt same weighted step h = elim step.1 [
   | inl kept ↦ record {
     part = h.part;
@@ -147,12 +164,18 @@ choose_more x vars lits weights slack old now now' left rest i d e lt same weigh
           part = h.part ++ one ∷ [];
           is = added.2 ∙ ap (λ ls. ls ++ one ∷ []) h.is ∙ append_assoc old h.part (one ∷ []);
           positive = step.0;
-          chosen = each-append (λ l. list_any (λ k. is_choice x vars k && literal_eq (complement k) l) lits ≡ true) h.part (one ∷ []) h.chosen
-              (list_any_at (λ k. is_choice x vars k && literal_eq (complement k) one) lits i d lt (and_from (is_choice x vars (get_or lits i d)) (literal_eq one one) added.0 (literal_eq-itself one)), tt);
+          chosen = each-append (λ l. list_any (λ k. is_choice x vars k && literal_eq (complement k) l) lits ≡ true) h.part (one ∷ []) h.chosen (
+            list_any_at (λ k. is_choice x vars k && literal_eq (complement k) one) lits i d lt
+                (and_from (is_choice x vars (get_or lits i d)) (literal_eq one one) added.0 (literal_eq-itself one)),
+            tt,
+          );
           enough = λ n inside.
               let a = weigh_more (is_kept vars n) lits weights i d e lt same in
               let b = weigh_more (counts x vars true) lits weights i d e lt same in
-              let last : has_literal n one ≡ true = inside one (list_any-append (λ k. literal_eq k one) h.part (one ∷ []) ∙ or_right (has_literal h.part one) (literal_eq one one || false) (or_left (literal_eq one one) false (literal_eq-itself one))) in
+              let last : has_literal n one ≡ true =
+              inside one (list_any-append (λ k. literal_eq k one) h.part (one ∷ [])
+              ∙ or_right (has_literal h.part one) (literal_eq one one || false) (or_left (literal_eq one one) false (literal_eq-itself one)))
+              in
               let c = choice_counts (is_within vars (get_or lits i d)) (holds_in x one) (has_literal n one) (get_or weights i e) positive added.0 in
               let c1 = c.1 in
               let none = chosen_kept (is_within vars (get_or lits i d)) (has_literal n one) (get_or weights i e) last in
@@ -166,7 +189,8 @@ choose_more x vars lits weights slack old now now' left rest i d e lt same weigh
     positive : pos 0 ≤ℤ get_or weights i e
     positive = weighted i e (omega arith)
 
-pub choices : (x : List (Option Bool)) (vars : Atoms) (lits : List Literal) (weights : List ℤ) (slack : ℕ) (old now : List Literal) (left i : ℕ) → length lits ≤ i → length weights ≡ length lits → Choosing x vars lits weights slack old now left i → Chooses x vars lits weights slack old now
+pub choices : (x : List (Option Bool)) (vars : Atoms) (lits : List Literal) (weights : List ℤ) (slack : ℕ) (old now : List Literal) (left i : ℕ) →
+    length lits ≤ i → length weights ≡ length lits → Choosing x vars lits weights slack old now left i → Chooses x vars lits weights slack old now
 choices x vars lits weights slack old now left i end same h = record {
   part = h.part;
   is = h.is;
@@ -175,8 +199,10 @@ choices x vars lits weights slack old now left i end same h = record {
       let ls = take_whole lits i end in
       let ws = take_whole weights i (omega arith) in
       let a = h.enough h.part (λ l f. f) in
-      let b : weigh (is_kept vars h.part) (take i lits) (take i weights) ≡ weigh (is_kept vars h.part) lits weights = ap (λ xs. weigh (is_kept vars h.part) xs (take i weights)) ls ∙ ap (λ xs. weigh (is_kept vars h.part) lits xs) ws in
-      let c : weigh (counts x vars true) (take i lits) (take i weights) ≡ weigh (counts x vars true) lits weights = ap (λ xs. weigh (counts x vars true) xs (take i weights)) ls ∙ ap (λ xs. weigh (counts x vars true) lits xs) ws in
+      let b : weigh (is_kept vars h.part) (take i lits) (take i weights) ≡ weigh (is_kept vars h.part) lits weights =
+      ap (λ xs. weigh (is_kept vars h.part) xs (take i weights)) ls ∙ ap (λ xs. weigh (is_kept vars h.part) lits xs) ws in
+      let c : weigh (counts x vars true) (take i lits) (take i weights) ≡ weigh (counts x vars true) lits weights =
+      ap (λ xs. weigh (counts x vars true) xs (take i weights)) ls ∙ ap (λ xs. weigh (counts x vars true) lits xs) ws in
       let left_positive = h.positive in
       omega (arith, ints, a, b, c, left_positive);
 }

@@ -72,7 +72,8 @@ form_weighted p r sound m = normal_items r.body (cases (is_sound_body r.body) re
     cases : (b : Bool) → b ≡ is_sound_body r.body → is_sound_body r.body ≡ true
     cases true e = sym e
     cases false e =
-        let found = some (λ (s : Rule). is_sound_body s.body ≡ true) (λ s. not (is_sound_body s.body)) (rules_in_force p) (rules_weighted p sound) (m (λ s. not (is_sound_body s.body)) (ap not (sym e))) in
+        let found = some (λ (s : Rule). is_sound_body s.body ≡ true) (λ s. not (is_sound_body s.body)) (rules_in_force p) (rules_weighted p sound)
+        (m (λ s. not (is_sound_body s.body)) (ap not (sym e))) in
         absurd (false≢true (sym (ap not found.1) ∙ found.2))
 
 each-distinct : (P : Body → Type 0) (bs cs : List Body) → AllByRecursion P bs → AllByRecursion P cs → AllByRecursion P (fold (λ bs b. cond (list_any (body_eq b) bs) bs (bs ++ b ∷ [])) bs cs)
@@ -90,7 +91,9 @@ each-distinct P bs (c ∷ cs) a b = each-distinct P (cond (list_any (body_eq c) 
 -- a body by its number
 pub nth_weighted : (p : Program) (j : ℕ) → IsSound p → j < length (bodies_of p) → AreItems (form_items (nth_body p j))
 nth_weighted p j sound lt =
-    at_each (λ b. AreItems (form_items b)) (bodies_of p) j (body.All []) (each-distinct (λ b. AreItems (form_items b)) [] (map (λ r. normal r.body) (rules_in_force p)) tt (mapped (rules_in_force p) (rules_weighted p sound))) lt
+    at_each (λ b. AreItems (form_items b)) (bodies_of p) j (body.All [])
+    (each-distinct (λ b. AreItems (form_items b)) [] (map (λ r. normal r.body) (rules_in_force p)) tt
+    (mapped (rules_in_force p) (rules_weighted p sound))) lt
   where
     mapped : (rs : List Rule) → AllByRecursion (λ (r : Rule). is_sound_body r.body ≡ true) rs → AllByRecursion (λ b. AreItems (form_items b)) (map (λ r. normal r.body) rs)
     mapped [] h = tt

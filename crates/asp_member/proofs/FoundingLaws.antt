@@ -77,7 +77,8 @@ body_link p S x (body.All ls) h stand = along ls stand
         ap (λ b. b && list_all (holds_in x) (map (literal_of p) ls)) (literal_link p S x l h s.0) ∙ ap (λ b. holds_between S (derived p x) l && b) (along ls s.1)
 body_link p S x (body.AtLeast c items) h stand = ap (int_le c) (along items stand)
   where
-    along : (is : List (ℤ × ℤ)) → AllByRecursion (λ i. has (atoms_of p) (atom_of i.0) ≡ true) is → weigh (holds_in x) (map (λ i. literal_of p i.0) is) (map (λ i. i.1) is) ≡ weight_between S (derived p x) is
+    along : (is : List (ℤ × ℤ)) → AllByRecursion (λ i. has (atoms_of p) (atom_of i.0) ≡ true) is →
+        weigh (holds_in x) (map (λ i. literal_of p i.0) is) (map (λ i. i.1) is) ≡ weight_between S (derived p x) is
     along [] s = refl
     along (i ∷ is) s =
         ap (λ b. cond b i.1 (pos 0) +ℤ weigh (holds_in x) (map (λ i. literal_of p i.0) is) (map (λ i. i.1) is)) (literal_link p S x i.0 h s.0)
@@ -90,7 +91,8 @@ passes_weighted p q (body.AtLeast bound items) c e =
     ap (λ n. int_le n (weigh q (form_literals p (body.AtLeast bound items)) (form_weights (body.AtLeast bound items)))) (sym same)
 
 -- ---- a rule whose body holds so derives its heads
-pub steps_to : (p : Program) (S D : Atoms) (r : Rule) (a : ℕ) → Among (rules_in_force p) r → body_holds_between S D r.body ≡ true → has (reduct_heads S r.head) a ≡ true → has (step (reduct S (rules_in_force p)) D) a ≡ true
+pub steps_to : (p : Program) (S D : Atoms) (r : Rule) (a : ℕ) → Among (rules_in_force p) r → body_holds_between S D r.body ≡ true →
+    has (reduct_heads S r.head) a ≡ true → has (step (reduct S (rules_in_force p)) D) a ≡ true
 steps_to p S D r a m held in_head =
     ap (λ U. has U a) (step_read S D (rules_in_force p))
     ∙ has-set_of (flat_map (derived_heads S D) (rules_in_force p)) a
@@ -112,7 +114,8 @@ kept_head S (head.Choice atoms) a e in_set = has-filter (has S) atoms a ∙ and_
 kept_head S head.Never a e in_set = e
 
 -- a rule for the atom with this body
-in_heads : (p : Program) (b : Body) (a : ℕ) → has (atoms_of p) a ≡ true → has (heads_of p b) (var_of_atom p a) ≡ true → (r : Rule) × Among (rules_in_force p) r × ((normal r.body ≡ b) × (has (head_atoms r.head) a ≡ true))
+in_heads : (p : Program) (b : Body) (a : ℕ) → has (atoms_of p) a ≡ true → has (heads_of p b) (var_of_atom p a) ≡ true → (r : Rule) ×
+    Among (rules_in_force p) r × ((normal r.body ≡ b) × (has (head_atoms r.head) a ≡ true))
 in_heads p b a stands e =
     let f : Rule → List ℕ = λ r. cond (body_eq (normal r.body) b) (head_atoms r.head) [] in
     let heads : List ℕ = flat_map f (rules_in_force p) in
@@ -124,11 +127,14 @@ in_heads p b a stands e =
     let same : found.0 ≡ a = same_atom p found.0 a (member (atoms_of p) (head_atoms rule.0.head) found.0 rule.1.1 parts.1) stands found.2 in
     (rule.0, rule.1.0, (equal_body (normal rule.0.body) b parts.0, subst (λ (c : ℕ). has (head_atoms rule.0.head) c ≡ true) same parts.1))
   where
-    split : (r : Rule) (c : ℕ) (t : Bool) → t ≡ body_eq (normal r.body) b → has (cond (body_eq (normal r.body) b) (head_atoms r.head) []) c ≡ true → (body_eq (normal r.body) b ≡ true) × (has (head_atoms r.head) c ≡ true)
+    split : (r : Rule) (c : ℕ) (t : Bool) → t ≡ body_eq (normal r.body) b → has (cond (body_eq (normal r.body) b) (head_atoms r.head) []) c ≡ true →
+        (body_eq (normal r.body) b ≡ true) × (has (head_atoms r.head) c ≡ true)
     split r c true q e = (sym q, ap (λ t. has (cond t (head_atoms r.head) []) c) q ∙ e)
     split r c false q e = absurd (false≢true (ap (λ t. has (cond t (head_atoms r.head) []) c) q ∙ e))
 
-fires : (p : Program) (S : Atoms) (x : List (Option Bool)) (j a : ℕ) → IsSound p → j < length (bodies_of p) → AreFounded p S x → passes p (holds_in x) (nth_body p j) ≡ true → has (heads_of p (nth_body p j)) (var_of_atom p a) ≡ true → has (atoms_of p) a ≡ true → has S a ≡ true → has (least_model p S) a ≡ true
+fires : (p : Program) (S : Atoms) (x : List (Option Bool)) (j a : ℕ) → IsSound p → j < length (bodies_of p) → AreFounded p S x →
+    passes p (holds_in x) (nth_body p j) ≡ true → has (heads_of p (nth_body p j)) (var_of_atom p a) ≡ true → has (atoms_of p) a ≡ true →
+    has S a ≡ true → has (least_model p S) a ≡ true
 fires p S x j a sound lt h holds e stands in_set =
     let rule = in_heads p (nth_body p j) a stands e in
     let held : body_holds_between S (derived p x) rule.0.body ≡ true =
@@ -142,7 +148,8 @@ founds_itself p x = record { size = refl; founded = λ S h. h }
 pub founds_then : (p : Program) (x y z : List (Option Bool)) → Founds p x y → Founds p y z → Founds p x z
 founds_then p x y z h k = record { size = k.size ∙ h.size; founded = λ S f. k.founded S (h.founded S f) }
 
-pub founds_more : (p : Program) (x y : List (Option Bool)) (heads : List ℕ) (j : ℕ) → IsSound p → j < length (bodies_of p) → heads ≡ heads_of p (nth_body p j) → passes p (holds_in x) (nth_body p j) ≡ true → Derives heads x y → Founds p x y
+pub founds_more : (p : Program) (x y : List (Option Bool)) (heads : List ℕ) (j : ℕ) → IsSound p → j < length (bodies_of p) →
+    heads ≡ heads_of p (nth_body p j) → passes p (holds_in x) (nth_body p j) ≡ true → Derives heads x y → Founds p x y
 founds_more p x y heads j sound lt is holds d = record {
   size = d.size;
   founded = λ S h. record {

@@ -82,7 +82,9 @@ record Sure (p : Program) (r : Rule) : Type 0 where
 sure : (p : Program) → AllByRecursion (Sure p) (rules_in_force p)
 sure p = joined (rules_in_force p) (each_among (rules_in_force p)) (rules_in_force-heads p) (rules_in_force-bodies p)
   where
-    joined : (rs : List Rule) → AllByRecursion (Among (rules_in_force p)) rs → AllByRecursion (λ (r : Rule). HasAll (atoms_of p) (head_atoms r.head)) rs → AllByRecursion (λ (r : Rule). HasAll (atoms_of p) (body_atoms r.body)) rs → AllByRecursion (Sure p) rs
+    joined : (rs : List Rule) → AllByRecursion (Among (rules_in_force p)) rs →
+        AllByRecursion (λ (r : Rule). HasAll (atoms_of p) (head_atoms r.head)) rs →
+        AllByRecursion (λ (r : Rule). HasAll (atoms_of p) (body_atoms r.body)) rs → AllByRecursion (Sure p) rs
     joined [] a h b = tt
     joined (r ∷ rs) a h b = (record { among = a.0; heads = h.0; bodies = b.0 }, joined rs a.1 h.1 b.1)
 
@@ -94,10 +96,14 @@ derived_by S D r a e = cases (body_holds_between S D r.body) refl
     cases false q = absurd (false≢true (ap (λ b. has (cond b (reduct_heads S r.head) []) a) q ∙ e))
 
 -- a rule by which a step comes to an atom
-stepped : (p : Program) (S D : Atoms) (a : ℕ) (P : Rule → Type 0) → AllByRecursion P (rules_in_force p) → has (step (reduct S (rules_in_force p)) D) a ≡ true → (r : Rule) × P r × ((body_holds_between S D r.body ≡ true) × (has (reduct_heads S r.head) a ≡ true))
+stepped : (p : Program) (S D : Atoms) (a : ℕ) (P : Rule → Type 0) → AllByRecursion P (rules_in_force p) →
+    has (step (reduct S (rules_in_force p)) D) a ≡ true → (r : Rule) × P r ×
+    ((body_holds_between S D r.body ≡ true) × (has (reduct_heads S r.head) a ≡ true))
 stepped p S D a P all e =
     let rule = some P (λ r. has (derived_heads S D r) a) (rules_in_force p) all
-    (sym (list_any-flat_map (λ b. eqb b a) (derived_heads S D) (rules_in_force p)) ∙ sym (has-set_of (flat_map (derived_heads S D) (rules_in_force p)) a) ∙ sym (ap (λ U. has U a) (step_read S D (rules_in_force p))) ∙ e) in
+    (sym (list_any-flat_map (λ b. eqb b a) (derived_heads S D) (rules_in_force p))
+    ∙ sym (has-set_of (flat_map (derived_heads S D) (rules_in_force p)) a) ∙ sym (ap (λ U. has U a) (step_read S D (rules_in_force p))) ∙ e)
+    in
     (rule.0, rule.1, derived_by S D rule.0 a rule.2)
 
 kept_in : (S : Atoms) (h : Head) (a : ℕ) → has (reduct_heads S h) a ≡ true → is_kept S h ≡ true → has S a ≡ true
@@ -154,7 +160,8 @@ held_is : (p : Program) (S : Atoms) (x : List (Option Bool)) (r : Rule) → AreF
 held_is p S x r h same s =
     body_link p S x (normal r.body) h (normal-stands (atoms_of p) r.body s.bodies) ∙ ap (λ D. body_holds_between S D (normal r.body)) same ∙ body_holds_between-normal S S r.body ∙ same_body S r.body
 
-kept_stable : (p : Program) (S : Atoms) (x : List (Option Bool)) → IsSound p → IsAscending S → IsSubset S (atoms_of p) → AreFounded p S x → AreWhole x (length (atoms_of p)) → list_all (keeps p S x) (rules_in_force p) ≡ true → is_stable p S ≡ true
+kept_stable : (p : Program) (S : Atoms) (x : List (Option Bool)) → IsSound p → IsAscending S → IsSubset S (atoms_of p) → AreFounded p S x →
+    AreWhole x (length (atoms_of p)) → list_all (keeps p S x) (rules_in_force p) ≡ true → is_stable p S ≡ true
 kept_stable p S x sound up within h whole kept =
     and_from (same_set S (least_model p S)) (not (list_any (is_violated S) (rules_in_force p)))
     (ap (same_set S) (sym least) ∙ same_set-itself S) (ap not unviolated_)
@@ -193,7 +200,8 @@ unless : (b : Bool) → (b ≡ true → ⊥) → b ≡ false
 unless true f = absurd (f refl)
 unless false f = refl
 
-unkept_unstable : (p : Program) (S : Atoms) (x : List (Option Bool)) → IsSound p → IsAscending S → IsSubset S (atoms_of p) → AreFounded p S x → AreWhole x (length (atoms_of p)) → list_all (keeps p S x) (rules_in_force p) ≡ false → is_stable p S ≡ false
+unkept_unstable : (p : Program) (S : Atoms) (x : List (Option Bool)) → IsSound p → IsAscending S → IsSubset S (atoms_of p) → AreFounded p S x →
+    AreWhole x (length (atoms_of p)) → list_all (keeps p S x) (rules_in_force p) ≡ false → is_stable p S ≡ false
 unkept_unstable p S x sound up within h whole kept = unless (is_stable p S) (λ stable.
     let rule = fails (Sure p) (keeps p S x) (rules_in_force p) (sure p) kept in
     let parts = and_parts' (passes p (holds_in x) (normal rule.0.body)) (is_kept S rule.0.head) rule.2 in
@@ -213,7 +221,8 @@ unkept_unstable p S x sound up within h whole kept = unless (is_stable p S) (λ 
         false≢true (sym (ap not violated) ∙ clear)
 
 -- so the rules decide
-pub whole_decides : (p : Program) (S : Atoms) (x : List (Option Bool)) → IsSound p → IsAscending S → IsSubset S (atoms_of p) → AreFounded p S x → AreWhole x (length (atoms_of p)) → list_all (keeps p S x) (rules_in_force p) ≡ is_stable p S
+pub whole_decides : (p : Program) (S : Atoms) (x : List (Option Bool)) → IsSound p → IsAscending S → IsSubset S (atoms_of p) → AreFounded p S x →
+    AreWhole x (length (atoms_of p)) → list_all (keeps p S x) (rules_in_force p) ≡ is_stable p S
 whole_decides p S x sound up within h whole = cases (list_all (keeps p S x) (rules_in_force p)) refl
   where
     cases : (t : Bool) → t ≡ list_all (keeps p S x) (rules_in_force p) → list_all (keeps p S x) (rules_in_force p) ≡ is_stable p S
@@ -226,9 +235,12 @@ heads_have p r a m e =
     let b : Body = normal r.body in
     let f : Rule → List ℕ = λ s. cond (body_eq (normal s.body) b) (head_atoms s.head) [] in
     map_in (var_of_atom p) (flat_map f (rules_in_force p)) a
-    (list_any-flat_map (λ c. eqb c a) f (rules_in_force p) ∙ m (λ s. has (cond (body_eq (normal s.body) b) (head_atoms s.head) []) a) (ap (λ t. has (cond t (head_atoms r.head) []) a) (body_eq-itself b) ∙ e))
+    (list_any-flat_map (λ c. eqb c a) f (rules_in_force p)
+    ∙ m (λ s. has (cond (body_eq (normal s.body) b) (head_atoms s.head) []) a)
+    (ap (λ t. has (cond t (head_atoms r.head) []) a) (body_eq-itself b) ∙ e))
 
-pub closed_unstable : (p : Program) (S : Atoms) (x : List (Option Bool)) → IsSound p → AreFounded p S x → list_all (is_done p x) (bodies_of p) ≡ true → (AreWhole x (length (atoms_of p)) → ⊥) → is_stable p S ≡ false
+pub closed_unstable : (p : Program) (S : Atoms) (x : List (Option Bool)) → IsSound p → AreFounded p S x →
+    list_all (is_done p x) (bodies_of p) ≡ true → (AreWhole x (length (atoms_of p)) → ⊥) → is_stable p S ≡ false
 closed_unstable p S x sound h done broken = unless (is_stable p S) (λ stable. broken (λ v lt. whole stable v lt))
   where
     form_done : (r : Rule) → Sure p r → is_done p x (normal r.body) ≡ true
@@ -244,7 +256,9 @@ closed_unstable p S x sound h done broken = unless (is_stable p S) (λ stable. b
         let stands = member (atoms_of p) (head_atoms rule.0.head) a rule.1.heads head_ in
         let held : passes p (holds_in x) (normal rule.0.body) ≡ true =
         body_link p S x (normal rule.0.body) h (normal-stands (atoms_of p) rule.0.body rule.1.bodies) ∙ body_holds_between-normal S (derived p x) rule.0.body ∙ rule.2.0 in
-        let all : list_all (λ v. not (is_none (value_of x v))) (heads_of p (normal rule.0.body)) ≡ true = implied (passes p (holds_in x) (normal rule.0.body)) (list_all (λ v. not (is_none (value_of x v))) (heads_of p (normal rule.0.body))) (form_done rule.0 rule.1) held in
+        let all : list_all (λ v. not (is_none (value_of x v))) (heads_of p (normal rule.0.body)) ≡ true =
+        implied (passes p (holds_in x) (normal rule.0.body)) (list_all (λ v. not (is_none (value_of x v))) (heads_of p (normal rule.0.body)))
+        (form_done rule.0 rule.1) held in
         let value = all_has (λ v. not (is_none (value_of x v))) (heads_of p (normal rule.0.body)) (var_of_atom p a) all (heads_have p rule.0 a rule.1.among head_) in
         has-derived p x a stands ∙ some_true (value_of x (var_of_atom p a)) (var_of_atom p a) (is_not (is_none (value_of x (var_of_atom p a))) value) (h.outside a stands ∙ ap not in_set)
       where
@@ -273,7 +287,8 @@ pub record IsOutside (p : Program) (S : Atoms) (x : List (Option Bool)) (n : ℕ
   pub before : (k : ℕ) → k < n → value_of x (k + 1) ≡ cond (has S (nth_atom p k)) None (Some false)
   pub after : (v : ℕ) → n < v → value_of x v ≡ None
 
-pub outside_more : (p : Program) (S : Atoms) (x y : List (Option Bool)) (i a : ℕ) → i < length (atoms_of p) → a ≡ nth_atom p i → y ≡ cond (has S a) x (set x (i + 1) (Some false)) → IsOutside p S x i → IsOutside p S y (i + 1)
+pub outside_more : (p : Program) (S : Atoms) (x y : List (Option Bool)) (i a : ℕ) → i < length (atoms_of p) → a ≡ nth_atom p i →
+    y ≡ cond (has S a) x (set x (i + 1) (Some false)) → IsOutside p S x i → IsOutside p S y (i + 1)
 outside_more p S x y i a lt is e h = cases (has S a) refl
   where
     inside : i + 1 < length x

@@ -51,14 +51,17 @@ none_better : (p : Program) (c d : List ℤ) (seen : List Atoms) → betters c d
 none_better p c d [] better none = refl
 none_better p c d (T ∷ seen) better none = elim (cases_Bool (betters (cost p T) c)) [
   | inl e ↦ absurd (false≢true (sym none ∙ or_left (betters (cost p T) d) (list_any (λ U. betters (cost p U) d) seen) (betters-trans (cost p T) c d e better)))
-  | inr e ↦ or_from (betters (cost p T) c) (list_any (λ U. betters (cost p U) c) seen) e (none_better p c d seen better (or_parts (betters (cost p T) d) (list_any (λ U. betters (cost p U) d) seen) none).1)
+  | inr e ↦ or_from (betters (cost p T) c) (list_any (λ U. betters (cost p U) c) seen) e
+      (none_better p c d seen better (or_parts (betters (cost p T) d) (list_any (λ U. betters (cost p U) d) seen) none).1)
 ]
 
 improved-best : (p : Program) (seen : List Atoms) (best : Option (Atoms × List ℤ)) (S : Atoms) → IsBestOf p seen best → IsBestOf p (seen ++ S ∷ []) (improved best (S, cost p S))
 improved-best p seen None S h = (
   list_any-append (same_set S) seen (S ∷ []) ∙ or_right (list_any (same_set S) seen) (list_any (same_set S) (S ∷ [])) (or_left (same_set S S) false (same_set-itself S)),
   refl,
-  list_any-append (λ T. betters (cost p T) (cost p S)) seen (S ∷ []) ∙ or_from (list_any (λ T. betters (cost p T) (cost p S)) seen) (list_any (λ T. betters (cost p T) (cost p S)) (S ∷ [])) (ap (list_any (λ T. betters (cost p T) (cost p S))) h) (or_from (betters (cost p S) (cost p S)) false (betters-itself (cost p S)) refl),
+  list_any-append (λ T. betters (cost p T) (cost p S)) seen (S ∷ [])
+      ∙ or_from (list_any (λ T. betters (cost p T) (cost p S)) seen) (list_any (λ T. betters (cost p T) (cost p S)) (S ∷ []))
+      (ap (list_any (λ T. betters (cost p T) (cost p S))) h) (or_from (betters (cost p S) (cost p S)) false (betters-itself (cost p S)) refl),
 )
 improved-best p seen (Some best) S h = by_test (betters (cost p S) best.1) refl
   where
@@ -66,12 +69,16 @@ improved-best p seen (Some best) S h = by_test (betters (cost p S) best.1) refl
     by_test true e = (
       list_any-append (same_set S) seen (S ∷ []) ∙ or_right (list_any (same_set S) seen) (list_any (same_set S) (S ∷ [])) (or_left (same_set S S) false (same_set-itself S)),
       refl,
-      list_any-append (λ T. betters (cost p T) (cost p S)) seen (S ∷ []) ∙ or_from (list_any (λ T. betters (cost p T) (cost p S)) seen) (list_any (λ T. betters (cost p T) (cost p S)) (S ∷ [])) (none_better p (cost p S) best.1 seen e h.2) (or_from (betters (cost p S) (cost p S)) false (betters-itself (cost p S)) refl),
+      list_any-append (λ T. betters (cost p T) (cost p S)) seen (S ∷ [])
+          ∙ or_from (list_any (λ T. betters (cost p T) (cost p S)) seen) (list_any (λ T. betters (cost p T) (cost p S)) (S ∷ []))
+          (none_better p (cost p S) best.1 seen e h.2) (or_from (betters (cost p S) (cost p S)) false (betters-itself (cost p S)) refl),
     )
     by_test false e = (
       list_any-append (same_set best.0) seen (S ∷ []) ∙ or_left (list_any (same_set best.0) seen) (list_any (same_set best.0) (S ∷ [])) h.0,
       h.1,
-      list_any-append (λ T. betters (cost p T) best.1) seen (S ∷ []) ∙ or_from (list_any (λ T. betters (cost p T) best.1) seen) (list_any (λ T. betters (cost p T) best.1) (S ∷ [])) h.2 (or_from (betters (cost p S) best.1) false e refl),
+      list_any-append (λ T. betters (cost p T) best.1) seen (S ∷ [])
+          ∙ or_from (list_any (λ T. betters (cost p T) best.1) seen) (list_any (λ T. betters (cost p T) best.1) (S ∷ [])) h.2
+          (or_from (betters (cost p S) best.1) false e refl),
     )
 
 better_of-best : (p : Program) (seen : List Atoms) (best : Option (Atoms × List ℤ)) (S : Atoms) → IsBestOf p seen best → IsBestOf p (seen ++ filter (is_answer p) (S ∷ [])) (better_of p best S)

@@ -73,17 +73,20 @@ covered-shown r p (U ∷ K) S c a h s = elim (cases_Bool (list_any (λ T. shows 
         list_any-filter (shows r S) (λ b. not (list_any (λ T. shows r T b) (U ∷ K))) (atoms_of p)
         ∙ any-at (λ b. not (list_any (λ T. shows r T b) (U ∷ K)) && shows r S b) (atoms_of p) a h (and_from (not (list_any (λ T. shows r T a) (U ∷ K))) (shows r S a) (ap not e) s)
 
-pub covers-from : (r : Reasoning) (p : Program) (K : List Atoms) (S : Atoms) → (K ≡ [] → ⊥) → ((a : ℕ) → has (atoms_of p) a ≡ true → shows r S a ≡ true → list_any (λ T. shows r T a) K ≡ true) → covers r p K S ≡ true
+pub covers-from : (r : Reasoning) (p : Program) (K : List Atoms) (S : Atoms) → (K ≡ [] → ⊥) →
+    ((a : ℕ) → has (atoms_of p) a ≡ true → shows r S a ≡ true → list_any (λ T. shows r T a) K ≡ true) → covers r p K S ≡ true
 covers-from r p [] S some h = absurd (some refl)
 covers-from r p (U ∷ K) S some h = elim (cases_Bool (list_any (shows r S) (unshown r p (U ∷ K)))) [
-  | inl e ↦ absurd (one_passes ⊥ (λ b. not (list_any (λ T. shows r T b) (U ∷ K)) && shows r S b) (atoms_of p) none (sym (list_any-filter (shows r S) (λ b. not (list_any (λ T. shows r T b) (U ∷ K))) (atoms_of p)) ∙ e))
+  | inl e ↦ absurd (one_passes ⊥ (λ b. not (list_any (λ T. shows r T b) (U ∷ K)) && shows r S b) (atoms_of p) none
+      (sym (list_any-filter (shows r S) (λ b. not (list_any (λ T. shows r T b) (U ∷ K))) (atoms_of p)) ∙ e))
   | inr e ↦ ap not e
 ]
   where
     none : AllByRecursion (λ b. (not (list_any (λ T. shows r T b) (U ∷ K)) && shows r S b) ≡ true → ⊥) (atoms_of p)
     none =
         each_weaker (λ b. has (atoms_of p) b ≡ true) (λ b. (not (list_any (λ T. shows r T b) (U ∷ K)) && shows r S b) ≡ true → ⊥)
-        (λ b there g. let parts = and_parts (not (list_any (λ T. shows r T b) (U ∷ K))) (shows r S b) g in false≢true (sym (not-true (list_any (λ T. shows r T b) (U ∷ K)) parts.0) ∙ h b there parts.1))
+        (λ b there g. let parts = and_parts (not (list_any (λ T. shows r T b) (U ∷ K))) (shows r S b) g in
+        false≢true (sym (not-true (list_any (λ T. shows r T b) (U ∷ K)) parts.0) ∙ h b there parts.1))
         (atoms_of p) (HasAll-itself (atoms_of p))
 
 pub covers-some : (r : Reasoning) (p : Program) (K : List Atoms) (S : Atoms) → covers r p K S ≡ true → K ≡ [] → ⊥
@@ -144,13 +147,15 @@ all-any f (S ∷ K) = here (f S) (all-any f K)
     here true e = e
     here false e = refl
 
-consequences-by : (r : Reasoning) (p : Program) (K L : List Atoms) → ((a : ℕ) → has (atoms_of p) a ≡ true → list_any (λ T. shows r T a) K ≡ list_any (λ T. shows r T a) L) → consequences r p K ≡ consequences r p L
+consequences-by : (r : Reasoning) (p : Program) (K L : List Atoms) →
+    ((a : ℕ) → has (atoms_of p) a ≡ true → list_any (λ T. shows r T a) K ≡ list_any (λ T. shows r T a) L) → consequences r p K ≡ consequences r p L
 consequences-by Brave p K L h = filter-atoms (λ a. list_any (λ S. has S a) K) (λ a. list_any (λ S. has S a) L) (atoms_of p) h
 consequences-by Cautious p K L h =
     filter-atoms (λ a. list_all (λ S. has S a) K) (λ a. list_all (λ S. has S a) L) (atoms_of p)
     (λ a there. all-any (λ S. has S a) K ∙ ap not (h a there) ∙ sym (all-any (λ S. has S a) L))
 
-pub consequences-same : (r : Reasoning) (p : Program) (K L : List Atoms) → ((a : ℕ) → has (atoms_of p) a ≡ true → list_any (λ T. shows r T a) K ≡ list_any (λ T. shows r T a) L) → (K ≡ [] → L ≡ []) → (L ≡ [] → K ≡ []) →
+pub consequences-same : (r : Reasoning) (p : Program) (K L : List Atoms) →
+    ((a : ℕ) → has (atoms_of p) a ≡ true → list_any (λ T. shows r T a) K ≡ list_any (λ T. shows r T a) L) → (K ≡ [] → L ≡ []) → (L ≡ [] → K ≡ []) →
     consequences_of r p K ≡ consequences_of r p L
 consequences-same r p [] [] h there back = refl
 consequences-same r p [] (T ∷ L) h there back = absurd (member-some (T ∷ L) T (first-among T L) (there refl))
@@ -162,7 +167,8 @@ empty-among [] L among e = refl
 empty-among (S ∷ K) L among e = absurd (member-some L S (among S (first-among S K)) e)
 
 -- Where each answer is covered by those found, these have all in common that the answers have.
-pub consequences-covered : (r : Reasoning) (p : Program) (K L : List Atoms) → AreAmong K L → ((S : Atoms) → list_any (same_set S) L ≡ true → covers r p K S ≡ true) → consequences_of r p K ≡ consequences_of r p L
+pub consequences-covered : (r : Reasoning) (p : Program) (K L : List Atoms) → AreAmong K L →
+    ((S : Atoms) → list_any (same_set S) L ≡ true → covers r p K S ≡ true) → consequences_of r p K ≡ consequences_of r p L
 consequences-covered r p K L among all =
     consequences-same r p K L (λ a there. same_bools (list_any (λ T. shows r T a) K) (list_any (λ T. shows r T a) L) (any-among (λ T. shows r T a) K L among) (shown a there))
     (none L all) (empty-among K L among)
@@ -252,7 +258,8 @@ pub intersection-fewer : (p : Program) (chosen : Atoms → Bool) → IsSubset (i
 intersection-fewer p chosen a h =
     let parts = and_parts (list_all (λ S. has S a) (answers p)) (has (atoms_of p) a) (sym (has-filter (λ b. list_all (λ S. has S b) (answers p)) (atoms_of p) a) ∙ h) in
     has-filter (λ b. list_all (λ S. has S b) (filter chosen (answers p))) (atoms_of p) a
-    ∙ and_from (list_all (λ S. has S a) (filter chosen (answers p))) (has (atoms_of p) a) (all-fewer (λ S. has S a) (filter chosen (answers p)) (answers p) (fewer-among chosen (answers p)) parts.0) parts.1
+    ∙ and_from (list_all (λ S. has S a) (filter chosen (answers p))) (has (atoms_of p) a)
+    (all-fewer (λ S. has S a) (filter chosen (answers p)) (answers p) (fewer-among chosen (answers p)) parts.0) parts.1
 
 -- ---- how the unshown atoms are kept
 cond-filter : {X : Type 0} (f : X → Bool) (b : Bool) (x : X) (xs : List X) → filter f (cond b (x ∷ xs) xs) ≡ cond (b && f x) (x ∷ filter f xs) (filter f xs)
@@ -315,7 +322,8 @@ or-nil false = refl
 pub shows-common : (r : Reasoning) (p : Program) (K : List Atoms) (a : ℕ) → has (atoms_of p) a ≡ true → shows r (consequences r p K) a ≡ list_any (λ S. shows r S a) K
 shows-common Brave p K a there = has-filter (λ b. list_any (λ S. has S b) K) (atoms_of p) a ∙ and-true (list_any (λ S. has S a) K) (has (atoms_of p) a) there
 shows-common Cautious p K a there =
-    ap not (has-filter (λ b. list_all (λ S. has S b) K) (atoms_of p) a ∙ and-true (list_all (λ S. has S a) K) (has (atoms_of p) a) there ∙ all-any (λ S. has S a) K) ∙ not-not (list_any (λ S. not (has S a)) K)
+    ap not (has-filter (λ b. list_all (λ S. has S b) K) (atoms_of p) a ∙ and-true (list_all (λ S. has S a) K) (has (atoms_of p) a) there
+    ∙ all-any (λ S. has S a) K) ∙ not-not (list_any (λ S. not (has S a)) K)
 
 any-common : (r : Reasoning) (p : Program) (K : List Atoms) (a : ℕ) → has (atoms_of p) a ≡ true → list_any (λ S. shows r S a) (common_sets r p K) ≡ list_any (λ S. shows r S a) K
 any-common r p [] a there = refl
@@ -327,9 +335,11 @@ unshown-same r p K L h = filter-atoms (λ a. not (list_any (λ S. shows r S a) K
 pub unshown-common : (r : Reasoning) (p : Program) (K : List Atoms) → unshown r p (common_sets r p K) ≡ unshown r p K
 unshown-common r p K = unshown-same r p (common_sets r p K) K (any-common r p K)
 
-any-common-more : (r : Reasoning) (p : Program) (K : List Atoms) (T : Atoms) (a : ℕ) → has (atoms_of p) a ≡ true → list_any (λ S. shows r S a) (common_sets r p K ++ T ∷ []) ≡ list_any (λ S. shows r S a) (K ++ T ∷ [])
+any-common-more : (r : Reasoning) (p : Program) (K : List Atoms) (T : Atoms) (a : ℕ) → has (atoms_of p) a ≡ true →
+    list_any (λ S. shows r S a) (common_sets r p K ++ T ∷ []) ≡ list_any (λ S. shows r S a) (K ++ T ∷ [])
 any-common-more r p K T a there =
-    list_any-append (λ S. shows r S a) (common_sets r p K) (T ∷ []) ∙ ap (λ b. b || list_any (λ S. shows r S a) (T ∷ [])) (any-common r p K a there) ∙ sym (list_any-append (λ S. shows r S a) K (T ∷ []))
+    list_any-append (λ S. shows r S a) (common_sets r p K) (T ∷ []) ∙ ap (λ b. b || list_any (λ S. shows r S a) (T ∷ [])) (any-common r p K a there)
+    ∙ sym (list_any-append (λ S. shows r S a) K (T ∷ []))
 
 push-some : (K : List Atoms) (T : Atoms) → K ++ T ∷ [] ≡ [] → ⊥
 push-some K T e = member-some (K ++ T ∷ []) T (list_any-append (same_set T) K (T ∷ []) ∙ or_right (list_any (same_set T) K) (list_any (same_set T) (T ∷ [])) (first-among T [])) e
@@ -402,7 +412,9 @@ covers-less r p K L S sub some c = covers-from r p L S some (λ a there s. elim 
   where
     unseen : (a : ℕ) → has (atoms_of p) a ≡ true → shows r S a ≡ true → list_any (λ T. shows r T a) L ≡ false → ⊥
     unseen a there s e =
-        let left : has (unshown r p L) a ≡ true = has-filter (λ b. not (list_any (λ T. shows r T b) L)) (atoms_of p) a ∙ and_from (not (list_any (λ T. shows r T a) L)) (has (atoms_of p) a) (ap not e) there in
+        let left : has (unshown r p L) a ≡ true =
+        has-filter (λ b. not (list_any (λ T. shows r T b) L)) (atoms_of p) a
+        ∙ and_from (not (list_any (λ T. shows r T a) L)) (has (atoms_of p) a) (ap not e) there in
         let parts = and_parts (not (list_any (λ T. shows r T a) K)) (has (atoms_of p) a) (sym (has-filter (λ b. not (list_any (λ T. shows r T b) K)) (atoms_of p) a) ∙ sub a left) in
         false≢true (sym (not-true (list_any (λ T. shows r T a) K) parts.0) ∙ covered-shown r p K S c a there s)
 

@@ -14,11 +14,13 @@ cost_at_push S q [] m = omega (arith, ints)
 cost_at_push S q (n ∷ ms) m = omega (arith, ints, cost_at_push S q ms m)
 
 -- x is the statement at i
-pub cost_at_more : (S : Atoms) (q : ℤ) (ms : List Minimize) (i : ℕ) (x : Minimize) → i < length ms → x ≡ get_or ms i x → cost_at S (take (i + 1) ms) q ≡ cost_at S (take i ms) q +ℤ cond (int_eq x.priority q) (weight_of S x.items) (pos 0)
+pub cost_at_more : (S : Atoms) (q : ℤ) (ms : List Minimize) (i : ℕ) (x : Minimize) → i < length ms → x ≡ get_or ms i x →
+    cost_at S (take (i + 1) ms) q ≡ cost_at S (take i ms) q +ℤ cond (int_eq x.priority q) (weight_of S x.items) (pos 0)
 cost_at_more S q ms i x lt is =
     ap (λ ns. cost_at S ns q) (take_more ms i x lt ∙ ap (λ m. take i ms ++ m ∷ []) (sym is)) ∙ cost_at_push S q (take i ms) x
 
-pub items_more : (ms : List Minimize) (i : ℕ) (x : Minimize) → i < length ms → x ≡ get_or ms i x → sum_by (λ m. length m.items) (take (i + 1) ms) ≡ sum_by (λ m. length m.items) (take i ms) + length x.items
+pub items_more : (ms : List Minimize) (i : ℕ) (x : Minimize) → i < length ms → x ≡ get_or ms i x →
+    sum_by (λ m. length m.items) (take (i + 1) ms) ≡ sum_by (λ m. length m.items) (take i ms) + length x.items
 items_more ms i x lt is =
     sum_by_more (λ (m : Minimize). length m.items) ms i x lt ∙ ap (λ (m : Minimize). sum_by (λ m'. length m'.items) (take i ms) + length m.items) (sym is)
 

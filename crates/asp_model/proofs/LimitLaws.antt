@@ -16,7 +16,8 @@ use Rattle.asp_model.proofs.ModelLaws.{steps-ascend, same_bools}
 abbrev pub missing : List Rule → Atoms → ℕ
 missing rules T = length (heads_of rules) - count_in (heads_of rules) T
 
-pub missing-falls : (S : Atoms) (rules : List Rule) (T U : Atoms) (n : ℕ) → All HasBody rules → T ≡ steps (reduct S rules) n → U ≡ steps (reduct S rules) (suc n) → pointwise nat_eq U T ≡ false → missing rules U < missing rules T
+pub missing-falls : (S : Atoms) (rules : List Rule) (T U : Atoms) (n : ℕ) → All HasBody rules → T ≡ steps (reduct S rules) n →
+    U ≡ steps (reduct S rules) (suc n) → pointwise nat_eq U T ≡ false → missing rules U < missing rules T
 missing-falls S rules T U n sound t u other =
     let definite = reduct S rules in
     let monotone : AreMonotone definite = reduct-monotone S rules (rules-weights rules sound) in
@@ -36,6 +37,8 @@ limit-is L rules T monotone heads limit =
     let last = length L + 1 in
     let closed : IsClosed rules T = closed_from_step rules T (λ a h. sym (ap (λ X. has X a) limit.fixed) ∙ h) in
     let under : IsSubset (steps rules last) T = steps-least rules last T monotone closed in
-    let over : IsSubset T (steps rules last) = subst (λ X. IsSubset X (steps rules last)) (sym limit.reached) (steps-least rules limit.count (steps rules last) monotone (steps-closed L rules monotone heads)) in
+    let over : IsSubset T (steps rules last) =
+    subst (λ X. IsSubset X (steps rules last)) (sym limit.reached)
+    (steps-least rules limit.count (steps rules last) monotone (steps-closed L rules monotone heads)) in
     same_from_has T (steps rules last) (subst IsAscending (sym limit.reached) (steps-ascend rules limit.count)) (steps-ascend rules last) (λ a.
     same_bools (has T a) (has (steps rules last) a) (over a) (under a))

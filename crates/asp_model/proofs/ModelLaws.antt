@@ -55,7 +55,8 @@ pub least_model-derived : (p : Program) (S : Atoms) → IsSound p → step (redu
 least_model-derived p S sound =
     let rules = reduct S (rules_in_force p) in
     same_from_has (step rules (least_model p S)) (least_model p S) (step-ascends rules (least_model p S)) (least_model-ascends p S) (λ a.
-    same_bools (has (step rules (least_model p S)) a) (has (least_model p S) a) (step-closed rules (least_model p S) (least_model-closed p S sound) a) (steps-rise rules (length (atoms_of p) + 1) (monotone p S sound) a))
+    same_bools (has (step rules (least_model p S)) a) (has (least_model p S) a) (step-closed rules (least_model p S) (least_model-closed p S sound) a)
+    (steps-rise rules (length (atoms_of p) + 1) (monotone p S sound) a))
 
 -- ---- stable sets
 pub stable-least : (p : Program) (S : Atoms) → is_stable p S ≡ true → S ≡ least_model p S
@@ -71,13 +72,18 @@ contains-filter q Ss S = (there, back)
     there : Contains (filter q Ss) S → Contains Ss S × (q S ≡ true)
     there h =
         let both : list_any (λ T. q T && same_set S T) Ss ≡ true = sym (list_any-filter (same_set S) q Ss) ∙ test_from_contains (filter q Ss) S h in (
-          contains_from_test Ss S (list_any-weaker (λ T. q T && same_set S T) (same_set S) Ss (each_of (λ T. (q T && same_set S T) ≡ true → same_set S T ≡ true) (λ T e. (and_parts (q T) (same_set S T) e).1) Ss) both),
-          one_passes (q S ≡ true) (λ T. q T && same_set S T) Ss (each_of (λ T. (q T && same_set S T) ≡ true → q S ≡ true) (λ T e. let parts = and_parts (q T) (same_set S T) e in ap q (same_text S T (sym parts.1)) ∙ parts.0) Ss) both,
+          contains_from_test Ss S (list_any-weaker (λ T. q T && same_set S T) (same_set S) Ss
+              (each_of (λ T. (q T && same_set S T) ≡ true → same_set S T ≡ true) (λ T e. (and_parts (q T) (same_set S T) e).1) Ss) both),
+          one_passes (q S ≡ true) (λ T. q T && same_set S T) Ss
+              (each_of (λ T. (q T && same_set S T) ≡ true → q S ≡ true)
+              (λ T e. let parts = and_parts (q T) (same_set S T) e in ap q (same_text S T (sym parts.1)) ∙ parts.0) Ss) both,
         )
 
     back : Contains Ss S × (q S ≡ true) → Contains (filter q Ss) S
     back h =
-        contains_from_test (filter q Ss) S (list_any-filter (same_set S) q Ss ∙ list_any-weaker (same_set S) (λ T. q T && same_set S T) Ss (each_of (λ T. same_set S T ≡ true → (q T && same_set S T) ≡ true) (λ T e.
+        contains_from_test (filter q Ss) S (list_any-filter (same_set S) q Ss
+        ∙ list_any-weaker (same_set S) (λ T. q T && same_set S T) Ss
+        (each_of (λ T. same_set S T ≡ true → (q T && same_set S T) ≡ true) (λ T e.
         and_from (q T) (same_set S T) (ap q (sym (same_text S T (sym e))) ∙ h.1) e) Ss) (test_from_contains Ss S h.0))
 
 pub subsets-exact : (L S : Atoms) → IsAscending L → Contains (subsets L) S ↔ (IsAscending S × IsSubset S L)
@@ -131,7 +137,9 @@ pub stable-heads : (p : Program) (S : Atoms) → is_stable p S ≡ true → IsSu
 stable-heads p S h =
     let L = heads_of (rules_in_force p) in
     let rules = reduct S (rules_in_force p) in
-    let within : IsSubset (least_model p S) L = steps-in L rules (length (atoms_of p) + 1) (reduct-heads L S (rules_in_force p) (HasAll-flat_map (λ (r : Rule). head_atoms r.head) (rules_in_force p))) in
+    let within : IsSubset (least_model p S) L =
+    steps-in L rules (length (atoms_of p) + 1)
+    (reduct-heads L S (rules_in_force p) (HasAll-flat_map (λ (r : Rule). head_atoms r.head) (rules_in_force p))) in
     subst (λ T. IsSubset T L) (sym (stable-least p S h)) within
 
 pub answers-are : (p : Program) (S : Atoms) → Contains (answers p) S ↔ ((is_stable p S ≡ true) × (all_hold S p.assumptions ≡ true))

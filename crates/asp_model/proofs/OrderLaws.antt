@@ -24,7 +24,8 @@ first_differs a b S T s t lt = (
   b,
   or_left (eqb b b) (has T b) (eq-eqb b b refl),
   or_from (eqb a b) (has S b) (ne_eqb a b (λ e. omega arith)) (has-below a b S s (omega arith)),
-  λ c less. or_from (eqb a c) (has S c) (ne_eqb a c (λ e. omega arith)) (has-below a c S s (omega arith)) ∙ sym (or_from (eqb b c) (has T c) (ne_eqb b c (λ e. omega arith)) (has-below b c T t (omega arith))),
+  λ c less. or_from (eqb a c) (has S c) (ne_eqb a c (λ e. omega arith)) (has-below a c S s (omega arith))
+      ∙ sym (or_from (eqb b c) (has T c) (ne_eqb b c (λ e. omega arith)) (has-below b c T t (omega arith))),
 )
 
 first_same : (a b : ℕ) (S T : Atoms) → AllByRecursion (λ c. b < c) T → a ≡ b → IsBefore S T → IsBefore (a ∷ S) (b ∷ T)

@@ -24,7 +24,8 @@ length-rows e = length-second (IsStored e)
 pub stored_at : (e : Extras) (ms : List Mark) (rows : List (List ℤ)) (i : ℕ) (m : Mark) → AreStored e ms rows → i < length ms → IsStored e (get_or ms i m)
 stored_at e = first_at (IsStored e)
 
-pub rules_of-at : (e : Extras) (ms : List Mark) (rows : List (List ℤ)) (i : ℕ) (m : Mark) (r : Rule) → AreStored e ms rows → i < length ms → get_or (rules_of e ms rows) i r ≡ rule_of e (get_or ms i m) (get_or rows i [])
+pub rules_of-at : (e : Extras) (ms : List Mark) (rows : List (List ℤ)) (i : ℕ) (m : Mark) (r : Rule) → AreStored e ms rows → i < length ms →
+    get_or (rules_of e ms rows) i r ≡ rule_of e (get_or ms i m) (get_or rows i [])
 rules_of-at e ms rows i m r = zipped-at (IsStored e) (rule_of e) ms rows i m [] r
 
 -- a fact that holds whatever the result is
@@ -40,16 +41,20 @@ stored-keeps : (d e : Extras) (ms : List Mark) (rows : List (List ℤ)) → Keep
 stored-keeps d e ms rows k = AreZipped-weaker (IsStored d) (IsStored e) ms rows (λ m s. (k.rules m [] s).0)
 
 -- after a call that gave up, and after one that added a rule
-pub rules_kept : (d e : Extras) (ms ns : List Mark) (rows others : List (List ℤ)) → Keeps d e → AreStored d ms rows → ns ≡ ms → others ≡ rows → AreStored e ns others × (rules_of e ns others ≡ rules_of d ms rows)
+pub rules_kept : (d e : Extras) (ms ns : List Mark) (rows others : List (List ℤ)) → Keeps d e → AreStored d ms rows → ns ≡ ms → others ≡ rows →
+    AreStored e ns others × (rules_of e ns others ≡ rules_of d ms rows)
 rules_kept d e ms ns rows others k s marks_are rows_are = (
   subst (λ (xs : List Mark). AreStored e xs others) (sym marks_are) (subst (λ (ys : List (List ℤ)). AreStored e ms ys) (sym rows_are) (stored-keeps d e ms rows k s)),
   ap (λ (xs : List Mark). rules_of e xs others) marks_are ∙ ap (λ (ys : List (List ℤ)). rules_of e ms ys) rows_are ∙ rules_of-keeps d e ms rows k s,
 )
 
-pub rules_more : (d e : Extras) (ms ns : List Mark) (rows others : List (List ℤ)) (m : Mark) (row : List ℤ) → Keeps d e → AreStored d ms rows → IsStored e m → ns ≡ ms ++ m ∷ [] → others ≡ rows ++ row ∷ [] → AreStored e ns others × (rules_of e ns others ≡ rules_of d ms rows ++ rule_of e m row ∷ [])
+pub rules_more : (d e : Extras) (ms ns : List Mark) (rows others : List (List ℤ)) (m : Mark) (row : List ℤ) → Keeps d e → AreStored d ms rows →
+    IsStored e m → ns ≡ ms ++ m ∷ [] → others ≡ rows ++ row ∷ [] → AreStored e ns others ×
+    (rules_of e ns others ≡ rules_of d ms rows ++ rule_of e m row ∷ [])
 rules_more d e ms ns rows others m row k s one marks_are rows_are =
     let stored = stored-keeps d e ms rows k s in (
-      subst (λ (xs : List Mark). AreStored e xs others) (sym marks_are) (subst (λ (ys : List (List ℤ)). AreStored e (ms ++ m ∷ []) ys) (sym rows_are) (AreZipped-push (IsStored e) ms rows m row stored one)),
+      subst (λ (xs : List Mark). AreStored e xs others) (sym marks_are)
+          (subst (λ (ys : List (List ℤ)). AreStored e (ms ++ m ∷ []) ys) (sym rows_are) (AreZipped-push (IsStored e) ms rows m row stored one)),
       ap (λ (xs : List Mark). rules_of e xs others) marks_are
           ∙ ap (λ (ys : List (List ℤ)). rules_of e (ms ++ m ∷ []) ys) rows_are
           ∙ zipped-push (IsStored e) (rule_of e) ms rows m row stored

@@ -16,7 +16,9 @@ subsets_from-last [] = refl
 subsets_from-last (a ∷ L) = ap (map (λ S. a ∷ S)) (subsets_from-last L)
 
 -- The last mark that isn't set is set, and those behind it are cleared.
-pub subsets_from-next : (L : Atoms) (marks : List Bool) (n : ℕ) → length L ≡ length marks + suc n → subsets_from L (marks ++ false ∷ replicate n true) ≡ picked L (marks ++ false ∷ replicate n true) ∷ subsets_from L (marks ++ true ∷ replicate n false)
+pub subsets_from-next : (L : Atoms) (marks : List Bool) (n : ℕ) → length L ≡ length marks + suc n →
+    subsets_from L (marks ++ false ∷ replicate n true) ≡ picked L (marks ++ false ∷ replicate n true) ∷ subsets_from L
+    (marks ++ true ∷ replicate n false)
 subsets_from-next [] marks n len = absurd (omega arith)
 subsets_from-next (a ∷ L) [] n len =
     let count : n ≡ length L = omega arith in
@@ -46,7 +48,8 @@ picked-push (b ∷ L) (true ∷ marks) a mark len = ap (λ S. b ∷ S) (picked-p
 picked-push (b ∷ L) (false ∷ marks) a mark len = picked-push L marks a mark (omega arith)
 
 -- one place more
-pub picked_more : (L : Atoms) (marks : List Bool) (i : ℕ) → length marks ≡ length L → i < length L → picked (take (i + 1) L) (take (i + 1) marks) ≡ picked (take i L) (take i marks) ++ cond (get_or marks i false) (get_or L i 0 ∷ []) []
+pub picked_more : (L : Atoms) (marks : List Bool) (i : ℕ) → length marks ≡ length L → i < length L →
+    picked (take (i + 1) L) (take (i + 1) marks) ≡ picked (take i L) (take i marks) ++ cond (get_or marks i false) (get_or L i 0 ∷ []) []
 picked_more L marks i len lt =
     let fewer : length (take i marks) ≡ length (take i L) = omega (arith, length-take-le i L (omega arith), length-take-le i marks (omega arith)) in
     let marks_in : i < length marks = omega arith in
@@ -101,13 +104,17 @@ cleared-more old new place above cleared read =
     record { front = at.front; count = suc at.count; here = at.here; was = at.was; is = marked-set old new (place - 1) true false at }
 
 -- The mark that wasn't set is set, and the next subset is the next in the order.
-pub advanced : (L : Atoms) (old new : List Bool) (place : ℕ) → 0 < place → IsCleared old new place → get_or new (place - 1) false ≡ false → length L ≡ length old → subsets_from L old ≡ picked L old ∷ subsets_from L (set new (place - 1) true)
+pub advanced : (L : Atoms) (old new : List Bool) (place : ℕ) → 0 < place → IsCleared old new place → get_or new (place - 1) false ≡ false →
+    length L ≡ length old → subsets_from L old ≡ picked L old ∷ subsets_from L (set new (place - 1) true)
 advanced L old new place above cleared read len =
     let at = marked old new place false above cleared read in
-    let count : length old ≡ length at.front + suc at.count = ap length at.was ∙ length-append at.front (false ∷ replicate at.count true) ∙ ap (λ n. length at.front + suc n) (length-replicate at.count true) in
+    let count : length old ≡ length at.front + suc at.count =
+    ap length at.was ∙ length-append at.front (false ∷ replicate at.count true)
+    ∙ ap (λ n. length at.front + suc n) (length-replicate at.count true) in
     let Next : List Bool → List Bool → Type 0 = λ marks next. subsets_from L marks ≡ picked L marks ∷ subsets_from L next in
     let set_there = marked-set old new (place - 1) false true at in
-    subst (λ marks. Next marks (set new (place - 1) true)) (sym at.was) (subst (Next (at.front ++ false ∷ replicate at.count true)) (sym set_there) (subsets_from-next L at.front at.count (len ∙ count)))
+    subst (λ marks. Next marks (set new (place - 1) true)) (sym at.was)
+    (subst (Next (at.front ++ false ∷ replicate at.count true)) (sym set_there) (subsets_from-next L at.front at.count (len ∙ count)))
 
 pub advanced-none : (L : Atoms) (old new : List Bool) → IsCleared old new 0 → length L ≡ length old → subsets_from L old ≡ picked L old ∷ []
 advanced-none L old new cleared len =

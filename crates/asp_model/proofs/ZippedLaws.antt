@@ -19,13 +19,15 @@ first_at P (n ∷ ms) [] i m s lt = absurd s
 first_at P (n ∷ ms) (r ∷ rs) zero m s lt = s.0
 first_at P (n ∷ ms) (r ∷ rs) (suc i) m s lt = first_at P ms rs i m s.1 (omega arith)
 
-pub zipped-at : {M R X : Type 0} (P : M → Type 0) (f : M → R → X) (ms : List M) (rs : List R) (i : ℕ) (m : M) (r : R) (x : X) → AreZipped P ms rs → i < length ms → get_or (zipped f ms rs) i x ≡ f (get_or ms i m) (get_or rs i r)
+pub zipped-at : {M R X : Type 0} (P : M → Type 0) (f : M → R → X) (ms : List M) (rs : List R) (i : ℕ) (m : M) (r : R) (x : X) → AreZipped P ms rs →
+    i < length ms → get_or (zipped f ms rs) i x ≡ f (get_or ms i m) (get_or rs i r)
 zipped-at P f [] rs i m r x s lt = absurd (omega arith)
 zipped-at P f (n ∷ ms) [] i m r x s lt = absurd s
 zipped-at P f (n ∷ ms) (q ∷ rs) zero m r x s lt = refl
 zipped-at P f (n ∷ ms) (q ∷ rs) (suc i) m r x s lt = zipped-at P f ms rs i m r x s.1 (omega arith)
 
-pub zipped-push : {M R X : Type 0} (P : M → Type 0) (f : M → R → X) (ms : List M) (rs : List R) (m : M) (r : R) → AreZipped P ms rs → zipped f (ms ++ m ∷ []) (rs ++ r ∷ []) ≡ zipped f ms rs ++ f m r ∷ []
+pub zipped-push : {M R X : Type 0} (P : M → Type 0) (f : M → R → X) (ms : List M) (rs : List R) (m : M) (r : R) → AreZipped P ms rs →
+    zipped f (ms ++ m ∷ []) (rs ++ r ∷ []) ≡ zipped f ms rs ++ f m r ∷ []
 zipped-push P f [] [] m r s = refl
 zipped-push P f [] (q ∷ rs) m r s = absurd s
 zipped-push P f (n ∷ ms) [] m r s = absurd s

@@ -33,7 +33,12 @@ weight_loop = rules_alone (record { head = head.One 1; body = body.AtLeast (pos 
 
 -- a <- 3 { not b = 1; not b = 1; c = 1 }. { b; c }.
 abbrev pub repeated_literals : Program
-repeated_literals = rules_alone (record { head = head.One 1; body = body.AtLeast (pos 3) ((negsuc 1, pos 1) ∷ (negsuc 1, pos 1) ∷ (pos 3, pos 1) ∷ []) } ∷ record { head = head.Choice (2 ∷ 3 ∷ []); body = body.All [] } ∷ [])
+repeated_literals = rules_alone (record {
+  head = head.One 1;
+  body =
+      body.AtLeast (pos 3) ((negsuc 1, pos 1) ∷ (negsuc 1, pos 1) ∷ (pos 3, pos 1) ∷ []);
+} ∷ record
+    { head = head.Choice (2 ∷ 3 ∷ []); body = body.All [] } ∷ [])
 
 -- { a; b }. not both false. At priority 1 a costs 1 and b costs -1, at priority 2 a costs 1 and b costs 2.
 abbrev pub two_priorities : Program
@@ -72,7 +77,8 @@ four_externals =
 -- a <- b. External a true, b true and then false.
 abbrev pub overruled_external : Program
 overruled_external =
-    with_externals (record { head = head.One 1; body = body.All (pos 2 ∷ []) } ∷ []) (record { atom = 1; value = value.True } ∷ record { atom = 2; value = value.True } ∷ record { atom = 2; value = value.False } ∷ [])
+    with_externals (record { head = head.One 1; body = body.All (pos 2 ∷ []) } ∷ [])
+    (record { atom = 1; value = value.True } ∷ record { atom = 2; value = value.True } ∷ record { atom = 2; value = value.False } ∷ [])
 
 -- { a }, under the assumptions a and not a
 abbrev pub contrary_assumptions : Program

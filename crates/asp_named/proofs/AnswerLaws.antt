@@ -51,7 +51,8 @@ before-extended a p S T low h =
       λ b less. let lt' : b < a = omega (arith, less, lt) in extended-low a p S b lt' ∙ h.3 b less ∙ sym (extended-low a p T b lt'),
     )
 
-each-before : (a : ℕ) (p : Program) (S : Atoms) (Ts : List Atoms) → AllByRecursion (Below a) Ts → AllByRecursion (IsBefore S) Ts → AllByRecursion (IsBefore (extended_from a p S)) (map (extended_from a p) Ts)
+each-before : (a : ℕ) (p : Program) (S : Atoms) (Ts : List Atoms) → AllByRecursion (Below a) Ts → AllByRecursion (IsBefore S) Ts →
+    AllByRecursion (IsBefore (extended_from a p S)) (map (extended_from a p) Ts)
 each-before a p S [] low h = tt
 each-before a p S (T ∷ Ts) low h = (before-extended a p S T low.0 h.0, each-before a p S Ts low.1 h.1)
 
@@ -62,7 +63,9 @@ rising-extended a p (S ∷ Ss) low h = (each-before a p S Ss low.1 h.0, rising-e
 pub answers-named : (a : ℕ) (p : Program) → IsSplit a p → answers (named_from a p) ≡ map (extended_from a p) (answers p)
 answers-named a p is =
     same_from_members (answers (named_from a p)) (map (extended_from a p) (answers p)) (answers-rise (named_from a p))
-    (pairs_from_rising (map (extended_from a p) (answers p)) (rising-extended a p (answers p) (each-contained (Below a) (answers p) (answer-below a p is)) (rising_from_pairs (answers p) (answers-rise p))))
+    (pairs_from_rising (map (extended_from a p) (answers p))
+    (rising-extended a p (answers p) (each-contained (Below a) (answers p) (answer-below a p is))
+    (rising_from_pairs (answers p) (answers-rise p))))
     (λ X. (there X, back X))
   where
     there : (X : Atoms) → Contains (answers (named_from a p)) X → Contains (map (extended_from a p) (answers p)) X
@@ -77,7 +80,12 @@ answers-named a p is =
     back X h =
         let m = map-contains (extended_from a p) (answers p) X h in
         let parts = (answers-are p m.0).0 m.1 in
-        subst (Contains (answers (named_from a p))) (sym m.2) ((answers-are (named_from a p) (extended_from a p m.0)).1 (stable-up a p is m.0 parts.0, all-same a (extended_from a p m.0) m.0 (extended-low a p m.0) p.assumptions (assumed-below a p is.under) ∙ parts.1))
+        subst (Contains (answers (named_from a p))) (sym m.2)
+        ((answers-are (named_from a p) (extended_from a p m.0)).1 (
+          stable-up a p is m.0 parts.0,
+          all-same a (extended_from a p m.0) m.0 (extended-low a p m.0) p.assumptions
+              (assumed-below a p is.under) ∙ parts.1,
+        ))
 
 -- ---- what some sets pass, or all
 abbrev passes : Reasoning → List Atoms → (Atoms → Bool) → Bool
@@ -111,7 +119,8 @@ abbrev common : Reasoning → ℕ → Program → Atoms
 common w a p = consequences w (named_from a p) (answers (named_from a p))
 
 -- an atom that each answer has exactly where it passes the test
-told-atom : (w : Reasoning) (a : ℕ) (p : Program) → IsSplit a p → (c : ℕ) (test : Atoms → Bool) → has (atoms_of (named_from a p)) c ≡ true → AllByRecursion (λ S. has (extended_from a p S) c ≡ test S) (answers p)
+told-atom : (w : Reasoning) (a : ℕ) (p : Program) → IsSplit a p → (c : ℕ) (test : Atoms → Bool) → has (atoms_of (named_from a p)) c ≡ true →
+    AllByRecursion (λ S. has (extended_from a p S) c ≡ test S) (answers p)
     → all_hold (common w a p) (pos c ∷ []) ≡ passes w (answers p) test
 told-atom w a p is c test standing h =
     and-true (has (common w a p) c)
@@ -124,11 +133,15 @@ told-atom w a p is c test standing h =
 abbrev named_condition : ℕ → List ℤ → List ℤ
 named_condition n ls = cond (is_plain ls) ls (pos n ∷ [])
 
-told-condition : (w : Reasoning) (a : ℕ) (p : Program) → IsSplit a p → ¬ (answers p ≡ []) → (n : ℕ) (ls : List ℤ) → Below a (map atom_of ls) → HasAll (atoms_of (named_from a p)) (map atom_of (named_condition n ls))
+told-condition : (w : Reasoning) (a : ℕ) (p : Program) → IsSplit a p → ¬ (answers p ≡ []) → (n : ℕ) (ls : List ℤ) → Below a (map atom_of ls) →
+    HasAll (atoms_of (named_from a p)) (map atom_of (named_condition n ls))
     → (is_plain ls ≡ false → AllByRecursion (λ S. has (extended_from a p S) n ≡ all_hold S ls) (answers p)) → all_hold (common w a p) (named_condition n ls) ≡ passes w (answers p) (λ S. all_hold S ls)
 told-condition w a p is some n [] low standing h = passes-always w (answers p) some
 told-condition w a p is some n (pos c ∷ []) low standing h =
-    told-atom w a p is c (λ S. all_hold S (pos c ∷ [])) standing.0 (each_weaker (Below a) (λ S. has (extended_from a p S) c ≡ all_hold S (pos c ∷ [])) (λ S under. extended-low a p S c low.0 ∙ sym (and-true (has S c))) (answers p) (each-contained (Below a) (answers p) (answer-below a p is)))
+    told-atom w a p is c (λ S. all_hold S (pos c ∷ [])) standing.0
+    (each_weaker (Below a) (λ S. has (extended_from a p S) c ≡ all_hold S (pos c ∷ []))
+    (λ S under. extended-low a p S c low.0 ∙ sym (and-true (has S c))) (answers p)
+    (each-contained (Below a) (answers p) (answer-below a p is)))
 told-condition w a p is some n (negsuc c ∷ []) low standing h = told-atom w a p is n (λ S. all_hold S (negsuc c ∷ [])) standing.0 (h refl)
 told-condition w a p is some n (l ∷ m ∷ ls) low standing h = told-atom w a p is n (λ S. all_hold S (l ∷ m ∷ ls)) standing.0 (h refl)
 
@@ -172,7 +185,8 @@ own-name a p n o os S plain h =
 later-names : (a : ℕ) (p : Program) (n : ℕ) (o : Output) (os : List Output) (S : Atoms) → HasNames a p n (o ∷ os) S → HasNames a p (n + 1) os S
 later-names a p n o os S h = λ b le. h b (omega (arith, le)) ∙ not-first n b (is_plain o.condition) (all_hold S o.condition) (names_by (n + 1) os (all_hold S)) le
 
-pick : (c : Bool) (x y : Output) (xs ys : List Output) → x.text ≡ y.text → map (λ (o : Output). o.text) xs ≡ map (λ (o : Output). o.text) ys → map (λ (o : Output). o.text) (cond c (x ∷ xs) xs) ≡ map (λ (o : Output). o.text) (cond c (y ∷ ys) ys)
+pick : (c : Bool) (x y : Output) (xs ys : List Output) → x.text ≡ y.text → map (λ (o : Output). o.text) xs ≡ map (λ (o : Output). o.text) ys →
+    map (λ (o : Output). o.text) (cond c (x ∷ xs) xs) ≡ map (λ (o : Output). o.text) (cond c (y ∷ ys) ys)
 pick true x y xs ys e h = ap (λ (t : List ℕ). t ∷ map (λ (o : Output). o.text) xs) e ∙ ap (λ (ts : List (List ℕ)). y.text ∷ ts) h
 pick false x y xs ys e h = h
 
@@ -182,11 +196,17 @@ told-outputs : (w : Reasoning) (a : ℕ) (p : Program) → IsSplit a p → ¬ (a
 told-outputs w a p is some n [] low standing h = refl
 told-outputs w a p is some n (o ∷ os) low standing h =
     let Q = atoms_of (named_from a p) in
-    let here : HasAll Q (map atom_of (named_output n o).condition) = each-front (λ b. has Q b ≡ true) (map atom_of (named_output n o).condition) (flat_map (λ (x : Output). map atom_of x.condition) (named_outputs (n + 1) os)) standing in
-    let rest : HasAll Q (flat_map (λ (x : Output). map atom_of x.condition) (named_outputs (n + 1) os)) = each-back (λ b. has Q b ≡ true) (map atom_of (named_output n o).condition) (flat_map (λ (x : Output). map atom_of x.condition) (named_outputs (n + 1) os)) standing in
+    let here : HasAll Q (map atom_of (named_output n o).condition) =
+    each-front (λ b. has Q b ≡ true) (map atom_of (named_output n o).condition)
+    (flat_map (λ (x : Output). map atom_of x.condition) (named_outputs (n + 1) os)) standing in
+    let rest : HasAll Q (flat_map (λ (x : Output). map atom_of x.condition) (named_outputs (n + 1) os)) =
+    each-back (λ b. has Q b ≡ true) (map atom_of (named_output n o).condition)
+    (flat_map (λ (x : Output). map atom_of x.condition) (named_outputs (n + 1) os)) standing in
     let same : all_hold (common w a p) (named_output n o).condition ≡ is_told w (answers p) o =
     ap (all_hold (common w a p)) (condition-of n o)
-    ∙ told-condition w a p is some n o.condition low.0 (subst (λ (ls : List ℤ). HasAll Q (map atom_of ls)) (condition-of n o) here) (λ plain. each_weaker (HasNames a p n (o ∷ os)) (λ S. has (extended_from a p S) n ≡ all_hold S o.condition) (λ S hs. own-name a p n o os S plain hs) (answers p) h)
+    ∙ told-condition w a p is some n o.condition low.0 (subst (λ (ls : List ℤ). HasAll Q (map atom_of ls)) (condition-of n o) here)
+    (λ plain. each_weaker (HasNames a p n (o ∷ os)) (λ S. has (extended_from a p S) n ≡ all_hold S o.condition)
+    (λ S hs. own-name a p n o os S plain hs) (answers p) h)
     ∙ sym (told-by w (answers p) o) in
     let kept : List Output = filter (λ (x : Output). all_hold (common w a p) x.condition) (named_outputs (n + 1) os) in
     ap (λ (c : Bool). map (λ (x : Output). x.text) (cond c (named_output n o ∷ kept) kept)) same
@@ -206,7 +226,9 @@ outputs-stand q =
 -- The texts that consequences of the program with atoms for its outputs show are those of the outputs that some, or every, answer shows.
 pub told-named : (w : Reasoning) (a : ℕ) (p : Program) → IsSplit a p → ¬ (answers p ≡ []) → shown (named_from a p) (common w a p) ≡ told_texts w p
 told-named w a p is some =
-    told-outputs w a p is some a p.outputs (outputs-below a p is.under) (outputs-stand (named_from a p)) (each_weaker (Below a) (HasNames a p a p.outputs) (λ S low b le. extended-high a p S low b le) (answers p) (each-contained (Below a) (answers p) (answer-below a p is)))
+    told-outputs w a p is some a p.outputs (outputs-below a p is.under) (outputs-stand (named_from a p))
+    (each_weaker (Below a) (HasNames a p a p.outputs) (λ S low b le. extended-high a p S low b le) (answers p)
+    (each-contained (Below a) (answers p) (answer-below a p is)))
 
 -- ---- with the first number that is free
 greatest-above : (S : Atoms) → IsAscending S → (b : ℕ) → has S b ≡ true → b ≤ greatest S

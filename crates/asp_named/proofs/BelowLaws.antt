@@ -67,7 +67,8 @@ all-between S (l ∷ ls) = ap (λ (b : Bool). b && list_all (holds_between S S) 
 pub all-same : (a : ℕ) (S T : Atoms) → Agree a S T → (ls : List ℤ) → Below a (map atom_of ls) → list_all (holds S) ls ≡ list_all (holds T) ls
 all-same a S T s ls h = sym (all-between S ls) ∙ all-agree a S T S T s s ls h ∙ all-between T ls
 
-weights-agree : (a : ℕ) (S S' T T' : Atoms) → Agree a S S' → Agree a T T' → (items : List (ℤ × ℤ)) → Below a (map (λ (i : ℤ × ℤ). atom_of i.0) items) → weight_between S T items ≡ weight_between S' T' items
+weights-agree : (a : ℕ) (S S' T T' : Atoms) → Agree a S S' → Agree a T T' → (items : List (ℤ × ℤ)) →
+    Below a (map (λ (i : ℤ × ℤ). atom_of i.0) items) → weight_between S T items ≡ weight_between S' T' items
 weights-agree a S S' T T' s t [] h = refl
 weights-agree a S S' T T' s t (i ∷ items) h =
     ap (λ (b : Bool). cond b i.1 (pos 0) +ℤ weight_between S T items) (literal-agrees a S S' T T' s t i.0 h.0)

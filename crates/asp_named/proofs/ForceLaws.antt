@@ -91,11 +91,14 @@ naming-high : (a : ℕ) (os : List Output) → High a (heads_in (naming_rules a 
 naming-high a [] = tt
 naming-high a (o ∷ os) =
     subst (High a) (sym (flat_map-append (λ (r : Rule). head_atoms r.head) (naming_rule a o) (naming_rules (a + 1) os)))
-    (both-high a (heads_in (naming_rule a o)) (heads_in (naming_rules (a + 1) os)) (one_head a o) (each_weaker (λ b. a + 1 ≤ b) (λ b. a ≤ b) (λ b le. omega (arith, le)) (heads_in (naming_rules (a + 1) os)) (naming-high (a + 1) os)))
+    (both-high a (heads_in (naming_rule a o)) (heads_in (naming_rules (a + 1) os)) (one_head a o)
+    (each_weaker (λ b. a + 1 ≤ b) (λ b. a ≤ b) (λ b le. omega (arith, le)) (heads_in (naming_rules (a + 1) os)) (naming-high (a + 1) os)))
 
 pub absent-below : (a : ℕ) (xs : List ℕ) (b : ℕ) → High a xs → b < a → has xs b ≡ false
 absent-below a [] b h lt = refl
-absent-below a (x ∷ xs) b h lt = or_from (eqb x b) (has xs b) (false_from_ne_true (eqb x b) (λ e. let same : x ≡ b = eqb-true x b e in let le = h.0 in let no : ⊥ = omega (arith, same, le, lt) in no)) (absent-below a xs b h.1 lt)
+absent-below a (x ∷ xs) b h lt = or_from (eqb x b) (has xs b)
+    (false_from_ne_true (eqb x b) (λ e. let same : x ≡ b = eqb-true x b e in let le = h.0 in let no : ⊥ = omega (arith, same, le, lt) in no))
+    (absent-below a xs b h.1 lt)
 
 pub or-none : (x : Bool) → (x || false) ≡ x
 or-none true = refl
@@ -126,5 +129,6 @@ opened-one a b value.Release lt = tt
 pub opened-below : (a : ℕ) (p : Program) → IsUnder a p → AreBelow a (opened_rules p)
 opened-below a p under =
     let named = below-from a (set_of (external_atoms p)) (λ b e. below-has a (external_atoms p) b (externals-below a p under) (sym (has-set_of (external_atoms p) b) ∙ e)) in
-    each-flat_map (λ (r : Rule). Below a (atoms_at r)) (λ b. external_rule b (last_value p.externals b)) (open_atoms p) (each_weaker (Low a) (λ b. AreBelow a (external_rule b (last_value p.externals b))) (λ b lt.
+    each-flat_map (λ (r : Rule). Below a (atoms_at r)) (λ b. external_rule b (last_value p.externals b)) (open_atoms p)
+    (each_weaker (Low a) (λ b. AreBelow a (external_rule b (last_value p.externals b))) (λ b lt.
     opened-one a b (last_value p.externals b) lt) (open_atoms p) (each-filter (Low a) (λ b. not (has (heads_in p.rules) b)) (set_of (external_atoms p)) named))

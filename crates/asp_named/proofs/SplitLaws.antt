@@ -35,7 +35,8 @@ pub record IsSplit (a : ℕ) (p : Program) : Type 0 where
   pub sound : IsSound (named_from a p)
 
 -- ---- the atoms of outputs
-pub names-same : (a n : ℕ) (os : List Output) (f g : List ℤ → Bool) → AllByRecursion (λ (o : Output). Below a (map atom_of o.condition)) os → ((ls : List ℤ) → Below a (map atom_of ls) → f ls ≡ g ls) → names_by n os f ≡ names_by n os g
+pub names-same : (a n : ℕ) (os : List Output) (f g : List ℤ → Bool) → AllByRecursion (λ (o : Output). Below a (map atom_of o.condition)) os →
+    ((ls : List ℤ) → Below a (map atom_of ls) → f ls ≡ g ls) → names_by n os f ≡ names_by n os g
 names-same a n [] f g h same = refl
 names-same a n (o ∷ os) f g h same =
     ap (λ (b : Bool). cond (is_plain o.condition) [] (cond b (n ∷ []) []) ++ names_by (n + 1) os f) (same o.condition h.0)
@@ -65,13 +66,15 @@ above n (x ∷ xs) h = (let le = h.0 in omega (arith, le), above n xs h.1)
 
 pub names-ascend : (n : ℕ) (os : List Output) (test : List ℤ → Bool) → IsAscending (names_by n os test)
 names-ascend n [] test = tt
-names-ascend n (o ∷ os) test = one-first n (is_plain o.condition) (test o.condition) (names_by (n + 1) os test) (above n (names_by (n + 1) os test) (names-high (n + 1) os test)) (names-ascend (n + 1) os test)
+names-ascend n (o ∷ os) test = one-first n (is_plain o.condition) (test o.condition) (names_by (n + 1) os test)
+    (above n (names_by (n + 1) os test) (names-high (n + 1) os test)) (names-ascend (n + 1) os test)
 
 -- what the rules for outputs derive
 naming-one : (S T : Atoms) (n : ℕ) (o : Output) → flat_map (derived_heads S T) (naming_rule n o) ≡ cond (is_plain o.condition) [] (cond (list_all (holds_between S T) o.condition) (n ∷ []) [])
 naming-one S T n o = by (is_plain o.condition)
   where
-    by : (c : Bool) → flat_map (derived_heads S T) (cond c [] (record { head = head.One n; body = body.All o.condition } ∷ [])) ≡ cond c [] (cond (list_all (holds_between S T) o.condition) (n ∷ []) [])
+    by : (c : Bool) → flat_map (derived_heads S T) (cond c [] (record { head = head.One n; body = body.All o.condition } ∷ [])) ≡ cond c []
+        (cond (list_all (holds_between S T) o.condition) (n ∷ []) [])
     by true = refl
     by false = append-nil (cond (list_all (holds_between S T) o.condition) (n ∷ []) [])
 
@@ -97,7 +100,8 @@ step-whole p S T b =
     ∙ has-both (derived S T p.rules) (derived S T (opened_rules p)) b
 
 step-named : (a : ℕ) (p : Program) → IsUnder a p → (S T : Atoms) (b : ℕ)
-    → has (step (reduct S (rules_in_force (named_from a p))) T) b ≡ ((has (derived S T p.rules) b || has (names_by a p.outputs (list_all (holds_between S T))) b) || has (derived S T (opened_rules p)) b)
+    → has (step (reduct S (rules_in_force (named_from a p))) T) b ≡
+    ((has (derived S T p.rules) b || has (names_by a p.outputs (list_all (holds_between S T))) b) || has (derived S T (opened_rules p)) b)
 step-named a p under S T b =
     let R = p.rules in
     let N = naming_rules a p.outputs in
@@ -119,7 +123,8 @@ pub step-low : (a : ℕ) (p : Program) → IsUnder a p → (S S' T T' : Atoms) �
     → has (step (reduct S (rules_in_force (named_from a p))) T) b ≡ has (step (reduct S' (rules_in_force p)) T') b
 step-low a p under S S' T T' s t b lt =
     step-named a p under S T b
-    ∙ ap (λ (x : Bool). (has (derived S T p.rules) b || x) || has (derived S T (opened_rules p)) b) (absent-below a (names_by a p.outputs (list_all (holds_between S T))) b (names-high a p.outputs (list_all (holds_between S T))) lt)
+    ∙ ap (λ (x : Bool). (has (derived S T p.rules) b || x) || has (derived S T (opened_rules p)) b)
+    (absent-below a (names_by a p.outputs (list_all (holds_between S T))) b (names-high a p.outputs (list_all (holds_between S T))) lt)
     ∙ none-between (has (derived S T p.rules) b) (has (derived S T (opened_rules p)) b)
     ∙ ap (λ (xs : List ℕ). has xs b || has (derived S T (opened_rules p)) b) (rules-agree a S S' T T' s t p.rules (rules-below a p under))
     ∙ ap (λ (xs : List ℕ). has (derived S' T' p.rules) b || has xs b) (rules-agree a S S' T T' s t (opened_rules p) (opened-below a p under))
@@ -130,8 +135,10 @@ pub step-high : (a : ℕ) (p : Program) → IsUnder a p → (S T : Atoms) (b : �
     → has (step (reduct S (rules_in_force (named_from a p))) T) b ≡ has (names_by a p.outputs (list_all (holds_between S T))) b
 step-high a p under S T b le =
     step-named a p under S T b
-    ∙ ap (λ (x : Bool). (x || has (names_by a p.outputs (list_all (holds_between S T))) b) || has (derived S T (opened_rules p)) b) (absent-above a (derived S T p.rules) b (derived-below a S T p.rules (rules-below a p under)) le)
-    ∙ ap (λ (x : Bool). has (names_by a p.outputs (list_all (holds_between S T))) b || x) (absent-above a (derived S T (opened_rules p)) b (derived-below a S T (opened_rules p) (opened-below a p under)) le)
+    ∙ ap (λ (x : Bool). (x || has (names_by a p.outputs (list_all (holds_between S T))) b) || has (derived S T (opened_rules p)) b)
+    (absent-above a (derived S T p.rules) b (derived-below a S T p.rules (rules-below a p under)) le)
+    ∙ ap (λ (x : Bool). has (names_by a p.outputs (list_all (holds_between S T))) b || x)
+    (absent-above a (derived S T (opened_rules p)) b (derived-below a S T (opened_rules p) (opened-below a p under)) le)
     ∙ or-none (has (names_by a p.outputs (list_all (holds_between S T))) b)
 
 -- ---- least models
@@ -216,7 +223,9 @@ least-named a p is X S agree b =
 -- ---- constraints
 never-violated : (X : Atoms) (n : ℕ) (os : List Output) → list_any (is_violated X) (naming_rules n os) ≡ false
 never-violated X n [] = refl
-never-violated X n (o ∷ os) = list_any-append (is_violated X) (naming_rule n o) (naming_rules (n + 1) os) ∙ by (is_plain o.condition) (list_any (is_violated X) (naming_rules (n + 1) os)) (never-violated X (n + 1) os)
+never-violated X n (o ∷ os) =
+    list_any-append (is_violated X) (naming_rule n o) (naming_rules (n + 1) os)
+    ∙ by (is_plain o.condition) (list_any (is_violated X) (naming_rules (n + 1) os)) (never-violated X (n + 1) os)
   where
     by : (c later : Bool) → later ≡ false → (list_any (is_violated X) (cond c [] (record { head = head.One n; body = body.All o.condition } ∷ [])) || later) ≡ false
     by true later h = h
@@ -226,7 +235,9 @@ violated-named : (a : ℕ) (p : Program) → IsUnder a p → (X S : Atoms) → A
 violated-named a p under X S agree =
     ap (list_any (is_violated X)) (rules-named a p under)
     ∙ list_any-append (is_violated X) (p.rules ++ naming_rules a p.outputs) (opened_rules p)
-    ∙ ap (λ (x : Bool). x || list_any (is_violated X) (opened_rules p)) (list_any-append (is_violated X) p.rules (naming_rules a p.outputs) ∙ ap (λ (x : Bool). list_any (is_violated X) p.rules || x) (never-violated X a p.outputs) ∙ or-none (list_any (is_violated X) p.rules))
+    ∙ ap (λ (x : Bool). x || list_any (is_violated X) (opened_rules p))
+    (list_any-append (is_violated X) p.rules (naming_rules a p.outputs)
+    ∙ ap (λ (x : Bool). list_any (is_violated X) p.rules || x) (never-violated X a p.outputs) ∙ or-none (list_any (is_violated X) p.rules))
     ∙ ap (λ (x : Bool). x || list_any (is_violated X) (opened_rules p)) (violations-agree a X S agree p.rules (rules-below a p under))
     ∙ ap (λ (x : Bool). list_any (is_violated S) p.rules || x) (violations-agree a X S agree (opened_rules p) (opened-below a p under))
     ∙ sym (list_any-append (is_violated S) p.rules (opened_rules p))
@@ -262,7 +273,9 @@ extended-high a p S low b le =
 own-names : (a : ℕ) (p : Program) → IsUnder a p → (X S : Atoms) → Agree a X S → (b : ℕ) → S ≡ least_model p S → has (with_names a p X (least_model p S)) b ≡ has (extended_from a p S) b
 own-names a p under X S agree b own =
     ap (λ (M : Atoms). has (with_names a p X M) b) (sym own)
-    ∙ ap (λ (xs : List ℕ). has (S ++ xs) b) (names-same a a p.outputs (list_all (holds_between X S)) (all_hold S) (outputs-below a p under) (λ ls low. all-agree a X S S S agree (itself a S) ls low ∙ all-between S ls))
+    ∙ ap (λ (xs : List ℕ). has (S ++ xs) b)
+    (names-same a a p.outputs (list_all (holds_between X S)) (all_hold S) (outputs-below a p under)
+    (λ ls low. all-agree a X S S S agree (itself a S) ls low ∙ all-between S ls))
 
 pub stable-up : (a : ℕ) (p : Program) → IsSplit a p → (S : Atoms) → is_stable p S ≡ true → is_stable (named_from a p) (extended_from a p S) ≡ true
 stable-up a p is S h =
@@ -270,7 +283,9 @@ stable-up a p is S h =
     let own : S ≡ least_model p S = stable-least p S h in
     let low : Below a S = subst (Below a) (sym own) (model-below a p is.under S) in
     let up : IsAscending S = subst IsAscending (sym own) (least_model-ascends p S) in
-    let same : X ≡ least_model (named_from a p) X = same_from_has X (least_model (named_from a p) X) (extended-ascends a p S low up) (least_model-ascends (named_from a p) X) (λ b. sym (least-named a p is X S (extended-low a p S) b ∙ own-names a p is.under X S (extended-low a p S) b own)) in
+    let same : X ≡ least_model (named_from a p) X =
+    same_from_has X (least_model (named_from a p) X) (extended-ascends a p S low up) (least_model-ascends (named_from a p) X)
+    (λ b. sym (least-named a p is X S (extended-low a p S) b ∙ own-names a p is.under X S (extended-low a p S) b own)) in
     and_from _ _ (same_test X (least_model (named_from a p) X) same) (ap not (violated-named a p is.under X S (extended-low a p S)) ∙ (and_parts (same_set S (least_model p S)) _ h).1)
 
 -- the atoms below a

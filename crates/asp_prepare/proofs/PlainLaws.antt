@@ -48,7 +48,8 @@ found-plain true n p Opt L best known h = (known, h, as-itself n p known)
 found-plain false n p (Consequences w) L best known h = (consequences_of w p (answers p), (h.0, h.1, refl), as-asked n w p (answers p) known h.2)
 found-plain true n p (Consequences w) L best known h = (consequences_of w p (answers p), (h.0, h.1, refl), as-asked n w p (answers p) known h.2)
 
-part-plain : (all n : Bool) (p : Program) (mode : Mode) (r : Found) → IsPartOf all n p mode r → (plain : Option Atoms) × IsPartOf all false p mode (record r { known = plain }) × ShowsAs n p plain r.known
+part-plain : (all n : Bool) (p : Program) (mode : Mode) (r : Found) → IsPartOf all n p mode r → (plain : Option Atoms) ×
+    IsPartOf all false p mode (record r { known = plain }) × ShowsAs n p plain r.known
 part-plain false n p Enum r h = (r.known, h, as-itself n p r.known)
 part-plain true n p Enum r h = (r.known, h, as-itself n p r.known)
 part-plain false n p Opt r h = (r.known, h, as-itself n p r.known)
@@ -75,7 +76,8 @@ the-texts : (a b : List (List ℕ)) → Some a ≡ Some b → a ≡ b
 the-texts a b same = cc
 
 -- consequences by name, as lines and as JSON
-lines-same : (brief : Bool) (p : Program) (mode : Mode) (end : End) (L : List Atoms) (best : Option (Atoms × List ℤ)) (told known : Option Atoms) → option_map (shown p) told ≡ option_map (shown p) known
+lines-same : (brief : Bool) (p : Program) (mode : Mode) (end : End) (L : List Atoms) (best : Option (Atoms × List ℤ)) (told known : Option Atoms) →
+    option_map (shown p) told ≡ option_map (shown p) known
     → text_in Text p (with_set mode end L best told) brief true ≡ text_in Text p (with_set mode end L best known) brief true
 lines-same brief p Enum end L best told known same = refl
 lines-same brief p Opt end L best told known same = refl
@@ -85,7 +87,8 @@ lines-same brief p (Consequences w) end L best (Some B) None same = absurd cc
 lines-same brief p (Consequences w) end L best (Some B) (Some C) same =
     ap (λ (ts : List (List ℕ)). cond brief [] (answers_from p 1 []) ++ named_line ts ++ closing_lines (with_set (Consequences w) end L best (Some B)) 1) (the-texts (shown p B) (shown p C) same)
 
-json-same : (names brief : Bool) (p : Program) (mode : Mode) (end : End) (L : List Atoms) (best : Option (Atoms × List ℤ)) (told known : Option Atoms) → option_map (shown p) told ≡ option_map (shown p) known
+json-same : (names brief : Bool) (p : Program) (mode : Mode) (end : End) (L : List Atoms) (best : Option (Atoms × List ℤ)) (told known : Option Atoms)
+    → option_map (shown p) told ≡ option_map (shown p) known
     → text_in Json p (with_set mode end L best told) brief names ≡ text_in Json p (with_set mode end L best known) brief names
 json-same names brief p Enum end L best told known same = refl
 json-same names brief p Opt end L best told known same = refl
@@ -95,7 +98,8 @@ json-same names brief p (Consequences w) end L best (Some B) None same = absurd 
 json-same names brief p (Consequences w) end L best (Some B) (Some C) same =
     ap (λ (ts : List (List ℕ)). json_with p (with_set (Consequences w) end L best (Some B)) ts brief) (the-texts (shown p B) (shown p C) same)
 
-pub text-same : (form : Form) (names brief : Bool) (p : Program) (mode : Mode) (end : End) (L : List Atoms) (best : Option (Atoms × List ℤ)) (told known : Option Atoms) (n : Bool) → (n ≡ true → (names || is_json form) ≡ true) → ShowsAs n p known told
+pub text-same : (form : Form) (names brief : Bool) (p : Program) (mode : Mode) (end : End) (L : List Atoms) (best : Option (Atoms × List ℤ))
+    (told known : Option Atoms) (n : Bool) → (n ≡ true → (names || is_json form) ≡ true) → ShowsAs n p known told
     → text_in form p (with_set mode end L best told) brief names ≡ text_in form p (with_set mode end L best known) brief names
 text-same form names brief p mode end L best told known false so same = ap (λ (k : Option Atoms). text_in form p (with_set mode end L best k) brief names) same
 text-same Text true brief p mode end L best told known true so same = lines-same brief p mode end L best told known same

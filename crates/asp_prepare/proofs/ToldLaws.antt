@@ -72,12 +72,14 @@ best-unfolded : (p : Program) (best : Option (Atoms × List ℤ)) → IsSound p 
 best-unfolded p None sound h = sym (same-unfolded p) ∙ h
 best-unfolded p (Some b) sound h = same-optimum p b.0 b.1 sound h
 
-found-unfolded : (p : Program) (mode : Mode) (L : List Atoms) (best : Option (Atoms × List ℤ)) (known : Option Atoms) → IsSound p → IsFound false (unfolded p) mode L best known → IsFound false p mode L best known
+found-unfolded : (p : Program) (mode : Mode) (L : List Atoms) (best : Option (Atoms × List ℤ)) (known : Option Atoms) → IsSound p →
+    IsFound false (unfolded p) mode L best known → IsFound false p mode L best known
 found-unfolded p Enum L best known sound h = (h.0 ∙ same-unfolded p, h.1)
 found-unfolded p Opt L best known sound h = (h.0, best-unfolded p best sound h.1)
 found-unfolded p (Consequences w) L best known sound h = (h.0, h.1, h.2 ∙ (same-consequences w p (answers (unfolded p)) ∙ ap (consequences_of w p) (same-unfolded p)))
 
-all_found-unfolded : (p : Program) (all : Bool) (mode : Mode) (L : List Atoms) (best : Option (Atoms × List ℤ)) (known : Option Atoms) → IsSound p → IsAllFound all false (unfolded p) mode L best known → IsAllFound all false p mode L best known
+all_found-unfolded : (p : Program) (all : Bool) (mode : Mode) (L : List Atoms) (best : Option (Atoms × List ℤ)) (known : Option Atoms) → IsSound p →
+    IsAllFound all false (unfolded p) mode L best known → IsAllFound all false p mode L best known
 all_found-unfolded p false mode L best known sound h = found-unfolded p mode L best known sound h
 all_found-unfolded p true Enum L best known sound h = found-unfolded p Enum L best known sound h
 all_found-unfolded p true (Consequences w) L best known sound h = found-unfolded p (Consequences w) L best known sound h
@@ -131,7 +133,8 @@ found-left : (p : Program) (mode : Mode) (r : Found) → IsSound p → IsFound f
 found-left p Enum r sound h = (ap (map (restored (aside_of p))) h.0 ∙ sym (same-answers p sound), ap (option_map (λ (b : Atoms × List ℤ). (restored (aside_of p) b.0, b.1))) h.1)
 found-left p Opt r sound h = (ap (map (restored (aside_of p))) h.0, best-left p r.best sound h.1)
 found-left p (Consequences w) r sound h =
-    (ap (map (restored (aside_of p))) h.0, ap (option_map (λ (b : Atoms × List ℤ). (restored (aside_of p) b.0, b.1))) h.1, ap (option_map (restored (aside_of p))) h.2 ∙ sym (all-consequences p w sound))
+    (ap (map (restored (aside_of p))) h.0, ap (option_map (λ (b : Atoms × List ℤ). (restored (aside_of p) b.0, b.1))) h.1,
+            ap (option_map (restored (aside_of p))) h.2 ∙ sym (all-consequences p w sound))
 
 all_found-left : (p : Program) (all : Bool) (mode : Mode) (r : Found) → IsSound p → IsAllFound all false (reduced p) mode r.answers r.best r.known →
     IsAllFound all false p mode (found_with (aside_of p) r).answers (found_with (aside_of p) r).best (found_with (aside_of p) r).known
@@ -275,14 +278,18 @@ best_text-with F (Consequences w) r k = refl
 closing-with : (F : Aside) (r : Found) (texts : List (List ℕ)) (k : ℕ) → closing_text (told F r) texts k ≡ closing_text (found_with F r) texts k
 closing-with F r texts k =
     ap (λ (xs : List ℕ). xs ++ result_text r k ++ models_text (told F r) k) (known_text-with F r.mode r texts)
-    ∙ ap (λ (xs : List ℕ). known_text r.mode (found_with F r) texts ++ result_text r k ++ (codes ",\"Models\":{\"Number\":" ++ decimal k ++ codes ",\"More\":\"" ++ more r.end ++ codes "\"" ++ xs ++ codes "}}\n")) (best_text-with F r.mode r k)
+    ∙ ap (λ (xs : List ℕ). known_text r.mode (found_with F r) texts ++ result_text r k
+            ++ (codes ",\"Models\":{\"Number\":" ++ decimal k ++ codes ",\"More\":\"" ++ more r.end ++ codes "\"" ++ xs ++ codes "}}\n"))
+        (best_text-with F r.mode r k)
 
 json-left : (p : Program) (r : Found) (brief : Bool) → json_text (rest p) (told (aside_of p) r) brief ≡ json_text p (found_with (aside_of p) r) brief
 json-left p r brief =
     let F = aside_of p in
     let texts = known_texts (rest p) (option_map (restored F) r.known) in
     ap (λ (xs : List ℕ). codes "{\"Solver\":\"aspenum\",\"Call\":[{" ++ cond brief [] xs ++ codes "}]" ++ closing_text (told F r) texts (found_count r.mode (told F r))) (recorded_text-left p r.mode r)
-    ∙ ap (λ (xs : List ℕ). call_text p (found_with F r) brief ++ xs) (closing-with F r texts (found_count r.mode (told F r)) ∙ ap (closing_text (found_with F r) texts) (count-with F r.mode r) ∙ ap (λ (ts : List (List ℕ)). closing_text (found_with F r) ts (found_count r.mode (found_with F r))) (texts-again p r.known))
+    ∙ ap (λ (xs : List ℕ). call_text p (found_with F r) brief ++ xs)
+        (closing-with F r texts (found_count r.mode (told F r)) ∙ ap (closing_text (found_with F r) texts) (count-with F r.mode r)
+            ∙ ap (λ (ts : List (List ℕ)). closing_text (found_with F r) ts (found_count r.mode (found_with F r))) (texts-again p r.known))
 
 text_in-left : (form : Form) (p : Program) (r : Found) (brief names : Bool) → text_in form (rest p) (told (aside_of p) r) brief names ≡ text_in form p (found_with (aside_of p) r) brief names
 text_in-left Text p r brief names = text-left p r brief names
@@ -336,19 +343,24 @@ pub told-text : (given : Options) (p : Program) (r : Report) (layout : Layout) �
     report_text (searched given p) (told_with (set_aside given p) r) layout ≡ report_text (asked given p) (report_with (set_aside given p) r) layout
 told-text given p r layout proof = by (asked given p) (is_settled given) refl
   where
-    by : (q : Program) (b : Bool) → is_settled given ≡ b → report_text (cond b (rest q) q) (told_with (cond b (aside_of q) none_aside) r) layout ≡ report_text q (report_with (cond b (aside_of q) none_aside) r) layout
+    by : (q : Program) (b : Bool) → is_settled given ≡ b →
+        report_text (cond b (rest q) q) (told_with (cond b (aside_of q) none_aside) r) layout ≡ report_text q
+        (report_with (cond b (aside_of q) none_aside) r) layout
     by q true e = text_without q r layout (no-proof r.results.end r.results r.proof (subst (λ wanted. HasProof wanted r) (unasked given e) proof))
     by q false e = ap (λ x. report_text q x layout) (same-told r ∙ sym (same-report r))
 
 -- the lines of a list don't tell what is known
 lines-told : (p : Program) (F : Aside) (r : Found) (mode : Mode) (brief names : Bool) → reasoning_of mode ≡ None
-    → cond brief [] (answers_from p 1 (recorded mode r)) ++ sums_line names p mode r ++ closing_lines r (found_count mode r) ≡ cond brief [] (answers_from p 1 (recorded mode (told F r))) ++ sums_line names p mode (told F r) ++ closing_lines r (found_count mode (told F r))
+    → cond brief [] (answers_from p 1 (recorded mode r)) ++ sums_line names p mode r
+        ++ closing_lines r (found_count mode r) ≡ cond brief [] (answers_from p 1 (recorded mode (told F r))) ++ sums_line names p mode (told F r)
+        ++ closing_lines r (found_count mode (told F r))
 lines-told p F r Enum brief names listed = refl
 lines-told p F r Opt brief names listed = refl
 lines-told p F r (Consequences w) brief names listed = absurd (let no : Some w ≡ None = listed in let f : ⊥ = cc in f)
 
 -- the lines of a list, as it was found
-pub listed-text : (given : Options) (p : Program) (r : Found) (brief names : Bool) → reasoning_of r.mode ≡ None → printed_text (searched given p) r brief names ≡ printed_text (asked given p) (found_with (set_aside given p) r) brief names
+pub listed-text : (given : Options) (p : Program) (r : Found) (brief names : Bool) → reasoning_of r.mode ≡ None →
+    printed_text (searched given p) r brief names ≡ printed_text (asked given p) (found_with (set_aside given p) r) brief names
 listed-text given p r brief names listed = by (asked given p) (is_settled given)
   where
     by : (q : Program) (b : Bool) → printed_text (cond b (rest q) q) r brief names ≡ printed_text q (found_with (cond b (aside_of q) none_aside) r) brief names
@@ -376,11 +388,13 @@ as-told : (given : Options) (p : Program) (n : Bool) (known told : Option Atoms)
     → ShowsAs n (asked given p) (option_map (restored (set_aside given p)) known) (option_map (restored (set_aside given p)) told)
 as-told given p n known told same = by (asked given p) (is_settled given) same
   where
-    by : (q : Program) (b : Bool) → ShowsAs n (cond b (rest q) q) known told → ShowsAs n q (option_map (restored (cond b (aside_of q) none_aside)) known) (option_map (restored (cond b (aside_of q) none_aside)) told)
+    by : (q : Program) (b : Bool) → ShowsAs n (cond b (rest q) q) known told →
+        ShowsAs n q (option_map (restored (cond b (aside_of q) none_aside)) known) (option_map (restored (cond b (aside_of q) none_aside)) told)
     by q true s = as-left n q known told s
     by q false s = subst (λ (k : Option Atoms). ShowsAs n q k (option_map (restored none_aside) told)) (sym (same-known known)) (subst (ShowsAs n q known) (sym (same-known told)) s)
 
-pub told-says : (given : Options) (p : Program) (ask : Ask) (r : Report) (end : End) → IsSound (asked given p) → SaysReport (searched given p) ask r end → SaysOf (asked given p) ask (report_with (set_aside given p) r) end
+pub told-says : (given : Options) (p : Program) (ask : Ask) (r : Report) (end : End) → IsSound (asked given p) →
+    SaysReport (searched given p) ask r end → SaysOf (asked given p) ask (report_with (set_aside given p) r) end
 told-says given p ask r end sound h =
     let s = plain-says (searched given p) ask r end h in
     record {

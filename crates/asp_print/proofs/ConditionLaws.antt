@@ -15,7 +15,8 @@ conditions-length atoms (o ∷ os) [] h = absurd h
 conditions-length atoms (o ∷ os) (c ∷ cs) h = let rest = conditions-length atoms os cs h.1 in omega (arith, rest)
 
 -- one output more
-pub conditions_more : (atoms : Atoms) (os : List Output) (i : ℕ) (o : Output) (cs : List Condition) (c : Condition) → i < length os → o ≡ get_or os i o → IsConditionOf atoms o.condition c → AreConditionsOf atoms (take i os) cs
+pub conditions_more : (atoms : Atoms) (os : List Output) (i : ℕ) (o : Output) (cs : List Condition) (c : Condition) → i < length os →
+    o ≡ get_or os i o → IsConditionOf atoms o.condition c → AreConditionsOf atoms (take i os) cs
     → AreConditionsOf atoms (take (i + 1) os) (cs ++ c ∷ [])
 conditions_more atoms os i o cs c lt is one all =
     subst (λ (t : List Output). AreConditionsOf atoms t (cs ++ c ∷ [])) (sym (take_more os i o lt ∙ ap (λ (x : Output). take i os ++ x ∷ []) (sym is))) (pushed (take i os) cs all)

@@ -46,10 +46,13 @@ between-add sep os from i le =
 pub run_more : (sep : ℕ) (S : Atoms) (os : List Output) (from i : ℕ) → from ≤ i → true ≡ shown_at S os i → pieces sep S true (drop from os) ≡ row_between sep os from i ++ pieces sep S true (drop i os)
     → pieces sep S true (drop from os) ≡ row_between sep os from (i + 1) ++ pieces sep S true (drop (i + 1) os)
 run_more sep S os from i le shown h =
-    h ∙ ap (λ (t : List ℕ). row_between sep os from i ++ t) (take_first sep S (drop i os) (sym shown) ∙ ap (λ (t : List Output). row sep (take 1 (drop i os)) ++ pieces sep S true t) (sym (drop_add i 1 os)))
+    h ∙ ap (λ (t : List ℕ). row_between sep os from i ++ t)
+    (take_first sep S (drop i os) (sym shown) ∙ ap (λ (t : List Output). row sep (take 1 (drop i os)) ++ pieces sep S true t)
+    (sym (drop_add i 1 os)))
     ∙ sym (append_assoc (row_between sep os from i) _ _) ∙ ap (λ (t : List ℕ). t ++ pieces sep S true (drop (i + 1) os)) (sym (between-add sep os from i le))
 
-pub run_begins : (sep : ℕ) (S : Atoms) (os : List Output) (from : ℕ) → shown_at S os from ≡ true → pieces sep S true (drop from os) ≡ row_between sep os from (from + 1) ++ pieces sep S true (drop (from + 1) os)
+pub run_begins : (sep : ℕ) (S : Atoms) (os : List Output) (from : ℕ) → shown_at S os from ≡ true →
+    pieces sep S true (drop from os) ≡ row_between sep os from (from + 1) ++ pieces sep S true (drop (from + 1) os)
 run_begins sep S os from shown =
     let none : from - from ≡ 0 = omega arith in
     run_more sep S os from from (omega arith) (sym shown) (ap (λ k. row sep (take k (drop from os)) ++ pieces sep S true (drop from os)) (sym none))
@@ -102,12 +105,14 @@ same_at (x ∷ xs) (suc i) d e lt = same_at xs i d e (omega arith)
 middle : (front part rest bytes : List ℕ) (k n : ℕ) → bytes ≡ front ++ (part ++ rest) → k ≡ length front → n ≡ length part → take n (drop k bytes) ≡ part
 middle front part rest bytes k n is at len = rw (is, at, len, drop-append_seam front (part ++ rest)) (take-append_seam part rest)
 
-less_middle : (any : Bool) (front part rest bytes : List ℕ) (a b blank : ℕ) → bytes ≡ front ++ (part ++ rest) → a ≡ length front → b ≡ length front + length part → 0 < length part → blank ≡ (if any then 0 else 1)
+less_middle : (any : Bool) (front part rest bytes : List ℕ) (a b blank : ℕ) → bytes ≡ front ++ (part ++ rest) → a ≡ length front →
+    b ≡ length front + length part → 0 < length part → blank ≡ (if any then 0 else 1)
     → take (b - (a + blank)) (drop (a + blank) bytes) ≡ less_between any part
 less_middle true front part rest bytes a b blank is low high some none = middle front part rest bytes (a + blank) (b - (a + blank)) is (omega (arith, low, none)) (omega (arith, low, high, none))
 less_middle false front [] rest bytes a b blank is low high some one = absurd (omega arith)
 less_middle false front (x ∷ part) rest bytes a b blank is low high some one =
-    middle (front ++ x ∷ []) part rest bytes (a + blank) (b - (a + blank)) (is ∙ sym (append_assoc front (x ∷ []) (part ++ rest))) (omega (arith, low, one, length-append front (x ∷ []))) (omega (arith, low, high, one))
+    middle (front ++ x ∷ []) part rest bytes (a + blank) (b - (a + blank)) (is ∙ sym (append_assoc front (x ∷ []) (part ++ rest)))
+    (omega (arith, low, one, length-append front (x ∷ []))) (omega (arith, low, high, one))
 
 -- where a run's texts stand
 pub record IsRun (sep : ℕ) (os : List Output) (from to a b : ℕ) : Type 0 where
@@ -128,16 +133,19 @@ pub run_part : (sep : ℕ) (any : Bool) (os : List Output) (from to a b blank : 
     → take (b - (a + blank)) (drop (a + blank) bytes) ≡ less_between any (row_between sep os from to)
 run_part sep any os from to a b blank bytes r is e =
     let le : from ≤ to = omega (arith, r.some) in
-    less_middle any (row sep (take from os)) (row_between sep os from to) (row sep (drop to os)) bytes a b blank (is ∙ row_parts sep os from to le) r.low (r.high ∙ length-take-to sep os from to le) (between_some sep os from to r.some r.within) e
+    less_middle any (row sep (take from os)) (row_between sep os from to) (row sep (drop to os)) bytes a b blank (is ∙ row_parts sep os from to le)
+    r.low (r.high ∙ length-take-to sep os from to le) (between_some sep os from to r.some r.within) e
 
 -- ---- one output more
 
-pub row_more : (sep : ℕ) (os : List Output) (i : ℕ) (o : Output) (bytes : List ℕ) → i < length os → o ≡ get_or os i o → bytes ≡ row sep (take i os) → (bytes ++ sep ∷ []) ++ o.text ≡ row sep (take (i + 1) os)
+pub row_more : (sep : ℕ) (os : List Output) (i : ℕ) (o : Output) (bytes : List ℕ) → i < length os → o ≡ get_or os i o → bytes ≡ row sep (take i os) →
+    (bytes ++ sep ∷ []) ++ o.text ≡ row sep (take (i + 1) os)
 row_more sep os i o bytes lt is e =
     rw e (append_assoc (row sep (take i os)) (sep ∷ []) o.text ∙ ap (λ (t : List ℕ). row sep (take i os) ++ (sep ∷ t)) (sym (append-nil o.text))
     ∙ sym (ap (row sep) (take_more os i o lt ∙ ap (λ (x : Output). take i os ++ x ∷ []) (sym is)) ∙ row-append sep (take i os) (o ∷ [])))
 
-pub starts_more : (sep : ℕ) (os : List Output) (i n : ℕ) (starts : List ℕ) → length starts ≡ i + 1 → ((k : ℕ) → k ≤ i → get_or starts k 0 ≡ length (row sep (take k os))) → n ≡ length (row sep (take (i + 1) os))
+pub starts_more : (sep : ℕ) (os : List Output) (i n : ℕ) (starts : List ℕ) → length starts ≡ i + 1 →
+    ((k : ℕ) → k ≤ i → get_or starts k 0 ≡ length (row sep (take k os))) → n ≡ length (row sep (take (i + 1) os))
     → (k : ℕ) → k ≤ i + 1 → get_or (starts ++ n ∷ []) k 0 ≡ length (row sep (take k os))
 starts_more sep os i n starts len before is k le = elim (cases_le k i le) as (λ _. get_or (starts ++ n ∷ []) k 0 ≡ length (row sep (take k os))) [
   | inl low ↦ get_or_append_left starts (n ∷ []) 0 k (omega (arith, low, len)) ∙ before k low

@@ -24,7 +24,8 @@ join-cons sep t [] = sym (append-nil t)
 join-cons sep t (u ∷ us) = refl
 
 -- one output more, whether its condition holds or not
-one_first : (sep : ℕ) (b : Bool) (o : Output) (rest : List Output) (later now : List ℕ) → later ≡ behind sep (map (λ (o : Output). o.text) rest) → now ≡ join_with_byte sep (map (λ (o : Output). o.text) rest)
+one_first : (sep : ℕ) (b : Bool) (o : Output) (rest : List Output) (later now : List ℕ) → later ≡ behind sep (map (λ (o : Output). o.text) rest) →
+    now ≡ join_with_byte sep (map (λ (o : Output). o.text) rest)
     → (if b then o.text else []) ++ cond b later now ≡ join_with_byte sep (map (λ (o : Output). o.text) (cond b (o ∷ rest) rest))
 one_first sep true o rest later now e f = ap (λ (t : List ℕ). o.text ++ t) e ∙ sym (join-cons sep o.text _)
 one_first sep false o rest later now e f = f

@@ -20,14 +20,17 @@ use Rattle.asp_propagate.proofs.PropagateLaws.{followed_added}
 abbrev pub view_of : Told → Option (List ℤ) → Stored → Trailed → Propagating
 view_of t b s r = record { program = t.program; entries = r.entries; slots = s.slots; bound = b }
 
-pub vars_are : (why : Program → List Entry → Literal → ℕ → Type 0) (t : Told) (b : Option (List ℤ)) (s : Stored) (r : Trailed) (n : ℕ) (f : Propagating) → view_of t b s r ≡ f → IsFollowed why t s r n → r.vars ≡ var_count f.program
+pub vars_are : (why : Program → List Entry → Literal → ℕ → Type 0) (t : Told) (b : Option (List ℤ)) (s : Stored) (r : Trailed) (n : ℕ)
+    (f : Propagating) → view_of t b s r ≡ f → IsFollowed why t s r n → r.vars ≡ var_count f.program
 vars_are why t b s r n f q w = w.told.vars ∙ ap (λ (x : Propagating). var_count x.program) q
 
-pub var_inside : (why : Program → List Entry → Literal → ℕ → Type 0) (t : Told) (b : Option (List ℤ)) (s : Stored) (r : Trailed) (n : ℕ) (f : Propagating) (v : ℕ) → view_of t b s r ≡ f → IsFollowed why t s r n →
+pub var_inside : (why : Program → List Entry → Literal → ℕ → Type 0) (t : Told) (b : Option (List ℤ)) (s : Stored) (r : Trailed) (n : ℕ)
+    (f : Propagating) (v : ℕ) → view_of t b s r ≡ f → IsFollowed why t s r n →
     IsVar (var_count f.program) v → IsVar r.vars v
 var_inside why t b s r n f v q w h = subst (λ (m : ℕ). IsVar m v) (sym (vars_are why t b s r n f q w)) h
 
-pub none_inside : (why : Program → List Entry → Literal → ℕ → Type 0) (t : Told) (b : Option (List ℤ)) (s : Stored) (r : Trailed) (n : ℕ) (f : Propagating) (v : ℕ) → view_of t b s r ≡ f → IsFollowed why t s r n →
+pub none_inside : (why : Program → List Entry → Literal → ℕ → Type 0) (t : Told) (b : Option (List ℤ)) (s : Stored) (r : Trailed) (n : ℕ)
+    (f : Propagating) (v : ℕ) → view_of t b s r ≡ f → IsFollowed why t s r n →
     value_of (values_of f) v ≡ None → value_of (assignment r.vars r.entries) v ≡ None
 none_inside why t b s r n f v q w h =
     ap (λ (m : ℕ). value_of (assignment m r.entries) v) w.told.vars ∙ (ap (λ (x : Propagating). value_of (values_of x) v) q ∙ h)
@@ -45,7 +48,8 @@ pub on_err : {A E : Type 0} (r : Result A E) (P Q : Type 0) → (P → Q) → On
 on_err (Ok x) P Q f h = tt
 on_err (Err e) P Q f h = f h
 
-pub kept_either : (why : Program → List Entry → Literal → ℕ → Type 0) {E : Type 0} (r : Result ℕ E) (t : Told) (s z : Stored) (q : Trailed) (n : ℕ) (m : Nogood) (kind : Kind) → IfOk r (λ id. IsAdded s z id m kind) →
+pub kept_either : (why : Program → List Entry → Literal → ℕ → Type 0) {E : Type 0} (r : Result ℕ E) (t : Told) (s z : Stored) (q : Trailed) (n : ℕ)
+    (m : Nogood) (kind : Kind) → IfOk r (λ id. IsAdded s z id m kind) →
     OnErr r (z ≡ s) → IsFollowed why t s q n → IsFollowed why t z q n
 kept_either why (Ok id) t s z q n m kind a b f = followed_added why t s z q n id m kind a f
 kept_either why (Err e) t s z q n m kind a b f = subst (λ (y : Stored). IsFollowed why t y q n) (sym b) f

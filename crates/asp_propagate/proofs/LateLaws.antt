@@ -111,7 +111,8 @@ late_more es fs n m le low f i d name w q = cases (ltb i (length es)) refl
         absurd (omega (arith, low (i - length es) d (omega (arith, w, ge, length-append es fs)) (2 ^ 31 + name) (sym (ap (λ (g : Entry). g.reason) is) ∙ q)))
 
 -- all that were told and stay are told still
-pub late_cut : (l : ℕ) (es : List Entry) (n m : ℕ) → AllPairs (λ e f. e.level ≤ f.level) es → ((i : ℕ) (d : Entry) → m ≤ i → i < n → l < (get_or es i d).level) → AreLateBy es n → AreLateBy (cut l es) m
+pub late_cut : (l : ℕ) (es : List Entry) (n m : ℕ) → AllPairs (λ e f. e.level ≤ f.level) es →
+    ((i : ℕ) (d : Entry) → m ≤ i → i < n → l < (get_or es i d).level) → AreLateBy es n → AreLateBy (cut l es) m
 late_cut l es n m rising above f = by (front l es rising)
   where
     by : (k : ℕ) × IsFront l k es → AreLateBy (cut l es) m
@@ -128,7 +129,8 @@ late_cut l es n m rising above f = by (front l es rising)
         within i d low le false s = grind (arith, nat_tests)
 
 -- so all entries before it were told
-pub late_all_told : (t : Told) (r : Trailed) (n p name : ℕ) (d : Entry) → IsOrdered r.vars r.entries → WasTold t r n → AreLateBy r.entries n → p < length r.entries → (get_or r.entries p d).reason ≡ Some (2 ^ 31 + name) → AreTold t.values p r.entries
+pub late_all_told : (t : Told) (r : Trailed) (n p name : ℕ) (d : Entry) → IsOrdered r.vars r.entries → WasTold t r n → AreLateBy r.entries n →
+    p < length r.entries → (get_or r.entries p d).reason ≡ Some (2 ^ 31 + name) → AreTold t.values p r.entries
 late_all_told t r n p name d o w late h q i e lt within =
     let le : p ≤ n = late p d name h q in
     let inside : i < length (take n r.entries) = omega (arith, length-take n r.entries, lt, le, within) in
@@ -230,7 +232,8 @@ late_explained vars why es l id p o x h var d =
     (subst (λ (k : ℕ). why (take k es) (get_or es k d).lit x.name) at (subst (λ (k : Literal). why (take x.place es) k x.name) (sym (x.lit d)) x.explained))
 
 -- all entries before it were told
-pub late_told_at : (t : Told) (r : Trailed) (n : ℕ) (why : List Entry → Literal → ℕ → Type 0) (l : Literal) (id p : ℕ) → IsOrdered r.vars r.entries → WasTold t r n → AreLateBy r.entries n → IsLate why r.entries l id → p < length r.entries →
+pub late_told_at : (t : Told) (r : Trailed) (n : ℕ) (why : List Entry → Literal → ℕ → Type 0) (l : Literal) (id p : ℕ) → IsOrdered r.vars r.entries →
+    WasTold t r n → AreLateBy r.entries n → IsLate why r.entries l id → p < length r.entries →
     ((d : Entry) → (get_or r.entries p d).lit.var ≡ l.var) → AreTold t.values p r.entries
 late_told_at t r n why l id p o w late x h var =
     let d : Entry = record { lit = l; level = 0; reason = None } in

@@ -33,7 +33,8 @@ use Rattle.asp_propagate.proofs.AddLaws.{unlocked_added, adds_none, implies_from
 none_some : {A : Type 0} (x : A) → None ≡ Some x → ⊥
 none_some x q = cc
 
-pub followed_open : (why : Program → List Entry → Literal → ℕ → Type 0) (t : Told) (s : Stored) (r : Trailed) (n : ℕ) (e : Entry) → r.seen ≤ length r.entries → e.reason ≡ None → IsFollowed why t s r n →
+pub followed_open : (why : Program → List Entry → Literal → ℕ → Type 0) (t : Told) (s : Stored) (r : Trailed) (n : ℕ) (e : Entry) →
+    r.seen ≤ length r.entries → e.reason ≡ None → IsFollowed why t s r n →
     IsFollowed why t s (record r { entries = r.entries ++ e ∷ [] }) n
 followed_open why t s r n e le none f = record {
   told = told_extends t r (record r { entries = r.entries ++ e ∷ [] }) n (e ∷ []) refl refl f.told;
@@ -45,7 +46,8 @@ followed_open why t s r n e le none f = record {
 }
 
 -- one that follows as the propagator explains
-pub followed_late : (why : Program → List Entry → Literal → ℕ → Type 0) (t : Told) (s : Stored) (r : Trailed) (n : ℕ) (e : Entry) (name : ℕ) → r.seen ≤ length r.entries → e.reason ≡ Some (2 ^ 31 + name) →
+pub followed_late : (why : Program → List Entry → Literal → ℕ → Type 0) (t : Told) (s : Stored) (r : Trailed) (n : ℕ) (e : Entry) (name : ℕ) →
+    r.seen ≤ length r.entries → e.reason ≡ Some (2 ^ 31 + name) →
     name < 2 ^ 31 → length r.entries ≤ n → why t.program r.entries e.lit name → IsFollowed why t s r n → IsFollowed why t s (record r { entries = r.entries ++ e ∷ [] }) n
 followed_late why t s r n e name le some small all x f = record {
   told = told_extends t r (record r { entries = r.entries ++ e ∷ [] }) n (e ∷ []) refl refl f.told;
@@ -58,7 +60,8 @@ followed_late why t s r n e name le some small all x f = record {
   late_told = late_push r.entries e n (λ k q. all) f.late_told;
 }
 
-pub followed_imply : (why : Program → List Entry → Literal → ℕ → Type 0) (t : Told) (s : Stored) (r : Trailed) (n : ℕ) (e : Entry) (id : ℕ) (m : Nogood) → length s.slots ≤ 2 ^ 31 → r.seen ≤ length r.entries → e.reason ≡ Some id →
+pub followed_imply : (why : Program → List Entry → Literal → ℕ → Type 0) (t : Told) (s : Stored) (r : Trailed) (n : ℕ) (e : Entry) (id : ℕ)
+    (m : Nogood) → length s.slots ≤ 2 ^ 31 → r.seen ≤ length r.entries → e.reason ≡ Some id →
     nogood_at s.slots id ≡ Some m → IsReason (r.entries ++ e ∷ []) (length r.entries) e.lit m.lits → IsFollowed why t s r n →
     IsFollowed why t s (record r { entries = r.entries ++ e ∷ [] }) n
 followed_imply why t s r n e id m few le some g q f = record {
@@ -72,7 +75,8 @@ followed_imply why t s r n e id m few le some g q f = record {
       absurd (omega (arith, few, kept_within s.slots id m g, same_Some id (2 ^ 31 + name) (sym some ∙ k)))) f.late_told;
 }
 
-pub followed_added : (why : Program → List Entry → Literal → ℕ → Type 0) (t : Told) (s z : Stored) (r : Trailed) (n id : ℕ) (m : Nogood) (kind : Kind) → IsAdded s z id m kind → IsFollowed why t s r n → IsFollowed why t z r n
+pub followed_added : (why : Program → List Entry → Literal → ℕ → Type 0) (t : Told) (s z : Stored) (r : Trailed) (n id : ℕ) (m : Nogood) (kind : Kind)
+    → IsAdded s z id m kind → IsFollowed why t s r n → IsFollowed why t z r n
 followed_added why t s z r n id m kind a f = record {
   told = f.told;
   room = f.room;
@@ -83,7 +87,8 @@ followed_added why t s z r n id m kind a f = record {
 }
 
 pub followed_cut : (why : Program → List Entry → Literal → ℕ → Type 0) (t u : Told) (s : Stored) (r : Trailed) (n m l : ℕ) → AllPairs (λ e f. e.level ≤ f.level) r.entries →
-    ((d : Entry) → 0 < m → (get_or r.entries (m - 1) d).level ≤ l) → ((i : ℕ) (d : Entry) → m ≤ i → i < n → l < (get_or r.entries i d).level) → u.program ≡ t.program → WasTold u r m → IsFollowed why t s r n →
+    ((d : Entry) → 0 < m → (get_or r.entries (m - 1) d).level ≤ l) → ((i : ℕ) (d : Entry) → m ≤ i → i < n → l < (get_or r.entries i d).level) →
+    u.program ≡ t.program → WasTold u r m → IsFollowed why t s r n →
     IsFollowed why u s (record r { entries = cut l r.entries; seen = min r.seen (length (cut l r.entries)) }) m
 followed_cut why t u s r n m l rising low above p w f =
     let after : Trailed = record r { entries = cut l r.entries; seen = min r.seen (length (cut l r.entries)) } in
@@ -115,7 +120,8 @@ unlocked_removed (o ∷ slots) zero u (suc id) k g = u (suc id) k g
 unlocked_removed (o ∷ slots) (suc j) u zero k g = u 0 k g
 unlocked_removed (o ∷ slots) (suc j) u (suc id) k g = unlocked_removed slots j (λ i l h. u (suc i) l h) id k g
 
-pub followed_removed : (why : Program → List Entry → Literal → ℕ → Type 0) (t : Told) (s : Stored) (r : Trailed) (n id : ℕ) → id < length s.slots → IsUnnamed r.entries id → IsFollowed why t s r n → IsFollowed why t (removed s id) r n
+pub followed_removed : (why : Program → List Entry → Literal → ℕ → Type 0) (t : Told) (s : Stored) (r : Trailed) (n id : ℕ) → id < length s.slots →
+    IsUnnamed r.entries id → IsFollowed why t s r n → IsFollowed why t (removed s id) r n
 followed_removed why t s r n id h unnamed f = record {
   told = f.told;
   room = f.room;
@@ -129,7 +135,8 @@ followed_removed why t s r n id h unnamed f = record {
 unlocked_reduced : (es : List Entry) (old new : List (Option StoredNogood)) → IsReduced es old new → AreUnlocked old → AreUnlocked new
 unlocked_reduced es old new red u id k g = elim (red.each id) [ inl e ↦ u id k (sym e ∙ g) | inr e ↦ absurd (none_some k (sym e ∙ g)) ]
 
-pub followed_reduced : (why : Program → List Entry → Literal → ℕ → Type 0) (t : Told) (s z : Stored) (r : Trailed) (n : ℕ) → IsReduced r.entries s.slots z.slots → Loses s z → IsFollowed why t s r n → IsFollowed why t z r n
+pub followed_reduced : (why : Program → List Entry → Literal → ℕ → Type 0) (t : Told) (s z : Stored) (r : Trailed) (n : ℕ) →
+    IsReduced r.entries s.slots z.slots → Loses s z → IsFollowed why t s r n → IsFollowed why t z r n
 followed_reduced why t s z r n red l f = record {
   told = f.told;
   room = f.room;
@@ -151,7 +158,8 @@ grows slots vars es fs id n g wanted fixpoint x = by x.0 x.1
     by (e ∷ gs) q = omega (arith, ap (length {A = Entry}) q, length-append es (e ∷ gs))
 
 -- ---- what the store does
-pub followed_settled : (why : Program → List Entry → Literal → ℕ → Type 0) (t u : Told) (s z : Stored) (r q : Trailed) (n m : ℕ) → z.slots ≡ s.slots → q ≡ record r { entries = q.entries; seen = q.seen } → Fits z q → WasTold u q m →
+pub followed_settled : (why : Program → List Entry → Literal → ℕ → Type 0) (t u : Told) (s z : Stored) (r q : Trailed) (n m : ℕ) → z.slots ≡ s.slots →
+    q ≡ record r { entries = q.entries; seen = q.seen } → Fits z q → WasTold u q m →
     u.program ≡ t.program → length s.slots ≤ 2 ^ 31 → n ≤ m → Extends s.slots r.entries q.entries → IsFollowed why t s r n → IsFollowed why u z q m
 followed_settled why t u s z r q n m slots same fits w p few more x f = record {
   told = w;
@@ -190,7 +198,8 @@ violated_settled vars now old new es id v q h =
 
 -- ---- another bound
 -- told of more
-pub followed_told : (why : Program → List Entry → Literal → ℕ → Type 0) (t u : Told) (s : Stored) (r : Trailed) (n m : ℕ) → u.program ≡ t.program → WasTold u r m → n ≤ m → IsFollowed why t s r n → IsFollowed why u s r m
+pub followed_told : (why : Program → List Entry → Literal → ℕ → Type 0) (t u : Told) (s : Stored) (r : Trailed) (n m : ℕ) → u.program ≡ t.program →
+    WasTold u r m → n ≤ m → IsFollowed why t s r n → IsFollowed why u s r m
 followed_told why t u s r n m p w le f = record {
   told = w;
   room = f.room;
@@ -200,11 +209,13 @@ followed_told why t u s r n m p w le f = record {
   late_told = λ i d name h q. omega (arith, le, f.late_told i d name h q);
 }
 
-pub followed_bound : (explains : Program → Option (List ℤ) → List Entry → Literal → ℕ → Type 0) (b c : Option (List ℤ)) (t : Told) (s : Stored) (r : Trailed) (n : ℕ) → c ≡ b → IsFollowed (λ p. explains p b) t s r n → IsFollowed (λ p. explains p c) t s r n
+pub followed_bound : (explains : Program → Option (List ℤ) → List Entry → Literal → ℕ → Type 0) (b c : Option (List ℤ)) (t : Told) (s : Stored)
+    (r : Trailed) (n : ℕ) → c ≡ b → IsFollowed (λ p. explains p b) t s r n → IsFollowed (λ p. explains p c) t s r n
 followed_bound explains b c t s r n e f = subst (λ (x : Option (List ℤ)). IsFollowed (λ p. explains p x) t s r n) (sym e) f
 
 pub followed_lower : (explains : Program → Option (List ℤ) → List Entry → Literal → ℕ → Type 0) (b : Option (List ℤ)) (c : List ℤ) (t : Told) (s : Stored) (r : Trailed) (n : ℕ) →
-    ((es : List Entry) (l : Literal) (name : ℕ) → explains t.program b es l name → explains t.program (Some c) es l name) → IsFollowed (λ p. explains p b) t s r n → IsFollowed (λ p. explains p (Some c)) t s r n
+    ((es : List Entry) (l : Literal) (name : ℕ) → explains t.program b es l name → explains t.program (Some c) es l name) →
+    IsFollowed (λ p. explains p b) t s r n → IsFollowed (λ p. explains p (Some c)) t s r n
 followed_lower explains b c t s r n stands f = record {
   told = f.told;
   room = f.room;
@@ -218,7 +229,8 @@ followed_lower explains b c t s r n stands f = record {
 pub asked_same : (why : Program → List Entry → Literal → ℕ → Type 0) (t u : Told) (s z : Stored) (r : Trailed) (n : ℕ) → u ≡ t → z ≡ s → IsFollowed why t s r n → IsFollowed why u z r n
 asked_same why t u s z r n p q f = subst (λ (x : Told). IsFollowed why x z r n) (sym p) (subst (λ (x : Stored). IsFollowed why t x r n) (sym q) f)
 
-pub asked_more : (why : Program → List Entry → Literal → ℕ → Type 0) (t u : Told) (s z : Stored) (r : Trailed) (n id : ℕ) (m : Nogood) (kind : Kind) → u ≡ t → IsAdded s z id m kind → IsFollowed why t s r n → IsFollowed why u z r n
+pub asked_more : (why : Program → List Entry → Literal → ℕ → Type 0) (t u : Told) (s z : Stored) (r : Trailed) (n id : ℕ) (m : Nogood) (kind : Kind) →
+    u ≡ t → IsAdded s z id m kind → IsFollowed why t s r n → IsFollowed why u z r n
 asked_more why t u s z r n id m kind p a f = subst (λ (x : Told). IsFollowed why x z r n) (sym p) (followed_added why t s z r n id m kind a f)
 
 -- an entry came that the propagator explains

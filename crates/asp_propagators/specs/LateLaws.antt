@@ -28,7 +28,8 @@ follows-lower p b c es l name s (inl w) = inl w
 follows-lower p None c es l name s (inr x) = inr (explained_lower p None c es l tt x.0, x.1)
 follows-lower p (Some d) c es l name s (inr x) = inr (explained_lower p (Some d) c es l s x.0, x.1)
 
-pub follows-reasoned : (p : Program) (b : Option (List ℤ)) (es : List Entry) (l : Literal) (name : ℕ) → IsSound p → IsOrdered (var_count p) es → explains p b es l name → (n : Nogood) × late p b n × IsReason es (length es) l n.lits
+pub follows-reasoned : (p : Program) (b : Option (List ℤ)) (es : List Entry) (l : Literal) (name : ℕ) → IsSound p → IsOrdered (var_count p) es →
+    explains p b es l name → (n : Nogood) × late p b n × IsReason es (length es) l n.lits
 follows-reasoned p b es l name sound o (inl w) = let r = weights_reasoned p es l name sound o w.0 in (r.0, inl r.1, r.2)
 follows-reasoned p b es l name sound o (inr x) = let r = bound_reasoned p b es l o x.0 in (r.0, inr r.1, r.2)
 

@@ -61,13 +61,15 @@ literal_value : (p : Program) (v : List Bool) (l : ℤ) → has (atoms_of p) (at
 literal_value p v (pos a) stands = beq_true (get_or v (var_of_atom p a) false) ∙ atom_value p v a stands
 literal_value p v (negsuc a) stands = beq_false (get_or v (var_of_atom p (suc a)) false) ∙ ap not (atom_value p v (suc a) stands)
 
-known : (p : Program) (a : List (Option Bool)) (v : List Bool) (l : ℤ) → AreValues p a v → has (atoms_of p) (atom_of l) ≡ true → value_of a (literal_of p l).var ≡ Some (get_or v (literal_of p l).var false)
+known : (p : Program) (a : List (Option Bool)) (v : List Bool) (l : ℤ) → AreValues p a v → has (atoms_of p) (atom_of l) ≡ true →
+    value_of a (literal_of p l).var ≡ Some (get_or v (literal_of p l).var false)
 known p a v l values stands = values (literal_of p l).var (var-within (atoms_of p) l (var_count p) stands (le-add_right (length (atoms_of p)) (length (apart_bodies p))))
 
 holds-value : (p : Program) (a : List (Option Bool)) (v : List Bool) (l : ℤ) → AreValues p a v → has (atoms_of p) (atom_of l) ≡ true → holds_in a (literal_of p l) ≡ holds (true_atoms p v) l
 holds-value p a v l values stands = ap (λ o. agrees o (literal_of p l)) (known p a v l values stands) ∙ literal_value p v l stands
 
-not_false-value : (p : Program) (a : List (Option Bool)) (v : List Bool) (l : ℤ) → AreValues p a v → has (atoms_of p) (atom_of l) ≡ true → not (holds_in a (complement (literal_of p l))) ≡ holds (true_atoms p v) l
+not_false-value : (p : Program) (a : List (Option Bool)) (v : List Bool) (l : ℤ) → AreValues p a v → has (atoms_of p) (atom_of l) ≡ true →
+    not (holds_in a (complement (literal_of p l))) ≡ holds (true_atoms p v) l
 not_false-value p a v l values stands =
     ap (λ o. not (agrees o (complement (literal_of p l)))) (known p a v l values stands)
     ∙ (ap not (is_true-complement v (literal_of p l)) ∙ (not_not (is_true v (literal_of p l)) ∙ literal_value p v l stands))

@@ -47,7 +47,8 @@ one_known S T recent count a k e new lt = rw e (record {
 pub named : (a : ℕ) → atom_at_place (a / 1048576 + 1) (a % 1048576) ≡ a
 named a = omega arith
 
-pub recently_known : (S : Atoms) (recent : List ℕ) (count place mark a : ℕ) → IsKnown S recent count → has S a ≡ true → place < length recent → atom_at_place mark place ≡ a → IsKnown S (set recent place mark) count
+pub recently_known : (S : Atoms) (recent : List ℕ) (count place mark a : ℕ) → IsKnown S recent count → has S a ≡ true → place < length recent →
+    atom_at_place mark place ≡ a → IsKnown S (set recent place mark) count
 recently_known S recent count place mark a k stands within named = record {
   ascending = k.ascending;
   stood = λ i inside some. elim (cases_eq i place) as (λ _. has S (atom_at_place (get_or (set recent place mark) i 0) i) ≡ true) [
@@ -66,7 +67,8 @@ same_at [] i d e lt = absurd (omega arith)
 same_at (x ∷ xs) zero d e lt = refl
 same_at (x ∷ xs) (suc i) d e lt = same_at xs i d e (omega arith)
 
-pub recent_stands : (S : Atoms) (recent : List ℕ) (count place mark a x : ℕ) → IsKnown S recent count → place < length recent → x ≡ get_or recent place x → x ≡ mark → 0 < mark → atom_at_place mark place ≡ a → has S a ≡ true
+pub recent_stands : (S : Atoms) (recent : List ℕ) (count place mark a x : ℕ) → IsKnown S recent count → place < length recent →
+    x ≡ get_or recent place x → x ≡ mark → 0 < mark → atom_at_place mark place ≡ a → has S a ≡ true
 recent_stands S recent count place mark a x k within at is some named =
     let here : get_or recent place 0 ≡ mark = same_at recent place 0 x within ∙ sym at ∙ is in
     rw (here, named) at (k.stood place within (omega (arith, here, some)))

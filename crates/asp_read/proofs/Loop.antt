@@ -24,7 +24,9 @@ module _ {A : Type 0} (atom : A → ℕ) (one : Atoms → List ℕ → Reads A) 
   unfolding many_at
   goes_on front count i known line a after total lt h so_far =
       let k : count - i ≡ suc (count - (i + 1)) = omega arith in
-      let step : with_front front (many_at atom one (count - i) known line) ≡ with_front (front ++ a ∷ []) (many_at atom one (count - (i + 1)) (with_atom (atom a) known) after) = rw (k, h) (regroup front a (many_at atom one (count - (i + 1)) (with_atom (atom a) known) after)) in
+      let step : with_front front (many_at atom one (count - i) known line) ≡ with_front (front ++ a ∷ [])
+      (many_at atom one (count - (i + 1)) (with_atom (atom a) known) after) =
+      rw (k, h) (regroup front a (many_at atom one (count - (i + 1)) (with_atom (atom a) known) after)) in
       sym step ∙ so_far
 
   pub ends : (e : LineError) (front : List A) (count i : ℕ) (known : Atoms) (line : List ℕ) (total : Reads (List A)) → i < count → Fails e (one known line)
@@ -36,7 +38,8 @@ module _ {A : Type 0} (atom : A → ℕ) (one : Atoms → List ℕ → Reads A) 
       let step : with_front front (many_at atom one (count - i) known line) ≡ Err b = rw (k, h) refl in
       sym so_far ∙ step
 
-  pub is_done : (front : List A) (count i : ℕ) (known : Atoms) (line : List ℕ) (total : Reads (List A)) → count ≤ i → with_front front (many_at atom one (count - i) known line) ≡ total → total ≡ Ok (front, line)
+  pub is_done : (front : List A) (count i : ℕ) (known : Atoms) (line : List ℕ) (total : Reads (List A)) → count ≤ i →
+      with_front front (many_at atom one (count - i) known line) ≡ total → total ≡ Ok (front, line)
   unfolding many_at
   is_done front count i known line total le so_far =
       let k : count - i ≡ 0 = omega arith in
@@ -44,12 +47,14 @@ module _ {A : Type 0} (atom : A → ℕ) (one : Atoms → List ℕ → Reads A) 
       sym so_far ∙ step
 
   -- the atoms of one more
-  pub known_more : (S now next : Atoms) (items more : List A) (a : A) → now ≡ with_atoms S (map atom items) → next ≡ with_atom (atom a) now → more ≡ items ++ a ∷ [] → next ≡ with_atoms S (map atom more)
+  pub known_more : (S now next : Atoms) (items more : List A) (a : A) → now ≡ with_atoms S (map atom items) → next ≡ with_atom (atom a) now →
+      more ≡ items ++ a ∷ [] → next ≡ with_atoms S (map atom more)
   known_more S now next items more a so_far e more-is = rw (e, so_far, more-is, map_push) (sym (fold_push (λ T b. with_atom b T) S (map atom items) (atom a)))
 
 -- ---- passing literals
 
-pub passes_on : (count i : ℕ) (line : List ℕ) (literal : ℤ) (after : List ℕ) (total : Result (List ℕ) FaultAt) → i < count → any_literal_at line ≡ Ok (literal, after) → passed_at (count - i) line ≡ total
+pub passes_on : (count i : ℕ) (line : List ℕ) (literal : ℤ) (after : List ℕ) (total : Result (List ℕ) FaultAt) → i < count →
+    any_literal_at line ≡ Ok (literal, after) → passed_at (count - i) line ≡ total
     → passed_at (count - (i + 1)) after ≡ total
 unfolding passed_at
 passes_on count i line literal after total lt h so_far =

@@ -19,7 +19,9 @@ filled pieces = length (filter is_some_field pieces)
 
 -- a piece more is a field more or none
 one_more : (p : List ℕ) (ps : List (List ℕ)) → (filled ps ≤ filled (p ∷ ps)) × (filled (p ∷ ps) ≤ suc (filled ps))
-one_more p ps = elim (is_some_field p) as (λ v. (filled ps ≤ length (cond v (p ∷ filter is_some_field ps) (filter is_some_field ps))) × (length (cond v (p ∷ filter is_some_field ps) (filter is_some_field ps)) ≤ suc (filled ps))) [ true ↦ (omega arith, omega arith) | false ↦ (omega arith, omega arith) ]
+one_more p ps = elim (is_some_field p) as (λ v. (filled ps ≤ length (cond v (p ∷ filter is_some_field ps) (filter is_some_field ps))) ×
+    (length (cond v (p ∷ filter is_some_field ps) (filter is_some_field ps)) ≤ suc (filled ps)))
+    [ true ↦ (omega arith, omega arith) | false ↦ (omega arith, omega arith) ]
 
 longer : (b : ℕ) (ps : List (List ℕ)) → filled (onto b ps) ≤ suc (filled ps)
 longer b [] = (one_more (b ∷ []) []).1

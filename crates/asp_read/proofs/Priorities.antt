@@ -14,7 +14,8 @@ different_push : (seen zs : List ℤ) (z : ℤ) → different seen (zs ++ z ∷ 
 different_push seen [] z = refl
 different_push seen (y ∷ zs) z = different_push (with_number seen y) zs z
 
-pub kept_minimize : (p q : Program) (m : Minimize) (used : ℕ) (seen : List ℤ) (ms : List Minimize) (size : ℕ) (now : List ℤ) → IsKept p used seen → p ≡ q → program_size q + length m.items ≤ most_counted
+pub kept_minimize : (p q : Program) (m : Minimize) (used : ℕ) (seen : List ℤ) (ms : List Minimize) (size : ℕ) (now : List ℤ) → IsKept p used seen →
+    p ≡ q → program_size q + length m.items ≤ most_counted
     → ms ≡ p.minimize ++ m ∷ [] → size ≡ length m.items → now ≡ with_number seen m.priority → IsKept (record p { minimize = ms }) (used + size) now
 kept_minimize p q m used seen ms size now kept same bound ms-is size-is now-is = rw (ms-is, size-is, now-is) (record {
   size = omega (arith, kept.size, sum_by-append (λ (x : Minimize). length x.items) p.minimize (m ∷ []));

@@ -86,7 +86,8 @@ with-query-sound p query n h k fits = record {
 }
 
 later : (p : Program) (n : ℕ) (queries : List (List ℤ)) → AllByRecursion (λ query. AreSound (with_query p query) n) queries → AllByRecursion (λ query. AreSound (with_query p query) (suc n)) queries
-later p n queries h = all_weaker (λ query. AreSound (with_query p query) n) (λ query. AreSound (with_query p query) (suc n)) queries (λ query k. more_lines (with_query p query) (with_query p query) n refl k) h
+later p n queries h = all_weaker (λ query. AreSound (with_query p query) n) (λ query. AreSound (with_query p query) (suc n)) queries
+    (λ query k. more_lines (with_query p query) (with_query p query) n refl k) h
 
 -- a line that says nothing more of program and queries
 still : (a : Asked) (n : ℕ) → AreAsked a n → AreAsked a (suc n)
@@ -101,7 +102,8 @@ taken a (say.Assume literals) n h e k =
     let sound = with-query-sound a.seen.program literals n h.program k.0.sound (omega (arith, k.0.fits)) in
     record {
       program = more_lines a.seen.program a.seen.program n refl h.program;
-      queries = all_more (λ query. AreSound (with_query a.seen.program query) (suc n)) a.queries literals (later a.seen.program n a.queries h.queries) (more_lines (with_query a.seen.program literals) (with_query a.seen.program literals) n refl sound);
+      queries = all_more (λ query. AreSound (with_query a.seen.program query) (suc n)) a.queries literals (later a.seen.program n a.queries h.queries)
+          (more_lines (with_query a.seen.program literals) (with_query a.seen.program literals) n refl sound);
       few = omega (arith, k.1, length-append a.queries (literals ∷ []));
       before = λ f. let both : true ≡ false = sym e ∙ f in absurd cc;
     }
@@ -149,7 +151,8 @@ end_is number a s e = (elim a.ended as (λ v. (if v then read (series_of a) else
 sound_as : (a : Asked) (n : ℕ) → n ≤ most_bytes → AreAsked a n → IsSoundSeries (series_of a)
 sound_as a n few h = record {
   program = sound_from a.seen.program n few h.program;
-  queries = all_weaker (λ query. AreSound (with_query a.seen.program query) n) (λ query. IsSound (with_query a.seen.program query)) a.queries (λ query k. sound_from (with_query a.seen.program query) n few k) h.queries;
+  queries = all_weaker (λ query. AreSound (with_query a.seen.program query) n) (λ query. IsSound (with_query a.seen.program query)) a.queries
+      (λ query k. sound_from (with_query a.seen.program query) n few k) h.queries;
   few = le-leb (length a.queries) most_queries h.few;
 }
 

@@ -76,13 +76,15 @@ choose P false r s x e one other = other e
 natural_range : (low high : ℕ) (line : List ℕ) (o : Option ℤ) (n : ℕ) → natural_in low high line o ≡ Ok n → (low ≤ n) × (n ≤ high)
 natural_range low high line None n e = absurd cc
 natural_range low high line (Some (negsuc m)) n e = absurd cc
-natural_range low high line (Some (pos m)) n e = (elim (nat_le low m && nat_le m high) as (λ v. (nat_le low m && nat_le m high) ≡ v → (if v then ok m else Err (broken (fault.Natural low high (num_of (Some (pos m)))) line)) ≡ ok n → (low ≤ n) × (n ≤ high)) [
-  | true ↦ λ t h.
-      let p = and_parts (nat_le low m) (nat_le m high) t in
-      let is : m ≡ n = ok_is m n h in
-      (omega (arith, leb-true low m p.0, is), omega (arith, leb-true m high p.1, is))
-  | false ↦ λ f h. absurd cc
-]) refl e
+natural_range low high line (Some (pos m)) n e = (elim (nat_le low m && nat_le m high) as
+    (λ v. (nat_le low m && nat_le m high) ≡ v → (if v then ok m else Err (broken (fault.Natural low high (num_of (Some (pos m)))) line)) ≡ ok n →
+    (low ≤ n) × (n ≤ high)) [
+      | true ↦ λ t h.
+          let p = and_parts (nat_le low m) (nat_le m high) t in
+          let is : m ≡ n = ok_is m n h in
+          (omega (arith, leb-true low m p.0, is), omega (arith, leb-true m high p.1, is))
+      | false ↦ λ f h. absurd cc
+    ]) refl e
 
 pub natural-range : (low high : ℕ) (line : List ℕ) (x : ℕ × List ℕ) → natural_at low high line ≡ Ok x → (low ≤ x.0) × (x.0 ≤ high)
 natural-range low high line x e =
@@ -184,7 +186,8 @@ module _ {A : Type 0} (p : A → Bool) (atom : A → ℕ) (one : Atoms → List 
   many_are (suc n) known line x e =
       let s = step (one known line) (λ f. many_at atom one n (with_atom (atom f.0) known) f.1 >>= λ os. ok (f.0 ∷ os.0, os.1)) x e in
       let t = step (many_at atom one n (with_atom (atom s.value.0) known) s.value.1) (λ os. ok (s.value.0 ∷ os.0, os.1)) x s.goes in
-      rw (first_is (s.value.0 ∷ t.value.0) t.value.1 x t.goes) at (more_are p n s.value.0 t.value.0 (each known line s.value s.is) (many_are n (with_atom (atom s.value.0) known) s.value.1 t.value t.is))
+      rw (first_is (s.value.0 ∷ t.value.0) t.value.1 x t.goes) at
+      (more_are p n s.value.0 t.value.0 (each known line s.value s.is) (many_are n (with_atom (atom s.value.0) known) s.value.1 t.value t.is))
 
 pub count_is : (used : ℕ) (line : List ℕ) (x : ℕ × List ℕ) → count_at used line ≡ Ok x → used + x.0 ≤ most_counted
 unfolding count_at
@@ -226,11 +229,15 @@ abbrev external : ℕ → ExternalValue → External
 external atom value = record { atom = atom; value = value }
 
 head_is : (kind : ℕ) (atoms : List ℕ) → list_all is_atom atoms ≡ true → (is_sound_head (head_of kind atoms) ≡ true) × (head_size (head_of kind atoms) ≤ length atoms)
-head_is kind [] all = elim (kind == 0) as (λ b. (is_sound_head (if b then Never else Choice []) ≡ true) × (head_size (if b then Never else Choice []) ≤ 0)) [ true ↦ (refl, omega arith) | false ↦ (refl, omega arith) ]
-head_is kind (a ∷ atoms) all = elim (kind == 0) as (λ b. (is_sound_head (if b then One a else Choice (a ∷ atoms)) ≡ true) × (head_size (if b then One a else Choice (a ∷ atoms)) ≤ suc (length atoms))) [
-  | true ↦ ((and_parts (is_atom a) (list_all is_atom atoms) all).0, omega arith)
-  | false ↦ (all, omega arith)
-]
+head_is kind [] all = elim (kind == 0) as
+    (λ b. (is_sound_head (if b then Never else Choice []) ≡ true) × (head_size (if b then Never else Choice []) ≤ 0))
+    [ true ↦ (refl, omega arith) | false ↦ (refl, omega arith) ]
+head_is kind (a ∷ atoms) all = elim (kind == 0) as
+    (λ b. (is_sound_head (if b then One a else Choice (a ∷ atoms)) ≡ true) ×
+    (head_size (if b then One a else Choice (a ∷ atoms)) ≤ suc (length atoms))) [
+      | true ↦ ((and_parts (is_atom a) (list_all is_atom atoms) all).0, omega arith)
+      | false ↦ (all, omega arith)
+    ]
 
 -- a head or a body that is sound, and its size
 pub record Part {A : Type 0} (sound : A → Bool) (size : A → ℕ) (used : ℕ) (x : A) : Type 0 where
@@ -243,11 +250,19 @@ part sound size used x y e s f = rw (← e) (record { is_sound = s; fits = f })
 head-sound : (used : ℕ) (known : Atoms) (line : List ℕ) (x : Head × List ℕ) → head_at used known line ≡ Ok x → Part is_sound_head head_size used x.0
 unfolding head_at
 head-sound used known line x e =
-    let s = step (natural_at 0 1 line) (λ kind. natural_at 0 most kind.1 >>= λ m. if kind.0 == 0 && nat_lt 1 m.0 then Err (broken fault.Disjunction kind.1) else (if nat_lt most_counted (used + m.0) then Err (broken fault.Counts kind.1) else (many_at (λ a. a) atom_at m.0 known m.1 >>= λ atoms. ok (head_of kind.0 atoms.0, atoms.1)))) x e in
+    let s = step (natural_at 0 1 line) (λ kind. natural_at 0 most kind.1 >>= λ m. if kind.0 == 0 && nat_lt 1 m.0
+    then Err (broken fault.Disjunction kind.1) else
+    (if nat_lt most_counted (used + m.0) then Err (broken fault.Counts kind.1)
+    else (many_at (λ a. a) atom_at m.0 known m.1 >>= λ atoms. ok (head_of kind.0 atoms.0, atoms.1)))) x e in
     let kind = s.value.0 in
-    let t = step (natural_at 0 most s.value.1) (λ m. if kind == 0 && nat_lt 1 m.0 then Err (broken fault.Disjunction s.value.1) else (if nat_lt most_counted (used + m.0) then Err (broken fault.Counts s.value.1) else (many_at (λ a. a) atom_at m.0 known m.1 >>= λ atoms. ok (head_of kind atoms.0, atoms.1)))) x s.goes in
+    let t = step (natural_at 0 most s.value.1)
+    (λ m. if kind == 0 && nat_lt 1 m.0 then Err (broken fault.Disjunction s.value.1)
+    else (if nat_lt most_counted (used + m.0) then Err (broken fault.Counts s.value.1)
+    else (many_at (λ a. a) atom_at m.0 known m.1 >>= λ atoms. ok (head_of kind atoms.0, atoms.1)))) x s.goes in
     let m = t.value in
-    let u = unless (kind == 0 && nat_lt 1 m.0) _ (if nat_lt most_counted (used + m.0) then Err (broken fault.Counts s.value.1) else (many_at (λ a. a) atom_at m.0 known m.1 >>= λ atoms. ok (head_of kind atoms.0, atoms.1))) x t.goes in
+    let u = unless (kind == 0 && nat_lt 1 m.0) _
+    (if nat_lt most_counted (used + m.0) then Err (broken fault.Counts s.value.1)
+    else (many_at (λ a. a) atom_at m.0 known m.1 >>= λ atoms. ok (head_of kind atoms.0, atoms.1))) x t.goes in
     let v = unless (nat_lt most_counted (used + m.0)) _ (many_at (λ a. a) atom_at m.0 known m.1 >>= λ atoms. ok (head_of kind atoms.0, atoms.1)) x u.1 in
     let w = step (many_at (λ a. a) atom_at m.0 known m.1) (λ atoms. ok (head_of kind atoms.0, atoms.1)) x v.1 in
     let l = many_are is_atom (λ a. a) atom_at atom-sound m.0 known m.1 w.value w.is in
@@ -260,7 +275,8 @@ normal_is used known line x e =
     let l = literals-sound used known line s.value s.is in
     part is_sound_body body_size used (All s.value.0) x.0 (first_is (All s.value.0) s.value.1 x s.goes) l.sound l.fits
 
-weight_body_is : (used : ℕ) (known : Atoms) (line : List ℕ) (x : Body × List ℕ) → (signed_at line >>= λ b. weights_at used (pos 0) known b.1 >>= λ is. ok (AtLeast b.0 is.0, is.1)) ≡ Ok x → Part is_sound_body body_size used x.0
+weight_body_is : (used : ℕ) (known : Atoms) (line : List ℕ) (x : Body × List ℕ) →
+    (signed_at line >>= λ b. weights_at used (pos 0) known b.1 >>= λ is. ok (AtLeast b.0 is.0, is.1)) ≡ Ok x → Part is_sound_body body_size used x.0
 weight_body_is used known line x e =
     let s = step (signed_at line) (λ b. weights_at used (pos 0) known b.1 >>= λ is. ok (AtLeast b.0 is.0, is.1)) x e in
     let t = step (weights_at used (pos 0) known s.value.1) (λ is. ok (AtLeast s.value.0 is.0, is.1)) x s.goes in
@@ -270,8 +286,10 @@ weight_body_is used known line x e =
 body-sound : (used : ℕ) (known : Atoms) (line : List ℕ) (x : Body × List ℕ) → body_at used known line ≡ Ok x → Part is_sound_body body_size used x.0
 unfolding body_at
 body-sound used known line x e =
-    let s = step (natural_at 0 1 line) (λ kind. if kind.0 == 0 then (literals_at used known kind.1 >>= λ ls. ok (All ls.0, ls.1)) else (signed_at kind.1 >>= λ b. weights_at used (pos 0) known b.1 >>= λ is. ok (AtLeast b.0 is.0, is.1))) x e in
-    choose (Part is_sound_body body_size used x.0) (s.value.0 == 0) (literals_at used known s.value.1 >>= λ ls. ok (All ls.0, ls.1)) (signed_at s.value.1 >>= λ b. weights_at used (pos 0) known b.1 >>= λ is. ok (AtLeast b.0 is.0, is.1)) x s.goes
+    let s = step (natural_at 0 1 line) (λ kind. if kind.0 == 0 then (literals_at used known kind.1 >>= λ ls. ok (All ls.0, ls.1))
+    else (signed_at kind.1 >>= λ b. weights_at used (pos 0) known b.1 >>= λ is. ok (AtLeast b.0 is.0, is.1))) x e in
+    choose (Part is_sound_body body_size used x.0) (s.value.0 == 0) (literals_at used known s.value.1 >>= λ ls. ok (All ls.0, ls.1))
+    (signed_at s.value.1 >>= λ b. weights_at used (pos 0) known b.1 >>= λ is. ok (AtLeast b.0 is.0, is.1)) x s.goes
     (normal_is used known s.value.1 x) (weight_body_is used known s.value.1 x)
 
 rule-sound : (used : ℕ) (known : Atoms) (line : List ℕ) (x : Rule × List ℕ) → rule_at used known line ≡ Ok x → Part is_sound_rule rule_size used x.0
@@ -282,7 +300,8 @@ rule-sound used known line x e =
     let t = step (body_at (used + head_size head) (with_atoms known (head_atoms head)) s.value.1) (λ b. ok (rule head b.0, b.1)) x s.goes in
     let h = head-sound used known line s.value s.is in
     let b = body-sound (used + head_size head) (with_atoms known (head_atoms head)) s.value.1 t.value t.is in
-    part is_sound_rule rule_size used (rule head t.value.0) x.0 (first_is (rule head t.value.0) t.value.1 x t.goes) (and_from (is_sound_head head) (is_sound_body t.value.0) h.is_sound b.is_sound) (omega (arith, b.fits))
+    part is_sound_rule rule_size used (rule head t.value.0) x.0 (first_is (rule head t.value.0) t.value.1 x t.goes)
+    (and_from (is_sound_head head) (is_sound_body t.value.0) h.is_sound b.is_sound) (omega (arith, b.fits))
 
 minimize-sound : (used : ℕ) (seen : List ℤ) (known : Atoms) (line : List ℕ) (x : Minimize × List ℕ) → minimize_at used seen known line ≡ Ok x → Part is_sound_minimize (λ m. length m.items) used x.0
 unfolding minimize_at
@@ -333,7 +352,8 @@ stated sound size say_it used read s parts sounds sizes e =
     let t = step (read >>= alone) (λ x. ok (say_it x)) s e in
     let a = alone_is read t.value t.is in
     let p = parts a.0 a.1 in
-    part is_sound_statement statement_size used (say_it t.value) s (ok_is (say_it t.value) s t.goes) (sounds t.value ∙ ap sound (sym a.2) ∙ p.is_sound) (omega (arith, sizes t.value, ap size a.2, p.fits))
+    part is_sound_statement statement_size used (say_it t.value) s (ok_is (say_it t.value) s t.goes)
+    (sounds t.value ∙ ap sound (sym a.2) ∙ p.is_sound) (omega (arith, sizes t.value, ap size a.2, p.fits))
 
 pub end_is : (used : ℕ) (line : List ℕ) (s : Statement) → used ≤ most_counted → alone (say.End, line) ≡ Ok s → Part is_sound_statement statement_size used s
 end_is used line s room e = let t = step (ended line) (λ _. ok say.End) s e in part is_sound_statement statement_size used say.End s (ok_is say.End s t.goes) refl (omega (arith, room))
@@ -404,7 +424,8 @@ module _ (kind used : ℕ) (seen : List ℤ) (known : Atoms) (line : List ℕ) w
       (stated is_sound_minimize (λ m. length m.items) say.Minimize used (minimize_at used seen known line) s (minimize-sound used seen known line) (λ x. refl) (λ x. refl))
       (λ e3. later_sound s room (unless (kind == 3) _ from4 s e3).1)))
 
-statement-sound : (used : ℕ) (seen : List ℤ) (known : Atoms) (line : List ℕ) (s : Statement) → used ≤ most_counted → statement_with used seen known line ≡ Ok s → Part is_sound_statement statement_size used s
+statement-sound : (used : ℕ) (seen : List ℤ) (known : Atoms) (line : List ℕ) (s : Statement) → used ≤ most_counted →
+    statement_with used seen known line ≡ Ok s → Part is_sound_statement statement_size used s
 unfolding statement_with
 statement-sound used seen known line s room e =
     let t = step (kind_at line) (λ kind. of_kind kind.0 used seen known kind.1) s e in
@@ -478,7 +499,17 @@ adds-sound p (say.Assume ls) n h k = record {
 }
 
 pub more_lines : (p q : Program) (n : ℕ) → p ≡ q → AreSound p n → AreSound q (suc n)
-more_lines p q n e h = rw (← e) (record { rules = h.rules; minimize = h.minimize; outputs = h.outputs; externals = h.externals; assumptions = h.assumptions; size = h.size; few = omega (arith, h.few) })
+more_lines p q n e h = rw (← e)
+    (record {
+      rules = h.rules;
+      minimize = h.minimize;
+      outputs = h.outputs;
+      externals = h.externals;
+      assumptions = h.assumptions;
+      size = h.size;
+      few =
+          omega (arith, h.few);
+    })
 
 abbrev seen_as : Stage → Program → Atoms → Seen
 seen_as stage program known = record { stage = stage; program = program; known = known }
@@ -537,7 +568,10 @@ sound_from p n few h = record {
   externals = h.externals;
   assumptions = h.assumptions;
   weighted = le-leb (weighted_total p) 16777216 (omega (arith, h.size, sum_by-le-sum_by (λ (r : Rule). weighted_count r.body) rule_size p.rules weighted_is_counted));
-  room = and_from _ _ (and_from _ _ (and_from _ _ (and_from _ _ (has_room_is p.rules n (omega (arith, h.few)) few) (has_room_is p.minimize n (omega (arith, h.few)) few)) (has_room_is p.outputs n (omega (arith, h.few)) few)) (has_room_is p.externals n (omega (arith, h.few)) few)) (has_room_is p.assumptions 16777216 (omega (arith, h.size)) (omega arith));
+  room = and_from _ _ (and_from _ _
+      (and_from _ _ (and_from _ _ (has_room_is p.rules n (omega (arith, h.few)) few) (has_room_is p.minimize n (omega (arith, h.few)) few))
+      (has_room_is p.outputs n (omega (arith, h.few)) few)) (has_room_is p.externals n (omega (arith, h.few)) few))
+      (has_room_is p.assumptions 16777216 (omega (arith, h.size)) (omega arith));
 }
 
 -- what was said at the end of an accepted text of so many lines
@@ -555,10 +589,13 @@ module _ {S A : Type 0} (format : Format S A) (Holds : S → ℕ → Type 0) (be
   all-hold : (number : ℕ) (seen : S) (lines : List (List ℕ)) (end : S) (n : ℕ) → Holds seen n → judge_all format number seen lines ≡ Ok end → Holds end (n + length lines)
   unfolding judge_all
   all-hold number seen [] end n h e = rw (← read_is seen end e, add-zero) h
-  all-hold number seen (line ∷ lines) end n h e = (elim (judge_by format seen line) as (λ v. judge_by format seen line ≡ v → judge_next number v (λ s. judge_all format (number + 1) s lines) ≡ read end → Holds end (n + suc (length lines))) [
-    | Ok s ↦ λ is k. let m : n + suc (length lines) ≡ suc n + length lines = omega arith in rw m (all-hold (number + 1) s lines end (suc n) (keeps seen line s n h (told_ok line (format.after_line seen line) s is)) k)
-    | Err f ↦ λ is k. absurd cc
-  ]) refl e
+  all-hold number seen (line ∷ lines) end n h e =
+      (elim (judge_by format seen line) as (λ v. judge_by format seen line ≡ v →
+      judge_next number v (λ s. judge_all format (number + 1) s lines) ≡ read end → Holds end (n + suc (length lines))) [
+        | Ok s ↦ λ is k. let m : n + suc (length lines) ≡ suc n + length lines = omega arith in
+            rw m (all-hold (number + 1) s lines end (suc n) (keeps seen line s n h (told_ok line (format.after_line seen line) s is)) k)
+        | Err f ↦ λ is k. absurd cc
+      ]) refl e
 
   abbrev too_long : Result A ReadError
   too_long = Err TooLong
@@ -569,7 +606,8 @@ module _ {S A : Type 0} (format : Format S A) (Holds : S → ℕ → Type 0) (be
   pub accepted : (text : List ℕ) (x : A) → outcome_by format text ≡ Ok x → AtEnd format Holds x
   unfolding outcome_from
   accepted text x e = (elim (nat_le (length text) most_bytes) as (λ v. nat_le (length text) most_bytes ≡ v
-      → (if v then (judge_all format 1 format.start (lines_of text) >>= λ end. format.at_end (0 + length (lines_of text) + 1) end) else (judge_all format 1 format.start (lines_of (whole (take most_bytes text))) >>= λ _. Err TooLong)) ≡ read x → AtEnd format Holds x) [
+      → (if v then (judge_all format 1 format.start (lines_of text) >>= λ end. format.at_end (0 + length (lines_of text) + 1) end)
+      else (judge_all format 1 format.start (lines_of (whole (take most_bytes text))) >>= λ _. Err TooLong)) ≡ read x → AtEnd format Holds x) [
         | true ↦ λ short h.
             let t = step (judge_all format 1 format.start (lines_of text)) (λ end. format.at_end (0 + length (lines_of text) + 1) end) x h in
             record {

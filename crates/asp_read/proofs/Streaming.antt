@@ -178,8 +178,11 @@ module _ {S R : Type 0} (format : Format S R) where
   step_part number (Err f) lines after = refl
 
   behind : (v : Bool) (n : ℕ) (seen : S) (line : List ℕ) (lines some_lines : List (List ℕ))
-      → (if v then (judge_all format (n + 1) seen (line ∷ lines) >>= λ e. format.at_end (n + length (line ∷ lines) + 1) e) else (judge_all format (n + 1) seen (line ∷ some_lines) >>= λ _. Err TooLong))
-      ≡ judge_next (n + 1) (judge_by format seen line) (λ s. if v then (judge_all format (n + 1 + 1) s lines >>= λ e. format.at_end (n + 1 + length lines + 1) e) else (judge_all format (n + 1 + 1) s some_lines >>= λ _. Err TooLong))
+      → (if v then (judge_all format (n + 1) seen (line ∷ lines) >>= λ e. format.at_end (n + length (line ∷ lines) + 1) e)
+      else (judge_all format (n + 1) seen (line ∷ some_lines) >>= λ _. Err TooLong))
+      ≡ judge_next (n + 1) (judge_by format seen line) (λ s. if v
+      then (judge_all format (n + 1 + 1) s lines >>= λ e. format.at_end (n + 1 + length lines + 1) e)
+      else (judge_all format (n + 1 + 1) s some_lines >>= λ _. Err TooLong))
   unfolding judge_all
   behind true n seen line lines some_lines =
       let k : n + length (line ∷ lines) + 1 ≡ n + 1 + length lines + 1 = omega arith in
@@ -188,12 +191,15 @@ module _ {S R : Type 0} (format : Format S R) where
 
   -- the outcome is that of what follows the first line, after that line
   pub one_line : (bytes line rest more : List ℕ) (room number : ℕ) (seen : S) → Cut bytes line rest
-      → outcome_from format (room + length bytes) number seen (bytes ++ more) ≡ judge_next (number + 1) (judge_by format seen (without_cr line)) (λ s. outcome_from format (room + length rest) (number + 1) s (rest ++ more))
+      → outcome_from format (room + length bytes) number seen (bytes ++ more) ≡ judge_next (number + 1) (judge_by format seen (without_cr line))
+      (λ s. outcome_from format (room + length rest) (number + 1) s (rest ++ more))
   unfolding outcome_from
   one_line bytes line rest more room number seen c =
-      let t : nat_le (length (bytes ++ more)) (room + length bytes) ≡ nat_le (length (rest ++ more)) (room + length rest) = same_test _ _ _ _ (omega (arith, length-append bytes more, length-append rest more)) in
+      let t : nat_le (length (bytes ++ more)) (room + length bytes) ≡ nat_le (length (rest ++ more)) (room + length rest) =
+      same_test _ _ _ _ (omega (arith, length-append bytes more, length-append rest more)) in
       let l : lines_of (bytes ++ more) ≡ without_cr line ∷ lines_of (rest ++ more) = lines_cut (bytes ++ more) line (rest ++ more) (Cut-append bytes line rest more c) in
-      let w : lines_of (whole (take (room + length bytes) (bytes ++ more))) ≡ without_cr line ∷ lines_of (whole (take (room + length rest) (rest ++ more))) = lines_whole_cut _ line _ (take_behind bytes line rest more room c) in
+      let w : lines_of (whole (take (room + length bytes) (bytes ++ more))) ≡ without_cr line ∷ lines_of
+      (whole (take (room + length rest) (rest ++ more))) = lines_whole_cut _ line _ (take_behind bytes line rest more room c) in
       rw (t, l, w) (behind (nat_le (length (rest ++ more)) (room + length rest)) number seen (without_cr line) (lines_of (rest ++ more)) (lines_of (whole (take (room + length rest) (rest ++ more)))))
 
   abbrev failed : ReadError → Result S ReadError
@@ -226,7 +232,8 @@ module _ {S R : Type 0} (format : Format S R) where
       let f = found old.bytes line e in
       at_cut old reader n line f.raw f.rest (after_line old.bytes) room more f.cut_off n-is f.trimmed f.left
 
-  pub line_step : (old new : Unread) (reader r : S) (n : ℕ) (line : List ℕ) → Some line ≡ first_line old.bytes → new ≡ record old { bytes = after_line old.bytes; given = old.given + 1 } → n ≡ old.given + 1
+  pub line_step : (old new : Unread) (reader r : S) (n : ℕ) (line : List ℕ) → Some line ≡ first_line old.bytes →
+      new ≡ record old { bytes = after_line old.bytes; given = old.given + 1 } → n ≡ old.given + 1
       → judge_next n (judge_by format reader line) (λ s. Ok s) ≡ Ok r → (room : ℕ) (more : List ℕ) → outcome_on format new r room more ≡ outcome_on format old reader room more
   line_step old new reader r n line e new-is n-is judged room more =
       sym (at_line old reader n line room more e n-is ∙ goes n (judge_by format reader line) r _ judged ∙ rw (new-is, n-is) refl)
@@ -236,7 +243,9 @@ module _ {S R : Type 0} (format : Format S R) where
   line_fails old reader e n line h n-is fails room more =
       subst (λ (o : Result R ReadError). FailsAs e o) (sym (at_line old reader n line room more h n-is)) (fails_on e n (judge_by format reader line) _ fails)
 
-  pub fed : (bytes piece rest : List ℕ) (room number : ℕ) (seen : S) → outcome_from format (room + length (bytes ++ piece)) number seen ((bytes ++ piece) ++ rest) ≡ outcome_from format (room + length piece + length bytes) number seen (bytes ++ (piece ++ rest))
+  pub fed : (bytes piece rest : List ℕ) (room number : ℕ) (seen : S) →
+      outcome_from format (room + length (bytes ++ piece)) number seen ((bytes ++ piece) ++ rest) ≡ outcome_from format
+      (room + length piece + length bytes) number seen (bytes ++ (piece ++ rest))
   fed bytes piece rest room number seen =
       let k : room + length (bytes ++ piece) ≡ room + length piece + length bytes = omega (arith, length-append bytes piece) in
       rw (k, append_assoc bytes piece rest) refl
@@ -246,12 +255,15 @@ module _ {S R : Type 0} (format : Format S R) where
   fed_on old new piece more reader e room rest = rw e (fed old.bytes piece rest room old.given reader)
 
   at_last : (bytes : List ℕ) (room number : ℕ) (seen : S) → cut bytes ≡ None
-      → outcome_from format (room + length bytes) number seen (bytes ++ []) ≡ (judge_all format (number + 1) seen (option_to_list (last_line bytes)) >>= λ e. format.at_end (number + length (option_to_list (last_line bytes)) + 1) e)
+      → outcome_from format (room + length bytes) number seen (bytes ++ []) ≡
+      (judge_all format (number + 1) seen (option_to_list (last_line bytes)) >>= λ e. format.at_end
+      (number + length (option_to_list (last_line bytes)) + 1) e)
   unfolding outcome_from
   at_last bytes room number seen none = rw (fits bytes room, append-nil bytes, lines_none bytes none) refl
 
   last_is : (o : Option (List ℕ)) (line : List ℕ) (number n : ℕ) (seen : S) → Some line ≡ o → n ≡ number + 1
-      → (judge_all format (number + 1) seen (option_to_list o) >>= λ e. format.at_end (number + length (option_to_list o) + 1) e) ≡ judge_next n (judge_by format seen line) (λ s. format.at_end (n + 1) s)
+      → (judge_all format (number + 1) seen (option_to_list o) >>= λ e. format.at_end (number + length (option_to_list o) + 1) e) ≡ judge_next n
+      (judge_by format seen line) (λ s. format.at_end (n + 1) s)
   unfolding judge_all
   last_is o line number n seen e n-is = rw (← e, n-is) (simp add-zero at (step_whole (number + 1) (judge_by format seen line) []))
 
@@ -260,14 +272,20 @@ module _ {S R : Type 0} (format : Format S R) where
   unfolding judge_all
   no_last o number seen e = rw (← e, add-zero) refl
 
-  pub last_line_ends : (old : Unread) (reader r : S) (n room : ℕ) (line : List ℕ) → cut old.bytes ≡ None → Some line ≡ last_line old.bytes → n ≡ old.given + 1 → judge_next n (judge_by format reader line) (λ s. Ok s) ≡ Ok r
+  pub last_line_ends : (old : Unread) (reader r : S) (n room : ℕ) (line : List ℕ) → cut old.bytes ≡ None → Some line ≡ last_line old.bytes →
+      n ≡ old.given + 1 → judge_next n (judge_by format reader line) (λ s. Ok s) ≡ Ok r
       → outcome_on format old reader room [] ≡ format.at_end (n + 1) r
-  last_line_ends old reader r n room line none e n-is judged = at_last old.bytes room old.given reader none ∙ last_is (last_line old.bytes) line old.given n reader e n-is ∙ goes n (judge_by format reader line) r _ judged
+  last_line_ends old reader r n room line none e n-is judged =
+      at_last old.bytes room old.given reader none ∙ last_is (last_line old.bytes) line old.given n reader e n-is
+      ∙ goes n (judge_by format reader line) r _ judged
 
-  pub last_line_fails : (old : Unread) (reader : S) (e : ReadError) (n room : ℕ) (line : List ℕ) → cut old.bytes ≡ None → Some line ≡ last_line old.bytes → n ≡ old.given + 1 → FailsAs e (judge_next n (judge_by format reader line) (λ s. Ok s))
+  pub last_line_fails : (old : Unread) (reader : S) (e : ReadError) (n room : ℕ) (line : List ℕ) → cut old.bytes ≡ None →
+      Some line ≡ last_line old.bytes → n ≡ old.given + 1 → FailsAs e (judge_next n (judge_by format reader line) (λ s. Ok s))
       → FailsAs e (outcome_on format old reader room [])
   last_line_fails old reader e n room line none h n-is fails =
-      subst (λ (o : Result R ReadError). FailsAs e o) (sym (at_last old.bytes room old.given reader none ∙ last_is (last_line old.bytes) line old.given n reader h n-is)) (fails_on e n (judge_by format reader line) _ fails)
+      subst (λ (o : Result R ReadError). FailsAs e o)
+      (sym (at_last old.bytes room old.given reader none ∙ last_is (last_line old.bytes) line old.given n reader h n-is))
+      (fails_on e n (judge_by format reader line) _ fails)
 
   pub no_last_line : (old : Unread) (reader : S) (room : ℕ) → cut old.bytes ≡ None → None ≡ last_line old.bytes → outcome_on format old reader room [] ≡ format.at_end (old.given + 1) reader
   no_last_line old reader room none e = at_last old.bytes room old.given reader none ∙ no_last (last_line old.bytes) old.given reader e

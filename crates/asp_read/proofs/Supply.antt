@@ -95,16 +95,20 @@ nothing_left (Some xs) rest h e = let same : xs ≡ rest = cc in sym same ∙ h
 
 module _ {S R : Type 0} (format : Format S R) where
   -- at the start nothing is held
-  pub starts : (source : Option (List ℕ)) (limit : ℕ) (lines : Unread) (reader : S) → lines ≡ record { bytes = []; given = 0; fed = 0 } → reader ≡ format.start → Continues format source source limit lines reader limit
+  pub starts : (source : Option (List ℕ)) (limit : ℕ) (lines : Unread) (reader : S) → lines ≡ record { bytes = []; given = 0; fed = 0 } →
+      reader ≡ format.start → Continues format source source limit lines reader limit
   starts None limit lines reader l e = rw (l, e) (record { read = []; took = tt; counted = omega arith; same = λ k more. refl })
   starts (Some text) limit lines reader l e = rw (l, e) (record { read = []; took = refl; counted = omega arith; same = λ k more. refl })
 
-  moved : (read piece more : List ℕ) (k : ℕ) → outcome_from format (k + length piece + length read) 0 format.start (read ++ (piece ++ more)) ≡ outcome_from format (k + length (read ++ piece)) 0 format.start ((read ++ piece) ++ more)
+  moved : (read piece more : List ℕ) (k : ℕ) →
+      outcome_from format (k + length piece + length read) 0 format.start (read ++ (piece ++ more)) ≡ outcome_from format (k + length (read ++ piece))
+      0 format.start ((read ++ piece) ++ more)
   moved read piece more k =
       let e : k + length (read ++ piece) ≡ k + length piece + length read = omega (arith, length-append read piece) in
       rw (e, append_assoc read piece more) refl
 
-  pub taken : (initial now next : Option (List ℕ)) (piece : List ℕ) (limit : ℕ) (lines new : Unread) (reader r : S) (room left : ℕ) → Continues format initial now limit lines reader room → Consumes now next piece → room ≡ left + length piece
+  pub taken : (initial now next : Option (List ℕ)) (piece : List ℕ) (limit : ℕ) (lines new : Unread) (reader r : S) (room left : ℕ) →
+      Continues format initial now limit lines reader room → Consumes now next piece → room ≡ left + length piece
       → ((k : ℕ) (rest : List ℕ) → outcome_on format new r k rest ≡ outcome_on format lines reader (k + length piece) (piece ++ rest)) → Continues format initial next limit new r left
   taken initial now next piece limit lines new reader r room left c e k same = record {
     read = c.read ++ piece;
@@ -114,7 +118,9 @@ module _ {S R : Type 0} (format : Format S R) where
   }
 
   -- the outcome of all is that of what is left
-  all_is : (initial now : Option (List ℕ)) (limit : ℕ) (lines : Unread) (reader : S) (room : ℕ) (more : List ℕ) (c : Continues format initial now limit lines reader room) → outcome_on format lines reader room more ≡ outcome_from format limit 0 format.start (c.read ++ more)
+  all_is : (initial now : Option (List ℕ)) (limit : ℕ) (lines : Unread) (reader : S) (room : ℕ) (more : List ℕ)
+      (c : Continues format initial now limit lines reader room) →
+      outcome_on format lines reader room more ≡ outcome_from format limit 0 format.start (c.read ++ more)
   all_is initial now limit lines reader room more c = c.same room more ∙ ap (λ (n : ℕ). outcome_from format n 0 format.start (c.read ++ more)) c.counted
 
   -- an answer that speaks of no text
@@ -123,36 +129,54 @@ module _ {S R : Type 0} (format : Format S R) where
   any_text (Some text) limit r any = record { text = text; told = refl; answered = any _ }
 
   -- a fault in a piece, whatever of the bytes behind it is held back
-  pub stopped : (e : ReadError) (initial now next : Option (List ℕ)) (piece more : List ℕ) (limit : ℕ) (lines : Unread) (reader : S) (room left : ℕ) → Continues format initial now limit lines reader room → Consumes now next (piece ++ more) → room ≡ left + length piece
+  pub stopped : (e : ReadError) (initial now next : Option (List ℕ)) (piece more : List ℕ) (limit : ℕ) (lines : Unread) (reader : S) (room left : ℕ) →
+      Continues format initial now limit lines reader room → Consumes now next (piece ++ more) → room ≡ left + length piece
       → ((k : ℕ) (rest : List ℕ) → FailsAs e (outcome_on format lines reader (k + length piece) (piece ++ rest))) → Answers format initial limit (Err e)
   stopped e initial now next piece more limit lines reader room left c s k fails =
       let w = whole_text initial now next c.read (piece ++ more) c.took s in
-      let o : outcome_on format lines reader (left + length piece) (piece ++ (more ++ w.rest)) ≡ outcome_from format limit 0 format.start (c.read ++ ((piece ++ more) ++ w.rest)) = rw (← k, ← append_assoc piece more w.rest) (all_is initial now limit lines reader room ((piece ++ more) ++ w.rest) c) in
+      let o : outcome_on format lines reader (left + length piece) (piece ++ (more ++ w.rest)) ≡ outcome_from format limit 0 format.start
+      (c.read ++ ((piece ++ more) ++ w.rest)) =
+      rw (← k, ← append_assoc piece more w.rest) (all_is initial now limit lines reader room ((piece ++ more) ++ w.rest) c) in
       record { text = c.read ++ ((piece ++ more) ++ w.rest); told = w.told; answered = reads_err e _ (subst (λ (o : Result R ReadError). FailsAs e o) o (fails left (more ++ w.rest))) }
 
-  pub over : (initial now next : Option (List ℕ)) (piece more : List ℕ) (limit : ℕ) (lines new : Unread) (reader r : S) (room : ℕ) → Continues format initial now limit lines reader room → Consumes now next (piece ++ more) → room ≡ length piece → 0 < length more → cut new.bytes ≡ None
+  pub over : (initial now next : Option (List ℕ)) (piece more : List ℕ) (limit : ℕ) (lines new : Unread) (reader r : S) (room : ℕ) →
+      Continues format initial now limit lines reader room → Consumes now next (piece ++ more) → room ≡ length piece → 0 < length more →
+      cut new.bytes ≡ None
       → ((k : ℕ) (rest : List ℕ) → outcome_on format new r k rest ≡ outcome_on format lines reader (k + length piece) (piece ++ rest)) → Answers format initial limit (Err errors.TooLong)
   over initial now next piece more limit lines new reader r room c s k lt none same =
       let w = whole_text initial now next c.read (piece ++ more) c.took s in
       let k0 : room ≡ 0 + length piece = omega (arith, k) in
-      let o : outcome_on format lines reader (0 + length piece) (piece ++ (more ++ w.rest)) ≡ outcome_from format limit 0 format.start (c.read ++ ((piece ++ more) ++ w.rest)) = rw (← k0, ← append_assoc piece more w.rest) (all_is initial now limit lines reader room ((piece ++ more) ++ w.rest) c) in
-      record { text = c.read ++ ((piece ++ more) ++ w.rest); told = w.told; answered = sym (same 0 (more ++ w.rest) ∙ o) ∙ too_long format new r (more ++ w.rest) none (omega (arith, length-append more w.rest)) }
+      let o : outcome_on format lines reader (0 + length piece) (piece ++ (more ++ w.rest)) ≡ outcome_from format limit 0 format.start
+      (c.read ++ ((piece ++ more) ++ w.rest)) =
+      rw (← k0, ← append_assoc piece more w.rest) (all_is initial now limit lines reader room ((piece ++ more) ++ w.rest) c) in
+      record {
+        text = c.read ++ ((piece ++ more) ++ w.rest);
+        told = w.told;
+        answered =
+            sym (same 0 (more ++ w.rest) ∙ o) ∙ too_long format new r (more ++ w.rest) none (omega (arith, length-append more w.rest));
+      }
 
-  pub ended : (initial now next : Option (List ℕ)) (limit : ℕ) (lines : Unread) (reader : S) (room : ℕ) (result : Result R ReadError) → Continues format initial now limit lines reader room → Consumes now next [] → IsAtEnd next
+  pub ended : (initial now next : Option (List ℕ)) (limit : ℕ) (lines : Unread) (reader : S) (room : ℕ) (result : Result R ReadError) →
+      Continues format initial now limit lines reader room → Consumes now next [] → IsAtEnd next
       → ((k : ℕ) → ReadGives result (outcome_on format lines reader k [])) → Answers format initial limit result
   ended initial now next limit lines reader room result c s e gives =
-      let o : outcome_on format lines reader room [] ≡ outcome_from format limit 0 format.start c.read = all_is initial now limit lines reader room [] c ∙ ap (λ (t : List ℕ). outcome_from format limit 0 format.start t) (append-nil c.read) in
+      let o : outcome_on format lines reader room [] ≡ outcome_from format limit 0 format.start c.read =
+      all_is initial now limit lines reader room [] c ∙ ap (λ (t : List ℕ). outcome_from format limit 0 format.start t) (append-nil c.read) in
       record { text = c.read; told = at_end_is initial now next c.read c.took s e; answered = reads_gives result _ (subst (λ (o : Result R ReadError). ReadGives result o) o (gives room)) }
 
   -- what a caller sees of it
-  answer_is : (source : Option (List ℕ)) (text : List ℕ) (limit : ℕ) (result : Result R ReadError) → IfSome source (λ t. t ≡ text) → ReadsText result (outcome_from format limit 0 format.start text) → IfSome source (λ t. ReadsText result (outcome_from format limit 0 format.start t))
+  answer_is : (source : Option (List ℕ)) (text : List ℕ) (limit : ℕ) (result : Result R ReadError) → IfSome source (λ t. t ≡ text) →
+      ReadsText result (outcome_from format limit 0 format.start text) →
+      IfSome source (λ t. ReadsText result (outcome_from format limit 0 format.start t))
   answer_is None text limit result e h = tt
   answer_is (Some t) text limit result e h = subst (λ (x : List ℕ). ReadsText result (outcome_from format limit 0 format.start x)) (sym e) h
 
-  pub answer : (source : Option (List ℕ)) (limit : ℕ) (result : Result R ReadError) → Answers format source limit result → IfSome source (λ t. ReadsText result (outcome_from format limit 0 format.start t))
+  pub answer : (source : Option (List ℕ)) (limit : ℕ) (result : Result R ReadError) → Answers format source limit result →
+      IfSome source (λ t. ReadsText result (outcome_from format limit 0 format.start t))
   answer source limit result a = answer_is source a.text limit result a.told a.answered
 
-  pub some_answer : (source : Option (List ℕ)) (limit : ℕ) (result : Result R ReadError) → Answers format source limit result → (text : List ℕ) × ReadsText result (outcome_from format limit 0 format.start text)
+  pub some_answer : (source : Option (List ℕ)) (limit : ℕ) (result : Result R ReadError) → Answers format source limit result → (text : List ℕ) ×
+      ReadsText result (outcome_from format limit 0 format.start text)
   some_answer source limit result a = (a.text, a.answered)
 
   abbrev failed : ReadError → Result S ReadError
@@ -188,7 +212,8 @@ module _ {S R : Type 0} (format : Format S R) where
   is_clean (Err e') other e = absurd (other (ap failed (refusal_is e' errors.TooLong e)))
 
   -- with a limit behind what was read, only a fault of a line in it keeps the text from being too long
-  clean : (lines : Unread) (reader : S) (read : List ℕ) → cut lines.bytes ≡ None → ((k : ℕ) (more : List ℕ) → outcome_on format lines reader k more ≡ outcome_from format (k + length read) 0 format.start (read ++ more))
+  clean : (lines : Unread) (reader : S) (read : List ℕ) → cut lines.bytes ≡ None →
+      ((k : ℕ) (more : List ℕ) → outcome_on format lines reader k more ≡ outcome_from format (k + length read) 0 format.start (read ++ more))
       → IsOk (judge_all format 1 format.start (lines_of (whole read)))
   unfolding outcome_from
   clean lines reader read none same =
@@ -206,7 +231,8 @@ module _ {S R : Type 0} (format : Format S R) where
   stops_unread limit (Some text) = record { before = []; last = []; stands = refl; no_fault = refl; fits = omega arith; decides = tt }
 
   stops_at : (limit : ℕ) (initial now next : Option (List ℕ)) (read last : List ℕ) (result : Result R ReadError) → Took initial now read → Consumes now next last
-      → IsOk (judge_all format 1 format.start (lines_of (whole read))) → length read ≤ limit → ((rest : List ℕ) → next ≡ Some rest → Decides format limit read last rest result) → StopsBy format limit initial next result
+      → IsOk (judge_all format 1 format.start (lines_of (whole read))) → length read ≤ limit →
+      ((rest : List ℕ) → next ≡ Some rest → Decides format limit read last rest result) → StopsBy format limit initial next result
   stops_at limit None now next read last result c e ok le d = tt
   stops_at limit (Some text) None next read last result c e ok le d = absurd c
   stops_at limit (Some text) (Some xs) None read last result c e ok le d = absurd e
@@ -220,11 +246,15 @@ module _ {S R : Type 0} (format : Format S R) where
   }
 
   -- what was read before this read, and this read gave, where the reading goes by these lines
-  pub stops : (limit : ℕ) (initial now next : Option (List ℕ)) (last : List ℕ) (lines : Unread) (reader : S) (room : ℕ) (result : Result R ReadError) (c : Continues format initial now limit lines reader room) → Consumes now next last
+  pub stops : (limit : ℕ) (initial now next : Option (List ℕ)) (last : List ℕ) (lines : Unread) (reader : S) (room : ℕ) (result : Result R ReadError)
+      (c : Continues format initial now limit lines reader room) → Consumes now next last
       → cut lines.bytes ≡ None → ((rest : List ℕ) → next ≡ Some rest → Decides format limit c.read last rest result) → StopsBy format limit initial next result
-  stops limit initial now next last lines reader room result c e none d = stops_at limit initial now next c.read last result c.took e (clean lines reader c.read none c.same) (omega (arith, c.counted)) d
+  stops limit initial now next last lines reader room result c e none d =
+      stops_at limit initial now next c.read last result c.took e (clean lines reader c.read none c.same) (omega (arith, c.counted)) d
 
-  pub stops_failed : (limit : ℕ) (initial now next : Option (List ℕ)) (lines : Unread) (reader : S) (room : ℕ) → Continues format initial now limit lines reader room → Keeps now next → cut lines.bytes ≡ None → StopsBy format limit initial next (Err errors.ReadFault)
+  pub stops_failed : (limit : ℕ) (initial now next : Option (List ℕ)) (lines : Unread) (reader : S) (room : ℕ) →
+      Continues format initial now limit lines reader room → Keeps now next → cut lines.bytes ≡ None →
+      StopsBy format limit initial next (Err errors.ReadFault)
   stops_failed limit initial now next lines reader room c k none = stops limit initial now next [] lines reader room (Err errors.ReadFault) c (consumes_none now next k) none (λ rest is. refl)
 
   at_the_end : (limit : ℕ) (read rest : List ℕ) (result : Result R ReadError) → IfErr result IsOfLines → rest ≡ [] → Decides format limit read [] rest result
@@ -234,38 +264,49 @@ module _ {S R : Type 0} (format : Format S R) where
   at_the_end limit read rest (Err errors.TooLong) of_lines e = absurd of_lines
   at_the_end limit read rest (Err (errors.Refused f n)) of_lines e = inr (record { nothing = refl; none_left = e })
 
-  pub stops_ended : (limit : ℕ) (initial now next : Option (List ℕ)) (lines : Unread) (reader : S) (room : ℕ) (result : Result R ReadError) → Continues format initial now limit lines reader room → Consumes now next [] → IsAtEnd next
+  pub stops_ended : (limit : ℕ) (initial now next : Option (List ℕ)) (lines : Unread) (reader : S) (room : ℕ) (result : Result R ReadError) →
+      Continues format initial now limit lines reader room → Consumes now next [] → IsAtEnd next
       → cut lines.bytes ≡ None → IfErr result IsOfLines → StopsBy format limit initial next result
   stops_ended limit initial now next lines reader room result c e at_end none of_lines =
       stops limit initial now next [] lines reader room result c e none (λ rest is. at_the_end limit c.read rest result of_lines (nothing_left next rest at_end is))
 
   -- the outcome of what was read and of whatever follows it
-  whatever : (initial now : Option (List ℕ)) (piece more after : List ℕ) (limit : ℕ) (lines : Unread) (reader : S) (room left : ℕ) (c : Continues format initial now limit lines reader room) → room ≡ left + length piece
+  whatever : (initial now : Option (List ℕ)) (piece more after : List ℕ) (limit : ℕ) (lines : Unread) (reader : S) (room left : ℕ)
+      (c : Continues format initial now limit lines reader room) → room ≡ left + length piece
       → outcome_on format lines reader (left + length piece) (piece ++ (more ++ after)) ≡ outcome_from format limit 0 format.start ((c.read ++ (piece ++ more)) ++ after)
   whatever initial now piece more after limit lines reader room left c k =
       rw (← k, ← append_assoc piece more after, append_assoc c.read (piece ++ more) after) (all_is initial now limit lines reader room ((piece ++ more) ++ after) c)
 
-  settled : (limit : ℕ) (read last rest : List ℕ) (e : ReadError) → IsOfLines e → ((after : List ℕ) → FailsAs e (outcome_from format limit 0 format.start ((read ++ last) ++ after))) → Decides format limit read last rest (Err e)
+  settled : (limit : ℕ) (read last rest : List ℕ) (e : ReadError) → IsOfLines e →
+      ((after : List ℕ) → FailsAs e (outcome_from format limit 0 format.start ((read ++ last) ++ after))) →
+      Decides format limit read last rest (Err e)
   settled limit read last rest errors.Memory of_lines fails = tt
   settled limit read last rest errors.ReadFault of_lines fails = absurd of_lines
   settled limit read last rest errors.TooLong of_lines fails = absurd of_lines
   settled limit read last rest (errors.Refused f n) of_lines fails = inl fails
 
   -- a fault in a piece of what the last read gave
-  pub stops_refused : (r : Result R ReadError) (y e : ReadError) (initial now next : Option (List ℕ)) (piece more : List ℕ) (limit : ℕ) (lines : Unread) (reader : S) (room left : ℕ) → r ≡ Err y → y ≡ e
+  pub stops_refused : (r : Result R ReadError) (y e : ReadError) (initial now next : Option (List ℕ)) (piece more : List ℕ) (limit : ℕ)
+      (lines : Unread) (reader : S) (room left : ℕ) → r ≡ Err y → y ≡ e
       → Continues format initial now limit lines reader room → Consumes now next (piece ++ more) → room ≡ left + length piece → cut lines.bytes ≡ None → IsOfLines e
       → ((k : ℕ) (rest : List ℕ) → FailsAs e (outcome_on format lines reader (k + length piece) (piece ++ rest))) → StopsBy format limit initial next r
   stops_refused r y e initial now next piece more limit lines reader room left p q c s k none of_lines fails =
       subst (λ (x : Result R ReadError). StopsBy format limit initial next x) (sym (p ∙ ap Err q)) (stops limit initial now next (piece ++ more) lines reader room (Err e) c s none
-      (λ rest is. settled limit c.read (piece ++ more) rest e of_lines (λ after. subst (λ (o : Result R ReadError). FailsAs e o) (whatever initial now piece more after limit lines reader room left c k) (fails left (more ++ after)))))
+      (λ rest is. settled limit c.read (piece ++ more) rest e of_lines
+      (λ after. subst (λ (o : Result R ReadError). FailsAs e o) (whatever initial now piece more after limit lines reader room left c k)
+      (fails left (more ++ after)))))
 
   -- more than may come, of which the front has no fault
-  pub stops_over : (initial now next : Option (List ℕ)) (piece more : List ℕ) (limit : ℕ) (lines new : Unread) (reader r : S) (room : ℕ) → Continues format initial now limit lines reader room → Consumes now next (piece ++ more) → room ≡ length piece → 0 < length more
-      → cut lines.bytes ≡ None → cut new.bytes ≡ None → ((k : ℕ) (rest : List ℕ) → outcome_on format new r k rest ≡ outcome_on format lines reader (k + length piece) (piece ++ rest)) → StopsBy format limit initial next (Err errors.TooLong)
+  pub stops_over : (initial now next : Option (List ℕ)) (piece more : List ℕ) (limit : ℕ) (lines new : Unread) (reader r : S) (room : ℕ) →
+      Continues format initial now limit lines reader room → Consumes now next (piece ++ more) → room ≡ length piece → 0 < length more
+      → cut lines.bytes ≡ None → cut new.bytes ≡ None →
+      ((k : ℕ) (rest : List ℕ) → outcome_on format new r k rest ≡ outcome_on format lines reader (k + length piece) (piece ++ rest)) →
+      StopsBy format limit initial next (Err errors.TooLong)
   stops_over initial now next piece more limit lines new reader r room c s k lt none none_new same =
       let k0 : room ≡ 0 + length piece = omega (arith, k) in
       stops limit initial now next (piece ++ more) lines reader room (Err errors.TooLong) c s none
-      (λ rest is after. sym (same 0 (more ++ after) ∙ whatever initial now piece more after limit lines reader room 0 c k0) ∙ too_long format new r (more ++ after) none_new (omega (arith, lt, length-append more after)))
+      (λ rest is after. sym (same 0 (more ++ after) ∙ whatever initial now piece more after limit lines reader room 0 c k0)
+      ∙ too_long format new r (more ++ after) none_new (omega (arith, lt, length-append more after)))
 
 -- the program of an aspif text is sound
 pub sound_text : (result : Result Program ReadError) → (text : List ℕ) × ReadsText result (outcome text) → IfOk result IsSound

@@ -60,7 +60,8 @@ pub far_has : (near : List Bool) (keys : List ℕ) (S : Atoms) (a : ℕ) → set
 far_has near keys S a v h = known_is near keys S a v ∙ ap (λ b. b || has keys a) h
 
 -- the set of a table with one more atom
-pub put_near : (old new : List Bool) (keys : List ℕ) (a : ℕ) → ((q : ℕ) → get_or new q false ≡ (nat_eq a q || get_or old q false)) → set_of (together new keys) ≡ with_atom a (set_of (together old keys))
+pub put_near : (old new : List Bool) (keys : List ℕ) (a : ℕ) → ((q : ℕ) → get_or new q false ≡ (nat_eq a q || get_or old q false)) →
+    set_of (together new keys) ≡ with_atom a (set_of (together old keys))
 put_near old new keys a h = same_from_has (set_of (together new keys)) (with_atom a (set_of (together old keys))) (IsAscending-set_of (together new keys))
     (IsAscending-with_atom a (set_of (together old keys)) (IsAscending-set_of (together old keys)))
     (λ q. together_has new keys q ∙ ap (λ b. b || has keys q) (h q) ∙ sym (or_joined (nat_eq a q) (get_or old q false) (has keys q)) ∙
@@ -72,7 +73,8 @@ or_between true false c = refl
 or_between false b c = refl
 
 -- the set of others with one more atom
-pub put_far : (near : List Bool) (old new : List ℕ) (a : ℕ) → ((q : ℕ) → list_any (nat_eq q) new ≡ cond (nat_eq a q) true (list_any (nat_eq q) old)) → set_of (together near new) ≡ with_atom a (set_of (together near old))
+pub put_far : (near : List Bool) (old new : List ℕ) (a : ℕ) → ((q : ℕ) → list_any (nat_eq q) new ≡ cond (nat_eq a q) true (list_any (nat_eq q) old)) →
+    set_of (together near new) ≡ with_atom a (set_of (together near old))
 put_far near old new a h = same_from_has (set_of (together near new)) (with_atom a (set_of (together near old))) (IsAscending-set_of (together near new))
     (IsAscending-with_atom a (set_of (together near old)) (IsAscending-set_of (together near old)))
     (λ q. together_has near new q ∙ ap (λ b. get_or near q false || b) (sym (member new q) ∙ h q ∙ rw (member old q) (test_is (nat_eq a q) (has old q))) ∙

@@ -101,10 +101,14 @@ many_given atom one P each (suc n) known line roomy = given_then _ _ _ _ (each k
     given_then _ _ _ _ (many_given atom one P each n (with_atom (atom first.0) known) first.1 (roomy_more known (atom first.0) roomy is.1)) (λ others are.
     given _ _ (ap suc are.0, (is.0, are.1), are.2)))
 
-pub literals_given : (used : ℕ) (known : Atoms) (line : List ℕ) → IsRoomy known → Given (literals_at used known line) (λ x. (used + length x.0 ≤ most_counted) × AllByRecursion IsLiteral x.0 × IsRoomy (with_atoms known (map atom_of x.0)))
+pub literals_given : (used : ℕ) (known : Atoms) (line : List ℕ) → IsRoomy known →
+    Given (literals_at used known line) (λ x. (used + length x.0 ≤ most_counted) × AllByRecursion IsLiteral x.0 ×
+    IsRoomy (with_atoms known (map atom_of x.0)))
 literals_given used known line roomy = given_then _ _ _ _ (count_given used line) (λ n few.
     given_after _ _ _ (many_given atom_of literal_at IsLiteral literal_given n.0 known n.1 roomy) (λ x are. (omega (arith, are.0), are.1, are.2)))
 
-pub weights_given : (used : ℕ) (low : ℤ) (known : Atoms) (line : List ℕ) → IsRoomy known → Given (weights_at used low known line) (λ x. (used + length x.0 ≤ most_counted) × AllByRecursion (IsWeighted low) x.0 × IsRoomy (with_atoms known (map weighted_atom x.0)))
+pub weights_given : (used : ℕ) (low : ℤ) (known : Atoms) (line : List ℕ) → IsRoomy known →
+    Given (weights_at used low known line) (λ x. (used + length x.0 ≤ most_counted) × AllByRecursion (IsWeighted low) x.0 ×
+    IsRoomy (with_atoms known (map weighted_atom x.0)))
 weights_given used low known line roomy = given_then _ _ _ _ (count_given used line) (λ n few.
     given_after _ _ _ (many_given weighted_atom (weighted_at low) (IsWeighted low) (weighted_given low) n.0 known n.1 roomy) (λ x are. (omega (arith, are.0), are.1, are.2)))

@@ -31,7 +31,8 @@ record HeadGiven (used : ℕ) (known : Atoms) (head : Head) : Type 0 where
   few : used + head_size head ≤ most_counted
   roomy : IsRoomy (with_atoms known (head_atoms head))
 
-head_from : (used : ℕ) (known : Atoms) (kind : ℕ) (atoms : List ℕ) → (kind == 0 && nat_lt 1 (length atoms)) ≡ false → AllByRecursion IsAtom atoms → used + length atoms ≤ most_counted → IsRoomy (with_atoms known atoms) → HeadGiven used known (head_of kind atoms)
+head_from : (used : ℕ) (known : Atoms) (kind : ℕ) (atoms : List ℕ) → (kind == 0 && nat_lt 1 (length atoms)) ≡ false → AllByRecursion IsAtom atoms →
+    used + length atoms ≤ most_counted → IsRoomy (with_atoms known atoms) → HeadGiven used known (head_of kind atoms)
 head_from used known kind [] fits is few roomy = elim (kind == 0) as (λ b. HeadGiven used known (if b then Never else Choice [])) [
   | true ↦ record { within = tt; few = few; roomy = roomy }
   | false ↦ record { within = tt; few = few; roomy = roomy }
@@ -99,7 +100,8 @@ unfolding rule_at
 rule_given used seen known line roomy = given_then _ _ _ _ (head_given used known line roomy) (λ head h.
     given_then _ _ _ _ (body_given (used + head_size head.0) (with_atoms known (head_atoms head.0)) head.1 h.roomy) (λ body b.
     let both : IsRoomy (with_atoms known (head_atoms head.0 ++ body_atoms body.0)) = rw (fold-append (λ T a. with_atom a T) known (head_atoms head.0) (body_atoms body.0)) b.roomy in
-    let rule : StatementGiven used seen known (say.Rule (record { head = head.0; body = body.0 })) = record { within = (h.within, b.within); few = omega (arith, b.few); priority = tt; roomy = both } in
+    let rule : StatementGiven used seen known (say.Rule (record { head = head.0; body = body.0 })) =
+    record { within = (h.within, b.within); few = omega (arith, b.few); priority = tt; roomy = both } in
     given _ _ rule))
 
 minimize_given : (used : ℕ) (seen : List ℤ) (known : Atoms) (line : List ℕ) → IsRoomy known → Given (minimize_at used seen known line) (λ x. StatementGiven used seen known (say.Minimize x.0))
@@ -123,13 +125,16 @@ unfolding output_at
 output_given used seen known line one roomy = given_then _ _ _ _ (natural_given 0 most_bytes line) (λ m within.
     let rest : IsOneLine m.1 = rw within.2 (one_line_after line one) in
     given_then _ _ _ _ (text_given m.0 m.1 rest) (λ text is. given_then _ _ _ _ (literals_given used known text.1 roomy) (λ condition are.
-    let output : StatementGiven used seen known (say.Output (record { text = text.0; condition = condition.0 })) = record { within = (omega (arith, is.0, within.1), is.1, are.1); few = are.0; priority = tt; roomy = are.2 } in
+    let output : StatementGiven used seen known (say.Output (record { text = text.0; condition = condition.0 })) =
+    record { within = (omega (arith, is.0, within.1), is.1, are.1); few = are.0; priority = tt; roomy = are.2 } in
     given _ _ output)))
 
-external_given : (used : ℕ) (seen : List ℤ) (known : Atoms) (line : List ℕ) → used ≤ most_counted → IsRoomy known → Given (external_at known line) (λ x. StatementGiven used seen known (say.External x.0))
+external_given : (used : ℕ) (seen : List ℤ) (known : Atoms) (line : List ℕ) → used ≤ most_counted → IsRoomy known →
+    Given (external_at known line) (λ x. StatementGiven used seen known (say.External x.0))
 unfolding external_at
 external_given used seen known line few roomy = given_then _ _ _ _ (atom_given known line) (λ atom is. given_then _ _ _ _ (natural_given 0 3 atom.1) (λ number _.
-    let external : StatementGiven used seen known (say.External (record { atom = atom.0; value = value_of number.0 })) = record { within = is.0; few = omega arith; priority = tt; roomy = roomy_more known atom.0 roomy is.1 } in
+    let external : StatementGiven used seen known (say.External (record { atom = atom.0; value = value_of number.0 })) =
+    record { within = is.0; few = omega arith; priority = tt; roomy = roomy_more known atom.0 roomy is.1 } in
     given _ _ external))
 
 -- ---- lines
@@ -140,7 +145,8 @@ alone_given x P p = given_then _ _ _ _ (given_itself (ended x.1)) (λ _ _. given
 pub one_given : {A : Type 0} (read : Reads A) (make : A → Statement) (Q : Statement → Type 0) → Given read (λ x. Q (make x.0)) → Given (read >>= alone >>= λ x. Ok (make x)) Q
 one_given read make Q g = given_then _ _ (λ x. Q (make x)) Q (given_then read alone (λ x. Q (make x.0)) (λ x. Q (make x)) g (λ x q. alone_given x (λ y. Q (make y)) q)) (λ x q. given (make x) Q q)
 
-pub of_kind_given : (kind used : ℕ) (seen : List ℤ) (known : Atoms) (line : List ℕ) → used ≤ most_counted → IsOneLine line → IsRoomy known → Given (of_kind kind used seen known line) (StatementGiven used seen known)
+pub of_kind_given : (kind used : ℕ) (seen : List ℤ) (known : Atoms) (line : List ℕ) → used ≤ most_counted → IsOneLine line → IsRoomy known →
+    Given (of_kind kind used seen known line) (StatementGiven used seen known)
 unfolding of_kind
 of_kind_given kind used seen known line few one roomy =
     given_if (kind == 0) _ _ _ (λ _. alone_given (say.End, line) _ nothing) (λ _.
@@ -163,9 +169,12 @@ of_kind_given kind used seen known line few one roomy =
     assume : Given (literals_at used known line) (λ x. StatementGiven used seen known (say.Assume x.0))
     assume = given_after _ _ _ (literals_given used known line roomy) (λ x are. record { within = are.1; few = are.0; priority = tt; roomy = are.2 })
 
-pub statement_given : (used : ℕ) (seen : List ℤ) (known : Atoms) (line : List ℕ) → used ≤ most_counted → IsOneLine line → IsRoomy known → Given (statement_with used seen known line) (StatementGiven used seen known)
+pub statement_given : (used : ℕ) (seen : List ℤ) (known : Atoms) (line : List ℕ) → used ≤ most_counted → IsOneLine line → IsRoomy known →
+    Given (statement_with used seen known line) (StatementGiven used seen known)
 unfolding statement_with
 statement_given used seen known line few one roomy =
-    given_then _ _ _ _ (given_then _ _ (λ _. Unit {0}) (λ x. x.1 ≡ after_field line) (given_after _ _ _ (given_itself (kind_in line (integer_of (field_of line)))) (λ _ _. tt)) (λ kind _. given (kind, after_field line) _ refl)) (λ kind rest.
+    given_then _ _ _ _ (given_then _ _ (λ _. Unit {0}) (λ x. x.1 ≡ after_field line)
+    (given_after _ _ _ (given_itself (kind_in line (integer_of (field_of line)))) (λ _ _. tt))
+    (λ kind _. given (kind, after_field line) _ refl)) (λ kind rest.
     let later : IsOneLine kind.1 = rw rest (one_line_after line one) in
     of_kind_given kind.0 used seen known kind.1 few later roomy)

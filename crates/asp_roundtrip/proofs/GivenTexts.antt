@@ -63,9 +63,11 @@ given_told line (Ok x) P g = given x P (g.each x refl)
 given_told line (Err b) P g = given_none _ _
 
 pub judge_given : (seen : Seen) (line : List ℕ) → IsOneLine line → IsGood seen → Given (judge_by aspif seen line) IsGood
-judge_given seen line one kept = given_told line (judge_line seen line) _ (given_if (length (unblank line) == 0) _ _ _ (λ _. given _ _ kept) (λ _. filled_given seen.stage seen.program seen.known line one kept))
+judge_given seen line one kept = given_told line (judge_line seen line) _
+    (given_if (length (unblank line) == 0) _ _ _ (λ _. given _ _ kept) (λ _. filled_given seen.stage seen.program seen.known line one kept))
 
-next_given : (number : ℕ) (read : Result Seen Fault) (go_on : Seen → Result Seen ReadError) → Given read IsGood → ((s : Seen) → IsGood s → Given (go_on s) IsGood) → Given (judge_next number read go_on) IsGood
+next_given : (number : ℕ) (read : Result Seen Fault) (go_on : Seen → Result Seen ReadError) → Given read IsGood →
+    ((s : Seen) → IsGood s → Given (go_on s) IsGood) → Given (judge_next number read go_on) IsGood
 next_given number (Ok seen) go_on g h = h seen (g.each seen refl)
 next_given number (Err f) go_on g h = given_none _ _
 

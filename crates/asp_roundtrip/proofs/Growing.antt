@@ -105,12 +105,16 @@ nothing_kept = record {
   roomy = record { ascending = tt; few = omega arith };
 }
 
-each_still : {X : Type 0} (make : X → Statement) (known : Atoms) (atoms : List ℕ) (xs : List X) → AllByRecursion (λ x. StandsIn known (make x)) xs → AllByRecursion (λ x. StandsIn (with_atoms known atoms) (make x)) xs
+each_still : {X : Type 0} (make : X → Statement) (known : Atoms) (atoms : List ℕ) (xs : List X) → AllByRecursion (λ x. StandsIn known (make x)) xs →
+    AllByRecursion (λ x. StandsIn (with_atoms known atoms) (make x)) xs
 each_still make known atoms xs h = each_weaker (λ x. StandsIn known (make x)) (λ x. StandsIn (with_atoms known atoms) (make x)) (λ x. stands_still known atoms (make x)) xs h
 
-one_more : {X : Type 0} (make : X → Statement) (known : Atoms) (x : X) (xs : List X) → IsStatement (make x) → AllByRecursion (λ y. StandsIn known (make y)) xs → AllByRecursion (λ y. StandsIn (with_atoms known (statement_atoms (make x))) (make y)) (xs ++ x ∷ [])
+one_more : {X : Type 0} (make : X → Statement) (known : Atoms) (x : X) (xs : List X) → IsStatement (make x) →
+    AllByRecursion (λ y. StandsIn known (make y)) xs →
+    AllByRecursion (λ y. StandsIn (with_atoms known (statement_atoms (make x))) (make y)) (xs ++ x ∷ [])
 one_more make known x xs is h =
-    each-append (λ y. StandsIn (with_atoms known (statement_atoms (make x))) (make y)) xs (x ∷ []) (each_still make known (statement_atoms (make x)) xs h) ((is, has_now known (statement_atoms (make x))), tt)
+    each-append (λ y. StandsIn (with_atoms known (statement_atoms (make x))) (make y)) xs (x ∷ [])
+    (each_still make known (statement_atoms (make x)) xs h) ((is, has_now known (statement_atoms (make x))), tt)
 
 all_still : (known : Atoms) (atoms : List ℕ) (p : Program) → AreKept known p → AreKept (with_atoms known atoms) p
 all_still known atoms p kept = record {

@@ -65,7 +65,8 @@ lines_more front more = ap lines_of (append_assoc front (10 ∷ []) more) ∙ ap
 
 -- ---- lines that are judged one after another
 
-next_leads : (number : ℕ) (j : Result Seen Fault) (f g : Seen → Result Seen ReadError) (s : Seen) (r : Result Seen ReadError) → ((t : Seen) → f t ≡ Ok s → g t ≡ r) → judge_next number j f ≡ Ok s → judge_next number j g ≡ r
+next_leads : (number : ℕ) (j : Result Seen Fault) (f g : Seen → Result Seen ReadError) (s : Seen) (r : Result Seen ReadError) →
+    ((t : Seen) → f t ≡ Ok s → g t ≡ r) → judge_next number j f ≡ Ok s → judge_next number j g ≡ r
 next_leads number (Ok t) f g s r h e = h t e
 next_leads number (Err x) f g s r h e = absurd cc
 
@@ -83,7 +84,8 @@ leads number seen s (l ∷ ls) more e =
     next_leads number (judge_by aspif seen l) (λ t. judge_all aspif (number + 1) t ls) (λ t. judge_all aspif (number + 1) t (ls ++ more)) s (judge_all aspif (number + length (l ∷ ls)) s more)
     (λ t q. leads (number + 1) t s ls more q ∙ ap (λ n. judge_all aspif n s more) one_more) e
 
-next_led : (number : ℕ) (j : Result Seen Fault) (f g : Seen → Result Seen ReadError) (e : Seen) → ((t : Seen) → g t ≡ Ok e → (s : Seen) × (f t ≡ Ok s)) → judge_next number j g ≡ Ok e → (s : Seen) × (judge_next number j f ≡ Ok s)
+next_led : (number : ℕ) (j : Result Seen Fault) (f g : Seen → Result Seen ReadError) (e : Seen) →
+    ((t : Seen) → g t ≡ Ok e → (s : Seen) × (f t ≡ Ok s)) → judge_next number j g ≡ Ok e → (s : Seen) × (judge_next number j f ≡ Ok s)
 next_led number (Ok t) f g e h q = h t q
 next_led number (Err x) f g e h q = absurd cc
 
@@ -95,7 +97,8 @@ led number seen e (l ∷ ls) more h =
     next_led number (judge_by aspif seen l) (λ t. judge_all aspif (number + 1) t ls) (λ t. judge_all aspif (number + 1) t (ls ++ more)) e (λ t q. led (number + 1) t e ls more q) h
 
 -- a line 0 is judged within a program alone, which it ends
-ends : (number : ℕ) (stage : Stage) (p : Program) (known : Atoms) (e : Seen) → judge_all aspif number (record { stage = stage; program = p; known = known }) (codes "0" ∷ []) ≡ Ok e → (stage ≡ Within) × (e.program ≡ p)
+ends : (number : ℕ) (stage : Stage) (p : Program) (known : Atoms) (e : Seen) →
+    judge_all aspif number (record { stage = stage; program = p; known = known }) (codes "0" ∷ []) ≡ Ok e → (stage ≡ Within) × (e.program ≡ p)
 unfolding judge_all header_at statement_with of_kind
 ends number Start p known e h = absurd cc
 ends number Within p known e h = (refl, ap (λ (s : Seen). s.program) (sym (same_seen (record { stage = Ended; program = p; known = known }) e h)))
@@ -111,7 +114,8 @@ at_ended number Start q p h = absurd cc
 at_ended number Within q p h = absurd cc
 at_ended number Ended q p h = cc
 
-by_room : (b : Bool) (j k : Result Seen ReadError) (number : ℕ) (p : Program) → (if b then (j >>= λ end. at_end number end.stage end.program) else (k >>= λ _. Err TooLong)) ≡ Ok p → (e : Seen) × (j ≡ Ok e) × (e.program ≡ p)
+by_room : (b : Bool) (j k : Result Seen ReadError) (number : ℕ) (p : Program) →
+    (if b then (j >>= λ end. at_end number end.stage end.program) else (k >>= λ _. Err TooLong)) ≡ Ok p → (e : Seen) × (j ≡ Ok e) × (e.program ≡ p)
 by_room true (Ok e) k number p h = (e, refl, at_ended number e.stage e.program p h)
 by_room true (Err x) k number p h = absurd cc
 by_room false j (Ok e) number p h = absurd cc
@@ -153,13 +157,16 @@ standing_ranges p a is h =
 -- ---- the text of a part
 
 -- the line of the cube leads on
-cube_reaches : (front : List ℕ) (p : Program) (known : Atoms) (cube : List ℤ) → IsKept known p → IsPartOf front p cube → Reaches known (at p known) (line (assumptions_text cube)) (adds p (say.Assume cube))
+cube_reaches : (front : List ℕ) (p : Program) (known : Atoms) (cube : List ℤ) → IsKept known p → IsPartOf front p cube →
+    Reaches known (at p known) (line (assumptions_text cube)) (adds p (say.Assume cube))
 cube_reaches front p known cube kept part =
     let K : ℕ → Type 0 = λ a. has known a ≡ true in
     let Stands : ℤ → Type 0 = λ l. has (atoms_of p) (atom_of l) ≡ true in
     let in_range : AllByRecursion IsLiteral cube = each_weaker Stands IsLiteral (λ l stands. standing_ranges p (atom_of l) (readable known p kept) stands) cube part.stand in
     let in_known : HasEach known (map atom_of cube) =
-    each-map K atom_of cube (each_weaker Stands (λ l. K (atom_of l)) (λ l stands. has_one known (mentions p) (atom_of l) (mentions_kept known p kept.statements) (sym (has-set_of (mentions p) (atom_of l)) ∙ stands)) cube part.stand) in
+    each-map K atom_of cube (each_weaker Stands (λ l. K (atom_of l))
+    (λ l stands. has_one known (mentions p) (atom_of l) (mentions_kept known p kept.statements)
+    (sym (has-set_of (mentions p) (atom_of l)) ∙ stands)) cube part.stand) in
     let stands : StandsIn known (say.Assume cube) = (in_range, in_known) in
     let fits : Fits (adds p (say.Assume cube)) = record { counted = omega (arith, size_grows p (say.Assume cube), part.few_counted); priorities_few = kept.few_priorities } in
     let itself : IsPart known known = record { ascending = kept.roomy.ascending; subset = λ a h. h } in

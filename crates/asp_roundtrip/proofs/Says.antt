@@ -20,7 +20,8 @@ first_line : (bytes more : List ℕ) → IsPlain bytes → lines_of (line bytes 
 first_line bytes more plain =
     ap lines_of (append_assoc bytes (10 ∷ []) more) ∙ rw (first_piece bytes more plain.one, plain.end) refl
 
-leads_on : (seen after : Seen) (bytes : List ℕ) → IsPlain bytes → judge_by aspif seen bytes ≡ Ok after → (number : ℕ) (more : List ℕ) → judge_all aspif number seen (lines_of (line bytes ++ more)) ≡ judge_all aspif (number + 1) after (lines_of more)
+leads_on : (seen after : Seen) (bytes : List ℕ) → IsPlain bytes → judge_by aspif seen bytes ≡ Ok after → (number : ℕ) (more : List ℕ) →
+    judge_all aspif number seen (lines_of (line bytes ++ more)) ≡ judge_all aspif (number + 1) after (lines_of more)
 unfolding judge_all
 leads_on seen after bytes plain e number more = ap (judge_all aspif number seen) (first_line bytes more plain) ∙ rw e refl
 

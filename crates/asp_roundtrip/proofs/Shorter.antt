@@ -52,10 +52,12 @@ without_sign ds z (Some n) e is short =
 
 integer_shorter : (word : List ℕ) (z : ℤ) → integer_of word ≡ Some z → IsShort z → length (signed_decimal z) ≤ length word
 integer_shorter [] z e short = absurd cc
-integer_shorter (b ∷ bs) z e short = (elim (eqb b 45) as (λ v. (if v then option_map (λ n. neg_ℤ (pos n)) (natural_of bs) else option_map pos (natural_of (b ∷ bs))) ≡ Some z → length (signed_decimal z) ≤ suc (length bs)) [
-  | true ↦ λ h. behind_sign bs z (natural_of bs) refl h short
-  | false ↦ λ h. without_sign (b ∷ bs) z (natural_of (b ∷ bs)) refl h short
-]) e
+integer_shorter (b ∷ bs) z e short = (elim (eqb b 45) as
+    (λ v. (if v then option_map (λ n. neg_ℤ (pos n)) (natural_of bs) else option_map pos (natural_of (b ∷ bs))) ≡ Some z →
+    length (signed_decimal z) ≤ suc (length bs)) [
+      | true ↦ λ h. behind_sign bs z (natural_of bs) refl h short
+      | false ↦ λ h. without_sign (b ∷ bs) z (natural_of (b ∷ bs)) refl h short
+    ]) e
 
 -- ---- fields
 
@@ -145,7 +147,8 @@ weighted_shorter low few known line e = given_then _ _ _ _ (literal_shorter know
 
 -- ---- many of them
 
-pub many_shorter : {A : Type 0} (atom : A → ℕ) (one : Atoms → List ℕ → Reads A) (text : A → List ℕ) → ((known : Atoms) (line : List ℕ) → ends_field line ≡ true → Given (one known line) (λ x. Shorter line (text x.0) x.1))
+pub many_shorter : {A : Type 0} (atom : A → ℕ) (one : Atoms → List ℕ → Reads A) (text : A → List ℕ) →
+    ((known : Atoms) (line : List ℕ) → ends_field line ≡ true → Given (one known line) (λ x. Shorter line (text x.0) x.1))
     → (n : ℕ) (known : Atoms) (line : List ℕ) → ends_field line ≡ true → Given (many_at atom one n known line) (λ x. (length x.0 ≡ n) × Shorter line (flat_map text x.0) x.1)
 unfolding many_at
 many_shorter atom one text each zero known line e = given _ _ (refl, record { fits = omega arith; next = e })
@@ -156,15 +159,19 @@ many_shorter atom one text each (suc n) known line e = given_then _ _ _ _ (each 
 
 pub count_shorter : (used : ℕ) (line : List ℕ) → ends_field line ≡ true → Given (count_at used line) (λ x. Shorter line (natural_field x.0) x.1)
 unfolding count_at
-count_shorter used line e = given_then _ _ _ _ (natural_shorter 0 most line (omega arith) e) (λ n shorter. given_if (nat_lt most_counted (used + n.0)) _ _ _ (λ t. given_none _ _) (λ f. given _ _ shorter))
+count_shorter used line e = given_then _ _ _ _ (natural_shorter 0 most line (omega arith) e)
+    (λ n shorter. given_if (nat_lt most_counted (used + n.0)) _ _ _ (λ t. given_none _ _) (λ f. given _ _ shorter))
 
-counted_both : {A : Type 0} (text : A → List ℕ) (xs : List A) (n : ℕ) (line between after : List ℕ) → length xs ≡ n → Shorter line (natural_field n) between → Shorter between (flat_map text xs) after → Shorter line (counted_fields text xs) after
+counted_both : {A : Type 0} (text : A → List ℕ) (xs : List A) (n : ℕ) (line between after : List ℕ) → length xs ≡ n →
+    Shorter line (natural_field n) between → Shorter between (flat_map text xs) after → Shorter line (counted_fields text xs) after
 counted_both text xs n line between after same a b = shorter_both line (natural_field (length xs)) between (flat_map text xs) after (rw same a) b
 
 pub literals_shorter : (used : ℕ) (known : Atoms) (line : List ℕ) → ends_field line ≡ true → Given (literals_at used known line) (λ x. Shorter line (counted_fields integer_field x.0) x.1)
 literals_shorter used known line e = given_then _ _ _ _ (count_shorter used line e) (λ n a.
     given_after _ _ _ (many_shorter atom_of literal_at integer_field literal_shorter n.0 known n.1 a.next) (λ x b. counted_both integer_field x.0 n.0 line n.1 x.1 b.0 a b.1))
 
-pub weights_shorter : (used : ℕ) (low : ℤ) → IsShort low → (known : Atoms) (line : List ℕ) → ends_field line ≡ true → Given (weights_at used low known line) (λ x. Shorter line (counted_fields weighted_fields x.0) x.1)
+pub weights_shorter : (used : ℕ) (low : ℤ) → IsShort low → (known : Atoms) (line : List ℕ) → ends_field line ≡ true →
+    Given (weights_at used low known line) (λ x. Shorter line (counted_fields weighted_fields x.0) x.1)
 weights_shorter used low few known line e = given_then _ _ _ _ (count_shorter used line e) (λ n a.
-    given_after _ _ _ (many_shorter weighted_atom (weighted_at low) weighted_fields (weighted_shorter low few) n.0 known n.1 a.next) (λ x b. counted_both weighted_fields x.0 n.0 line n.1 x.1 b.0 a b.1))
+    given_after _ _ _ (many_shorter weighted_atom (weighted_at low) weighted_fields (weighted_shorter low few) n.0 known n.1 a.next)
+    (λ x b. counted_both weighted_fields x.0 n.0 line n.1 x.1 b.0 a b.1))

@@ -65,7 +65,8 @@ head_shorter used known line e = given_then _ _ _ _ (given_both _ _ _ (natural_g
     given_then _ _ _ _ (many_shorter (λ atom. atom) atom_at natural_field atom_shorter m.0 known m.1 b.1.next) (λ atoms c.
     let two = shorter_both line (natural_field kind.0) kind.1 (natural_field m.0) m.1 a.1 b.1 in
     let three = shorter_both line (natural_field kind.0 ++ natural_field m.0) m.1 (flat_map natural_field atoms.0) atoms.1 two c.1 in
-    let fits : length (head_fields (head_of kind.0 atoms.0)) ≤ length (natural_field kind.0 ++ natural_field m.0 ++ flat_map natural_field atoms.0) = rw (← c.0) (head_fits kind.0 atoms.0 a.0.1 (omega (arith, c.0, b.0.1))) in
+    let fits : length (head_fields (head_of kind.0 atoms.0)) ≤ length (natural_field kind.0 ++ natural_field m.0 ++ flat_map natural_field atoms.0) =
+    rw (← c.0) (head_fits kind.0 atoms.0 a.0.1 (omega (arith, c.0, b.0.1))) in
     let shorter = shorter_still line (natural_field kind.0 ++ natural_field m.0 ++ flat_map natural_field atoms.0) (head_fields (head_of kind.0 atoms.0)) atoms.1 three fits in
     given _ _ shorter)))))
 
@@ -78,7 +79,8 @@ body_shorter used known line e = given_then _ _ _ _ (given_both _ _ _ (natural_g
     (λ t. given_then _ _ _ _ (literals_shorter used known kind.1 a.1.next) (λ ls b.
     let both : Shorter line (body_fields (All ls.0)) ls.1 = shorter_both line (codes " 0") kind.1 (counted_fields integer_field ls.0) ls.1 first b in
     given _ _ both))
-    (λ f. given_then _ _ _ _ (integer_shorter_at (negsuc most) kind.1 (omega arith) a.1.next) (λ bound b. given_then _ _ _ _ (weights_shorter used (pos 0) (omega arith) known bound.1 b.next) (λ items c.
+    (λ f. given_then _ _ _ _ (integer_shorter_at (negsuc most) kind.1 (omega arith) a.1.next)
+    (λ bound b. given_then _ _ _ _ (weights_shorter used (pos 0) (omega arith) known bound.1 b.next) (λ items c.
     let two = shorter_both line (codes " 1") kind.1 (integer_field bound.0) bound.1 other b in
     let three : Shorter line (body_fields (AtLeast bound.0 items.0)) items.1 = shorter_both line (codes " 1" ++ integer_field bound.0) bound.1 (counted_fields weighted_fields items.0) items.1 two c in
     given _ _ three))))
@@ -92,9 +94,12 @@ rule_shorter used known line e = given_then _ _ _ _ (head_shorter used known lin
 
 -- ---- other statements
 
-minimize_shorter : (used : ℕ) (seen : List ℤ) (known : Atoms) (line : List ℕ) → ends_field line ≡ true → Given (minimize_at used seen known line) (λ x. Shorter line (integer_field x.0.priority ++ counted_fields weighted_fields x.0.items) x.1)
+minimize_shorter : (used : ℕ) (seen : List ℤ) (known : Atoms) (line : List ℕ) → ends_field line ≡ true →
+    Given (minimize_at used seen known line) (λ x. Shorter line (integer_field x.0.priority ++ counted_fields weighted_fields x.0.items) x.1)
 unfolding minimize_at
-minimize_shorter used seen known line e = given_then _ _ _ _ (integer_shorter_at (negsuc most) line (omega arith) e) (λ priority a. given_if (is_too_many priority.0 seen) _ _ _ (λ t. given_none _ _) (λ _.
+minimize_shorter used seen known line e =
+    given_then _ _ _ _ (integer_shorter_at (negsuc most) line (omega arith) e)
+    (λ priority a. given_if (is_too_many priority.0 seen) _ _ _ (λ t. given_none _ _) (λ _.
     given_then _ _ _ _ (weights_shorter used (negsuc most) (omega arith) known priority.1 a.next) (λ items b.
     let both = shorter_both line (integer_field priority.0) priority.1 (counted_fields weighted_fields items.0) items.1 a b in
     given _ _ both)))
@@ -129,8 +134,10 @@ value_short value.Release = omega arith
 
 external_shorter : (known : Atoms) (line : List ℕ) → ends_field line ≡ true → Given (external_at known line) (λ x. Shorter line (natural_field x.0.atom ++ external_field x.0.value) x.1)
 unfolding external_at
-external_shorter known line e = given_then _ _ _ _ (atom_shorter known line e) (λ atom a. given_then _ _ _ _ (given_both _ _ _ (natural_given 0 3 atom.1) (natural_shorter 0 3 atom.1 (omega arith) a.next)) (λ number b.
-    let second = shorter_still atom.1 (natural_field number.0) (external_field (value_of number.0)) number.1 b.1 (omega (arith, value_short (value_of number.0), long_field number.0 (omega (arith, b.0.1)))) in
+external_shorter known line e = given_then _ _ _ _ (atom_shorter known line e)
+    (λ atom a. given_then _ _ _ _ (given_both _ _ _ (natural_given 0 3 atom.1) (natural_shorter 0 3 atom.1 (omega arith) a.next)) (λ number b.
+    let second = shorter_still atom.1 (natural_field number.0) (external_field (value_of number.0)) number.1 b.1
+    (omega (arith, value_short (value_of number.0), long_field number.0 (omega (arith, b.0.1)))) in
     let both = shorter_both line (natural_field atom.0) atom.1 (external_field (value_of number.0)) number.1 a second in
     given _ _ both))
 
@@ -206,7 +213,9 @@ header_fields name version minor revision t =
       some_revision = natural_some revision third.1;
     }
 
-header_long : (line : List ℕ) → is_header (field_of line) (field_of (after_field line)) (field_of (after_field (after_field line))) (field_of (after_field (after_field (after_field line)))) ≡ true → 9 ≤ length line
+header_long : (line : List ℕ) →
+    is_header (field_of line) (field_of (after_field line)) (field_of (after_field (after_field line)))
+    (field_of (after_field (after_field (after_field line)))) ≡ true → 9 ≤ length line
 header_long line t =
     let version = after_field line in
     let minor = after_field version in

@@ -66,7 +66,8 @@ line_sum text xs x =
     ap length (flat_map-append (λ y. line (text y)) xs (x ∷ []))
     ∙ omega (arith, length-append (lines text xs) (line (text x) ++ []), length-append (line (text x)) [], length-append (text x) (10 ∷ []))
 
-text_length : (p : Program) → length (text_of p) ≡ 12 + length (lines rule_text p.rules) + length (lines minimize_text p.minimize) + length (lines output_text p.outputs) + length (lines external_text p.externals) + length (assumptions_line p.assumptions)
+text_length : (p : Program) → length (text_of p) ≡ 12 + length (lines rule_text p.rules) + length (lines minimize_text p.minimize) + length
+    (lines output_text p.outputs) + length (lines external_text p.externals) + length (assumptions_line p.assumptions)
 text_length p =
     let r = lines rule_text p.rules in
     let m = lines minimize_text p.minimize in
@@ -97,12 +98,23 @@ assumptions_grow [] (l ∷ ls) few = omega (arith, length-append (assumptions_te
 assumptions_grow (x ∷ xs) ls few =
     let all = (x ∷ xs) ++ ls in
     let fields = ap length (flat_map-append integer_field (x ∷ xs) ls) ∙ length-append (flat_map integer_field (x ∷ xs)) (flat_map integer_field ls) in
-    let count : length (decimal (length all)) ≤ length (decimal (length (x ∷ xs))) + length (decimal (length ls)) + 1 = rw (length-append (x ∷ xs) ls) (decimal_sum (length (x ∷ xs)) (length ls) few) in
-    omega (arith, assumptions_long all, assumptions_long (x ∷ xs), assumptions_long ls, fields, count, length-append (assumptions_text all) (10 ∷ []), length-append (assumptions_text (x ∷ xs)) (10 ∷ []))
+    let count : length (decimal (length all)) ≤ length (decimal (length (x ∷ xs))) + length (decimal (length ls)) + 1 =
+    rw (length-append (x ∷ xs) ls) (decimal_sum (length (x ∷ xs)) (length ls) few) in
+    omega (
+      arith,
+      assumptions_long all,
+      assumptions_long (x ∷ xs),
+      assumptions_long ls,
+      fields,
+      count,
+      length-append (assumptions_text all) (10 ∷ []),
+      length-append (assumptions_text (x ∷ xs)) (10 ∷ []),
+    )
 
 -- how long the statements' lines are
 abbrev total : Program → ℕ
-total p = length (lines rule_text p.rules) + length (lines minimize_text p.minimize) + length (lines output_text p.outputs) + length (lines external_text p.externals) + length (assumptions_line p.assumptions)
+total p = length (lines rule_text p.rules) + length (lines minimize_text p.minimize) + length (lines output_text p.outputs) + length
+    (lines external_text p.externals) + length (assumptions_line p.assumptions)
 
 total_grows : (p : Program) (s : Statement) → program_size (adds p s) ≤ most_counted → total (adds p s) ≤ total p + suc (line_length s)
 total_grows p say.End few = omega arith
@@ -147,11 +159,13 @@ judge_shorter : (seen : Seen) (l : List ℕ) → IsOneLine l → IsGood seen →
 judge_shorter seen l one kept = given_both _ _ _ (judge_given seen l one kept)
     (given_told l (judge_line seen l) _ (given_if (length (unblank l) == 0) _ _ _ (λ _. given _ _ (omega arith)) (λ _. filled_shorter seen.stage seen.program seen.known l one kept)))
 
-next_shorter : (number : ℕ) (read : Result Seen Fault) (go_on : Seen → Result Seen ReadError) (P Q : Seen → Type 0) → Given read P → ((s : Seen) → P s → Given (go_on s) Q) → Given (judge_next number read go_on) Q
+next_shorter : (number : ℕ) (read : Result Seen Fault) (go_on : Seen → Result Seen ReadError) (P Q : Seen → Type 0) → Given read P →
+    ((s : Seen) → P s → Given (go_on s) Q) → Given (judge_next number read go_on) Q
 next_shorter number (Ok seen) go_on P Q g h = h seen (g.each seen refl)
 next_shorter number (Err f) go_on P Q g h = given_none _ _
 
-all_shorter : (number : ℕ) (seen : Seen) (ls : List (List ℕ)) → AllByRecursion IsOneLine ls → IsGood seen → Given (judge_all aspif number seen ls) (λ end. written_of end ≤ written_of seen + lines_length ls)
+all_shorter : (number : ℕ) (seen : Seen) (ls : List (List ℕ)) → AllByRecursion IsOneLine ls → IsGood seen →
+    Given (judge_all aspif number seen ls) (λ end. written_of end ≤ written_of seen + lines_length ls)
 unfolding judge_all
 all_shorter number seen [] each kept = given _ _ (omega arith)
 all_shorter number seen (l ∷ ls) each kept =

@@ -46,16 +46,22 @@ module _ (U : Atoms) (roomy : IsRoomy U) where
   unfolding atom_at
   atom_back known a rest is part there e = rw (natural_back 1 most a rest is.0 is.1 (omega arith) e, room known a (natural_field a ++ rest) part there) refl
 
-  pub literal_back : (known : Atoms) (l : ℤ) (rest : List ℕ) → IsLiteral l → IsPart U known → has U (atom_of l) ≡ true → ends_field rest ≡ true → literal_at known (integer_field l ++ rest) ≡ Ok (l, rest)
+  pub literal_back : (known : Atoms) (l : ℤ) (rest : List ℕ) → IsLiteral l → IsPart U known → has U (atom_of l) ≡ true → ends_field rest ≡ true →
+      literal_at known (integer_field l ++ rest) ≡ Ok (l, rest)
   unfolding literal_at
   literal_back known l rest is part there e =
       let within = integer_within (neg_ℤ (pos most)) l (omega arith) (literal_within l is) in
       rw (integer_back (neg_ℤ (pos most)) (pos most) l rest within e, literal_not_zero l is, room known (atom_of l) (integer_field l ++ rest) part there) refl
 
-  pub weighted_back : (low : ℤ) → IsShort low → (known : Atoms) (item : ℤ × ℤ) (rest : List ℕ) → IsWeighted low item → IsPart U known → has U (weighted_atom item) ≡ true → ends_field rest ≡ true → weighted_at low known (weighted_fields item ++ rest) ≡ Ok (item, rest)
+  pub weighted_back : (low : ℤ) → IsShort low → (known : Atoms) (item : ℤ × ℤ) (rest : List ℕ) → IsWeighted low item → IsPart U known →
+      has U (weighted_atom item) ≡ true → ends_field rest ≡ true → weighted_at low known (weighted_fields item ++ rest) ≡ Ok (item, rest)
   unfolding weighted_at
   weighted_back low short known item rest is part there e =
-      rw (append_assoc (integer_field item.0) (integer_field item.1) rest, literal_back known item.0 (integer_field item.1 ++ rest) is.0 part there refl, integer_back low (pos most) item.1 rest (integer_within low item.1 short is.1) e) refl
+      rw (
+        append_assoc (integer_field item.0) (integer_field item.1) rest,
+        literal_back known item.0 (integer_field item.1 ++ rest) is.0 part there refl,
+        integer_back low (pos most) item.1 rest (integer_within low item.1 short is.1) e,
+      ) refl
 
   module _ {A : Type 0} (atom : A → ℕ) (one : Atoms → List ℕ → Reads A) (text : A → List ℕ) (P : A → Type 0)
       (starts : (x : A) (rest : List ℕ) → ends_field (text x ++ rest) ≡ true)
@@ -64,7 +70,8 @@ module _ (U : Atoms) (roomy : IsRoomy U) where
     all_start [] rest e = e
     all_start (x ∷ xs) rest e = rw (append_assoc (text x) (flat_map text xs) rest) (starts x (flat_map text xs ++ rest))
 
-    pub many_back : (known : Atoms) (xs : List A) (rest : List ℕ) → AllByRecursion P xs → IsPart U known → HasEach U (map atom xs) → ends_field rest ≡ true → many_at atom one (length xs) known (flat_map text xs ++ rest) ≡ Ok (xs, rest)
+    pub many_back : (known : Atoms) (xs : List A) (rest : List ℕ) → AllByRecursion P xs → IsPart U known → HasEach U (map atom xs) →
+        ends_field rest ≡ true → many_at atom one (length xs) known (flat_map text xs ++ rest) ≡ Ok (xs, rest)
     unfolding many_at
     many_back known [] rest are part there e = refl
     many_back known (x ∷ xs) rest are part there e =
@@ -74,7 +81,8 @@ module _ (U : Atoms) (roomy : IsRoomy U) where
           many_back (with_atom (atom x) known) xs rest are.1 (part_more U known (atom x) part there.0) there.1 e,
         ) refl
 
-    pub counted_back : (used : ℕ) (known : Atoms) (xs : List A) (rest : List ℕ) → used + length xs ≤ most_counted → AllByRecursion P xs → IsPart U known → HasEach U (map atom xs) → ends_field rest ≡ true
+    pub counted_back : (used : ℕ) (known : Atoms) (xs : List A) (rest : List ℕ) → used + length xs ≤ most_counted → AllByRecursion P xs →
+        IsPart U known → HasEach U (map atom xs) → ends_field rest ≡ true
         → (count_at used (counted_fields text xs ++ rest) >>= λ n. many_at atom one n.0 known n.1) ≡ Ok (xs, rest)
     counted_back used known xs rest few are part there e =
         rw (
@@ -82,10 +90,15 @@ module _ (U : Atoms) (roomy : IsRoomy U) where
           count_back used (length xs) (flat_map text xs ++ rest) few (all_start xs rest e),
         ) (many_back known xs rest are part there e)
 
-  pub literals_back : (used : ℕ) (known : Atoms) (ls : List ℤ) (rest : List ℕ) → used + length ls ≤ most_counted → AllByRecursion IsLiteral ls → IsPart U known → HasEach U (map atom_of ls) → ends_field rest ≡ true
+  pub literals_back : (used : ℕ) (known : Atoms) (ls : List ℤ) (rest : List ℕ) → used + length ls ≤ most_counted → AllByRecursion IsLiteral ls →
+      IsPart U known → HasEach U (map atom_of ls) → ends_field rest ≡ true
       → literals_at used known (counted_fields integer_field ls ++ rest) ≡ Ok (ls, rest)
   literals_back used known ls rest few are part there e = counted_back atom_of literal_at integer_field IsLiteral (λ l rest. refl) literal_back used known ls rest few are part there e
 
-  pub weights_back : (used : ℕ) (low : ℤ) → IsShort low → (known : Atoms) (items : List (ℤ × ℤ)) (rest : List ℕ) → used + length items ≤ most_counted → AllByRecursion (IsWeighted low) items → IsPart U known → HasEach U (map weighted_atom items) → ends_field rest ≡ true
+  pub weights_back : (used : ℕ) (low : ℤ) → IsShort low → (known : Atoms) (items : List (ℤ × ℤ)) (rest : List ℕ) →
+      used + length items ≤ most_counted → AllByRecursion (IsWeighted low) items → IsPart U known → HasEach U (map weighted_atom items) →
+      ends_field rest ≡ true
       → weights_at used low known (counted_fields weighted_fields items ++ rest) ≡ Ok (items, rest)
-  weights_back used low short known items rest few are part there e = counted_back weighted_atom (weighted_at low) weighted_fields (IsWeighted low) (λ item rest. refl) (weighted_back low short) used known items rest few are part there e
+  weights_back used low short known items rest few are part there e =
+      counted_back weighted_atom (weighted_at low) weighted_fields (IsWeighted low) (λ item rest. refl) (weighted_back low short) used known items
+      rest few are part there e

@@ -46,16 +46,20 @@ weight_short : (low z : ℤ) → IsShort low → IsBetween low (pos most) z → 
 weight_short low z short within = (integer_within low z short within).short
 
 weighted_printed : (low : ℤ) → IsShort low → (item : ℤ × ℤ) → IsWeighted low item → IsPrinted (weighted_fields item)
-weighted_printed low short item is = both_printed (integer_field item.0) (integer_field item.1) (integer_printed item.0 (literal_short item.0 is.0)) (integer_printed item.1 (weight_short low item.1 short is.1))
+weighted_printed low short item is =
+    both_printed (integer_field item.0) (integer_field item.1) (integer_printed item.0 (literal_short item.0 is.0))
+    (integer_printed item.1 (weight_short low item.1 short is.1))
 
-counted_printed : {A : Type 0} (text : A → List ℕ) (P : A → Type 0) → ((x : A) → P x → IsPrinted (text x)) → (xs : List A) → length xs < 2 ^ 32 → AllByRecursion P xs → IsPrinted (counted_fields text xs)
+counted_printed : {A : Type 0} (text : A → List ℕ) (P : A → Type 0) → ((x : A) → P x → IsPrinted (text x)) → (xs : List A) → length xs < 2 ^ 32 →
+    AllByRecursion P xs → IsPrinted (counted_fields text xs)
 counted_printed text P each xs few are =
     both_printed (natural_field (length xs)) (flat_map text xs) (natural_printed (length xs) few) (each-flat_map (λ b. 31 < b) text xs (each_weaker P (λ x. IsPrinted (text x)) each xs are))
 
 literals_printed : (used : ℕ) (ls : List ℤ) → used + length ls ≤ most_counted → AllByRecursion IsLiteral ls → IsPrinted (counted_fields integer_field ls)
 literals_printed used ls few are = counted_printed integer_field IsLiteral (λ l is. integer_printed l (literal_short l is)) ls (omega arith) are
 
-weights_printed : (used : ℕ) (low : ℤ) → IsShort low → (items : List (ℤ × ℤ)) → used + length items ≤ most_counted → AllByRecursion (IsWeighted low) items → IsPrinted (counted_fields weighted_fields items)
+weights_printed : (used : ℕ) (low : ℤ) → IsShort low → (items : List (ℤ × ℤ)) → used + length items ≤ most_counted →
+    AllByRecursion (IsWeighted low) items → IsPrinted (counted_fields weighted_fields items)
 weights_printed used low short items few are = counted_printed weighted_fields (IsWeighted low) (weighted_printed low short) items (omega arith) are
 
 atom_printed : (a : ℕ) → IsAtom a → IsPrinted (natural_field a)
@@ -99,7 +103,8 @@ printed_at (b ∷ bytes) (suc i) lt h = printed_at bytes i (omega arith) h.1
 keeps_end : (front back : List ℕ) → 0 < length back → IsPrinted back → without_cr (front ++ back) ≡ front ++ back
 keeps_end front back some h =
     let place : length (front ++ back) - 1 ≡ length front + (length back - 1) = omega (arith, length-append front back) in
-    let last : get_or (front ++ back) (length (front ++ back) - 1) 0 ≡ get_or back (length back - 1) 0 = ap (λ i. get_or (front ++ back) i 0) place ∙ get_or-append-add front back (length back - 1) 0 in
+    let last : get_or (front ++ back) (length (front ++ back) - 1) 0 ≡ get_or back (length back - 1) 0 =
+    ap (λ i. get_or (front ++ back) i 0) place ∙ get_or-append-add front back (length back - 1) 0 in
     let other : (get_or (front ++ back) (length (front ++ back) - 1) 0 == 13) ≡ false = ne_eqb _ 13 (λ e. omega (arith, last, e, printed_at back (length back - 1) (omega arith) h)) in
     rw other refl
 
@@ -123,10 +128,13 @@ value_some value.Release = omega arith
 
 pub statement_plain : (used : ℕ) (s : Statement) → IsStatement s → FitsIn used s → IsPlain (statement_text s)
 statement_plain used say.End is few = record { filled = refl; one = (refl, tt); end = refl }
-statement_plain used (say.Rule r) is few = plain 49 (head_fields r.head) (body_fields r.body) (omega arith) (body_some r.body) (printed_is_one (head_fields r.head) (head_printed used r.head (omega arith) is.0)) (body_printed used r.body (omega arith) is.1)
+statement_plain used (say.Rule r) is few =
+    plain 49 (head_fields r.head) (body_fields r.body) (omega arith) (body_some r.body)
+    (printed_is_one (head_fields r.head) (head_printed used r.head (omega arith) is.0)) (body_printed used r.body (omega arith) is.1)
 statement_plain used (say.Minimize m) is few =
     plain 50 (integer_field m.priority) (counted_fields weighted_fields m.items) (omega arith) (omega arith)
-    (printed_is_one (integer_field m.priority) (integer_printed m.priority (weight_short (negsuc most) m.priority (omega arith) is.0))) (weights_printed used (negsuc most) (omega arith) m.items few is.1)
+    (printed_is_one (integer_field m.priority) (integer_printed m.priority (weight_short (negsuc most) m.priority (omega arith) is.0)))
+    (weights_printed used (negsuc most) (omega arith) m.items few is.1)
 statement_plain used (say.Output o) is few =
     plain 52 (natural_field (length o.text) ++ codes " " ++ o.text) (counted_fields integer_field o.condition) (omega arith) (omega arith)
     (each-append (λ b. is_lf b ≡ false) (natural_field (length o.text) ++ codes " ") o.text

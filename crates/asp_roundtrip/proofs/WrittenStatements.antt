@@ -93,7 +93,8 @@ kind_back b k rest lt is e =
     rw (f.first, f.rest_is, is (b ∷ rest)) refl
 
 module _ (U : Atoms) (roomy : IsRoomy U) where
-  head_back : (used : ℕ) (known : Atoms) (head : Head) (rest : List ℕ) → IsHead head → used + head_size head ≤ most_counted → IsPart U known → HasEach U (head_atoms head) → ends_field rest ≡ true → head_at used known (head_fields head ++ rest) ≡ Ok (head, rest)
+  head_back : (used : ℕ) (known : Atoms) (head : Head) (rest : List ℕ) → IsHead head → used + head_size head ≤ most_counted → IsPart U known →
+      HasEach U (head_atoms head) → ends_field rest ≡ true → head_at used known (head_fields head ++ rest) ≡ Ok (head, rest)
   unfolding head_at many_at
   head_back used known (One a) rest is few part there e = rw (few_enough (used + 1) few, atom_back U roomy known a rest is part there.0 e) refl
   head_back used known (Choice atoms) rest is few part there e =
@@ -110,7 +111,8 @@ module _ (U : Atoms) (roomy : IsRoomy U) where
       ) refl
   head_back used known Never rest is few part there e = rw (digit_back most 0 rest (omega arith) (omega arith) (omega arith) e, few_enough (used + 0) few) refl
 
-  body_back : (used : ℕ) (known : Atoms) (body : Body) (rest : List ℕ) → IsBody body → used + body_size body ≤ most_counted → IsPart U known → HasEach U (body_atoms body) → ends_field rest ≡ true → body_at used known (body_fields body ++ rest) ≡ Ok (body, rest)
+  body_back : (used : ℕ) (known : Atoms) (body : Body) (rest : List ℕ) → IsBody body → used + body_size body ≤ most_counted → IsPart U known →
+      HasEach U (body_atoms body) → ends_field rest ≡ true → body_at used known (body_fields body ++ rest) ≡ Ok (body, rest)
   unfolding body_at
   body_back used known (All literals) rest is few part there e = rw (literals_back U roomy used known literals rest few is part there e) refl
   body_back used known (AtLeast bound items) rest is few part there e =
@@ -119,7 +121,9 @@ module _ (U : Atoms) (roomy : IsRoomy U) where
       ap (λ line. body_at used known (32 ∷ 49 ∷ line)) (append_assoc (integer_field bound) fields rest)
       ∙ rw (bound_back, weights_back U roomy used (pos 0) (omega arith) known items rest few is.1 part there e) refl
 
-  rule_back : (used : ℕ) (known : Atoms) (r : Rule) (rest : List ℕ) → IsRule r → FitsIn used (say.Rule r) → IsPart U known → HasEach U (statement_atoms (say.Rule r)) → ends_field rest ≡ true → rule_at used known ((head_fields r.head ++ body_fields r.body) ++ rest) ≡ Ok (r, rest)
+  rule_back : (used : ℕ) (known : Atoms) (r : Rule) (rest : List ℕ) → IsRule r → FitsIn used (say.Rule r) → IsPart U known →
+      HasEach U (statement_atoms (say.Rule r)) → ends_field rest ≡ true →
+      rule_at used known ((head_fields r.head ++ body_fields r.body) ++ rest) ≡ Ok (r, rest)
   unfolding rule_at
   rule_back used known r rest is few part there e =
       let heads = each-front (λ a. has U a ≡ true) (head_atoms r.head) (body_atoms r.body) there in
@@ -131,7 +135,8 @@ module _ (U : Atoms) (roomy : IsRoomy U) where
         body_back (used + head_size r.head) (with_atoms known (head_atoms r.head)) r.body rest is.1 (omega arith) (part_all U known (head_atoms r.head) part heads) bodies e,
       ) refl
 
-  minimize_back : (used : ℕ) (seen : List ℤ) (known : Atoms) (m : Minimize) (rest : List ℕ) → IsMinimize m → FitsIn used (say.Minimize m) → is_too_many m.priority seen ≡ false → IsPart U known → HasEach U (statement_atoms (say.Minimize m)) → ends_field rest ≡ true
+  minimize_back : (used : ℕ) (seen : List ℤ) (known : Atoms) (m : Minimize) (rest : List ℕ) → IsMinimize m → FitsIn used (say.Minimize m) →
+      is_too_many m.priority seen ≡ false → IsPart U known → HasEach U (statement_atoms (say.Minimize m)) → ends_field rest ≡ true
       → minimize_at used seen known ((integer_field m.priority ++ counted_fields weighted_fields m.items) ++ rest) ≡ Ok (m, rest)
   unfolding minimize_at
   minimize_back used seen known m rest is few again part there e =
@@ -150,7 +155,11 @@ module _ (U : Atoms) (roomy : IsRoomy U) where
   unfolding output_at
   output_back used known o rest is few part there e =
       let fields = counted_fields integer_field o.condition ++ rest in
-      rw (natural_back 0 most_bytes (length o.text) (32 ∷ (o.text ++ fields)) (omega arith) is.0 (omega arith) refl, text_back o.text fields refl, literals_back U roomy used known o.condition rest few is.2 part there e) refl
+      rw (
+        natural_back 0 most_bytes (length o.text) (32 ∷ (o.text ++ fields)) (omega arith) is.0 (omega arith) refl,
+        text_back o.text fields refl,
+        literals_back U roomy used known o.condition rest few is.2 part there e,
+      ) refl
 
   external_back : (known : Atoms) (e : External) (rest : List ℕ) → IsAtom e.atom → IsPart U known → HasEach U (statement_atoms (say.External e)) → ends_field rest ≡ true
       → external_at known ((natural_field e.atom ++ external_field e.value) ++ rest) ≡ Ok (e, rest)
@@ -165,7 +174,8 @@ module _ (U : Atoms) (roomy : IsRoomy U) where
   without_end : {A : Type 0} (reader : List ℕ → Reads A) (line : List ℕ) (x : A) → reader (line ++ []) ≡ Ok (x, []) → reader line ≡ Ok (x, [])
   without_end reader line x e = ap reader (sym (append-nil line)) ∙ e
 
-  pub statement_back : (used : ℕ) (seen : List ℤ) (known : Atoms) (s : Statement) → IsStatement s → FitsIn used s → HasPriorityRoom seen s → IsPart U known → HasEach U (statement_atoms s) → statement_with used seen known (statement_text s) ≡ Ok s
+  pub statement_back : (used : ℕ) (seen : List ℤ) (known : Atoms) (s : Statement) → IsStatement s → FitsIn used s → HasPriorityRoom seen s →
+      IsPart U known → HasEach U (statement_atoms s) → statement_with used seen known (statement_text s) ≡ Ok s
   unfolding statement_with of_kind
   statement_back used seen known say.End is few again part there = refl
   statement_back used seen known (say.Rule r) is few again part there =
@@ -180,7 +190,8 @@ module _ (U : Atoms) (roomy : IsRoomy U) where
       let condition = counted_fields integer_field o.condition in
       let length_field = natural_field (length o.text) in
       let line : length_field ++ codes " " ++ o.text ++ condition ≡ length_field ++ (32 ∷ (o.text ++ (condition ++ []))) =
-      append_assoc (length_field ++ codes " ") o.text condition ∙ append_assoc length_field (codes " ") (o.text ++ condition) ∙ ap (λ after. length_field ++ (32 ∷ (o.text ++ after))) (sym (append-nil condition)) in
+      append_assoc (length_field ++ codes " ") o.text condition ∙ append_assoc length_field (codes " ") (o.text ++ condition)
+      ∙ ap (λ after. length_field ++ (32 ∷ (o.text ++ after))) (sym (append-nil condition)) in
       let read = ap (output_at used known) line ∙ output_back used known o [] is few part there refl in
       rw read refl
   statement_back used seen known (say.External e) is few again part there =

@@ -102,7 +102,8 @@ module _ (U : Atoms) (roomy : IsRoomy U) where
       let judged : judge_by aspif (at p known) (statement_text s) ≡ Ok (at (adds p s) (with_atoms known (statement_atoms s))) = rw (plain.filled, read, goes_on s more) refl in
       record { known = with_atoms known (statement_atoms s); part = part_all U known (statement_atoms s) part stands.1; says = says_line _ _ (statement_text s) plain judged }
 
-  then_reaches : (seen : Seen) (first second : List ℕ) (p q : Program) → Reaches U seen first p → ((known : Atoms) → IsPart U known → Reaches U (at p known) second q) → Reaches U seen (first ++ second) q
+  then_reaches : (seen : Seen) (first second : List ℕ) (p q : Program) → Reaches U seen first p →
+      ((known : Atoms) → IsPart U known → Reaches U (at p known) second q) → Reaches U seen (first ++ second) q
   then_reaches seen first second p q a next =
       let b = next a.known a.part in
       record { known = b.known; part = b.part; says = says_both seen (at p a.known) (at q b.known) first second a.says b.says }
@@ -116,7 +117,8 @@ module _ (U : Atoms) (roomy : IsRoomy U) where
     fits_first p [] fits = subst Fits (puts_none p) fits
     fits_first p (x ∷ xs) fits = fits_before p (make x) (fits_first (adds p (make x)) xs (subst Fits (sym (puts_next p x xs)) fits))
 
-    all_statements : (p : Program) (known : Atoms) (xs : List A) → AllByRecursion (λ x. StandsIn U (make x)) xs → Fits (put p xs) → IsPart U known → Reaches U (at p known) (lines (λ x. statement_text (make x)) xs) (put p xs)
+    all_statements : (p : Program) (known : Atoms) (xs : List A) → AllByRecursion (λ x. StandsIn U (make x)) xs → Fits (put p xs) → IsPart U known →
+        Reaches U (at p known) (lines (λ x. statement_text (make x)) xs) (put p xs)
     all_statements p known [] stand fits part = subst (Reaches U (at p known) []) (sym (puts_none p)) (record { known = known; part = part; says = says_nothing (at p known) })
     all_statements p known (x ∷ xs) stand fits part =
         let now = adds p (make x) in
@@ -127,28 +129,35 @@ module _ (U : Atoms) (roomy : IsRoomy U) where
 
   -- ---- the whole text
 
-  rules_reach : (p : Program) (known : Atoms) (rs : List Rule) → AllByRecursion (λ r. StandsIn U (say.Rule r)) rs → Fits (put_rules p rs) → IsPart U known → Reaches U (at p known) (lines rule_text rs) (put_rules p rs)
+  rules_reach : (p : Program) (known : Atoms) (rs : List Rule) → AllByRecursion (λ r. StandsIn U (say.Rule r)) rs → Fits (put_rules p rs) →
+      IsPart U known → Reaches U (at p known) (lines rule_text rs) (put_rules p rs)
   rules_reach = all_statements say.Rule put_rules (λ r e. absurd cc)
       (λ p. ap (λ rs. record p { rules = rs }) (append-nil p.rules))
       (λ p r rs. ap (λ rules. record p { rules = rules }) (append_assoc p.rules (r ∷ []) rs))
 
-  minimize_reach : (p : Program) (known : Atoms) (ms : List Minimize) → AllByRecursion (λ m. StandsIn U (say.Minimize m)) ms → Fits (put_minimize p ms) → IsPart U known → Reaches U (at p known) (lines minimize_text ms) (put_minimize p ms)
+  minimize_reach : (p : Program) (known : Atoms) (ms : List Minimize) → AllByRecursion (λ m. StandsIn U (say.Minimize m)) ms →
+      Fits (put_minimize p ms) → IsPart U known → Reaches U (at p known) (lines minimize_text ms) (put_minimize p ms)
   minimize_reach = all_statements say.Minimize put_minimize (λ m e. absurd cc)
       (λ p. ap (λ ms. record p { minimize = ms }) (append-nil p.minimize))
       (λ p m ms. ap (λ all. record p { minimize = all }) (append_assoc p.minimize (m ∷ []) ms))
 
-  outputs_reach : (p : Program) (known : Atoms) (os : List Output) → AllByRecursion (λ o. StandsIn U (say.Output o)) os → Fits (put_outputs p os) → IsPart U known → Reaches U (at p known) (lines output_text os) (put_outputs p os)
+  outputs_reach : (p : Program) (known : Atoms) (os : List Output) → AllByRecursion (λ o. StandsIn U (say.Output o)) os → Fits (put_outputs p os) →
+      IsPart U known → Reaches U (at p known) (lines output_text os) (put_outputs p os)
   outputs_reach = all_statements say.Output put_outputs (λ o e. absurd cc)
       (λ p. ap (λ os. record p { outputs = os }) (append-nil p.outputs))
       (λ p o os. ap (λ all. record p { outputs = all }) (append_assoc p.outputs (o ∷ []) os))
 
-  externals_reach : (p : Program) (known : Atoms) (es : List External) → AllByRecursion (λ e. StandsIn U (say.External e)) es → Fits (put_externals p es) → IsPart U known → Reaches U (at p known) (lines external_text es) (put_externals p es)
+  externals_reach : (p : Program) (known : Atoms) (es : List External) → AllByRecursion (λ e. StandsIn U (say.External e)) es →
+      Fits (put_externals p es) → IsPart U known → Reaches U (at p known) (lines external_text es) (put_externals p es)
   externals_reach = all_statements say.External put_externals (λ x e. absurd cc)
       (λ p. ap (λ es. record p { externals = es }) (append-nil p.externals))
       (λ p x es. ap (λ all. record p { externals = all }) (append_assoc p.externals (x ∷ []) es))
 
-  assumptions_reach : (p : Program) (known : Atoms) (ls : List ℤ) → StandsIn U (say.Assume ls) → Fits (adds p (say.Assume ls)) → IsPart U known → Reaches U (at p known) (assumptions_line ls) (adds p (say.Assume ls))
-  assumptions_reach p known [] stands fits part = subst (Reaches U (at p known) []) (ap (λ ls. record p { assumptions = ls }) (sym (append-nil p.assumptions))) (record { known = known; part = part; says = says_nothing (at p known) })
+  assumptions_reach : (p : Program) (known : Atoms) (ls : List ℤ) → StandsIn U (say.Assume ls) → Fits (adds p (say.Assume ls)) → IsPart U known →
+      Reaches U (at p known) (assumptions_line ls) (adds p (say.Assume ls))
+  assumptions_reach p known [] stands fits part = subst (Reaches U (at p known) [])
+      (ap (λ ls. record p { assumptions = ls }) (sym (append-nil p.assumptions)))
+      (record { known = known; part = part; says = says_nothing (at p known) })
   assumptions_reach p known (l ∷ ls) stands fits part = one_statement p known (say.Assume (l ∷ ls)) (λ e. absurd cc) stands fits part
 
   header_reaches : Reaches U nothing_seen (codes "asp 1 0 0\n") empty_program
@@ -156,11 +165,13 @@ module _ (U : Atoms) (roomy : IsRoomy U) where
   header_reaches = record {
     known = [];
     part = record { ascending = tt; subset = λ a h. absurd (false≢true h) };
-    says = says_line nothing_seen (at empty_program []) (codes "asp 1 0 0") (record { filled = refl; one = (refl, (refl, (refl, (refl, (refl, (refl, (refl, (refl, (refl, tt))))))))); end = refl }) refl;
+    says = says_line nothing_seen (at empty_program []) (codes "asp 1 0 0")
+        (record { filled = refl; one = (refl, (refl, (refl, (refl, (refl, (refl, (refl, (refl, (refl, tt))))))))); end = refl }) refl;
   }
 
   front_reaches : (p : Program) → AreKept U p → Fits p
-      → Reaches U nothing_seen (codes "asp 1 0 0\n" ++ lines rule_text p.rules ++ lines minimize_text p.minimize ++ lines output_text p.outputs ++ lines external_text p.externals ++ assumptions_line p.assumptions) p
+      → Reaches U nothing_seen (codes "asp 1 0 0\n" ++ lines rule_text p.rules ++ lines minimize_text p.minimize ++ lines output_text p.outputs
+      ++ lines external_text p.externals ++ assumptions_line p.assumptions) p
   front_reaches p kept fits =
       let p₁ = put_rules empty_program p.rules in
       let p₂ = put_minimize p₁ p.minimize in
@@ -178,7 +189,8 @@ module _ (U : Atoms) (roomy : IsRoomy U) where
 
 -- ---- its atoms
 
-each_stands : {A : Type 0} (U : Atoms) (make : A → Statement) (xs : List A) → AllByRecursion (λ x. IsStatement (make x)) xs → AllByRecursion (λ x. HasEach U (statement_atoms (make x))) xs → AllByRecursion (λ x. StandsIn U (make x)) xs
+each_stands : {A : Type 0} (U : Atoms) (make : A → Statement) (xs : List A) → AllByRecursion (λ x. IsStatement (make x)) xs →
+    AllByRecursion (λ x. HasEach U (statement_atoms (make x))) xs → AllByRecursion (λ x. StandsIn U (make x)) xs
 each_stands U make [] is there = tt
 each_stands U make (x ∷ xs) is there = ((is.0, there.0), each_stands U make xs is.1 there.1)
 
@@ -213,7 +225,8 @@ pub end_reached : (number : ℕ) (p : Program) (known : Atoms) → judge_all asp
 unfolding judge_all statement_with of_kind
 end_reached number p known = refl
 
-pub outcome_is : (text : List ℕ) (p : Program) (known : Atoms) → length text ≤ most_bytes → judge_all aspif 1 nothing_seen (lines_of text) ≡ Ok (record { stage = Ended; program = p; known = known }) → outcome text ≡ Ok p
+pub outcome_is : (text : List ℕ) (p : Program) (known : Atoms) → length text ≤ most_bytes →
+    judge_all aspif 1 nothing_seen (lines_of text) ≡ Ok (record { stage = Ended; program = p; known = known }) → outcome text ≡ Ok p
 unfolding outcome_from
 outcome_is text p known few e =
     let fits : nat_le (length text) most_bytes ≡ true = le-leb (length text) most_bytes few in

@@ -72,7 +72,8 @@ lacks a S low = has-below a a S low (omega arith)
 -- those behind the first atom don't see it
 kept_behind : (a : ℕ) (S : Atoms) (atoms : List ℕ) → AllByRecursion (λ b. a < b) atoms → filter (has (a ∷ S)) atoms ≡ filter (has S) atoms
 kept_behind a S [] low = refl
-kept_behind a S (b ∷ atoms) low = ap (λ (t : Bool). cond t (b ∷ filter (has (a ∷ S)) atoms) (filter (has (a ∷ S)) atoms)) (other a b S low.0) ∙ ap (λ (t : List ℕ). cond (has S b) (b ∷ t) t) (kept_behind a S atoms low.1)
+kept_behind a S (b ∷ atoms) low = ap (λ (t : Bool). cond t (b ∷ filter (has (a ∷ S)) atoms) (filter (has (a ∷ S)) atoms)) (other a b S low.0)
+    ∙ ap (λ (t : List ℕ). cond (has S b) (b ∷ t) t) (kept_behind a S atoms low.1)
 
 pub filter_is : (atoms : List ℕ) (S : Atoms) → IsAscending atoms → IsAmong atoms S → filter (has S) atoms ≡ S
 filter_is [] S up s = sym (none_among S s)

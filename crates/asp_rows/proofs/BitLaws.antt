@@ -73,7 +73,8 @@ unfolding bits_cmp
 words_cmp zero S T [] le = refl
 words_cmp zero S T (a ∷ atoms) le = absurd (omega arith)
 words_cmp (suc n) S T atoms le =
-    ap (λ (o : Ordering). ordering_then o (slice_cmp nat_cmp (words n S (drop 64 atoms)) (words n T (drop 64 atoms)))) (values_cmp 0 (map (has S) (take 64 atoms)) (map (has T) (take 64 atoms)) (same_len (has S) (has T) (take 64 atoms)))
+    ap (λ (o : Ordering). ordering_then o (slice_cmp nat_cmp (words n S (drop 64 atoms)) (words n T (drop 64 atoms))))
+    (values_cmp 0 (map (has S) (take 64 atoms)) (map (has T) (take 64 atoms)) (same_len (has S) (has T) (take 64 atoms)))
     ∙ ap (ordering_then (bits_cmp (map (has S) (take 64 atoms)) (map (has T) (take 64 atoms)))) (words_cmp n S T (drop 64 atoms) (omega (arith, le, length-drop 64 atoms)))
     ∙ sym (rw (map_parts (has S) 64 atoms, map_parts (has T) 64 atoms) (bits-append _ _ _ _ (same_len (has S) (has T) (take 64 atoms))))
 

@@ -58,7 +58,8 @@ passed S atoms from next to up rise high le low k after before =
     (λ j less. let below = high (omega (arith, after, lt)) j less in omega (arith, below, more))
     (λ j after_j lt_j. let up_j = get_or-ascending S next j up after_j lt_j in let above = low (omega (arith, after_j, lt_j)) k before in omega (arith, up_j, above))
 
-pub low_next : (S atoms : Atoms) (from next : ℕ) → IsAscending S → ((k : ℕ) → k < from → get_or atoms k 0 ≤ get_or S next 0) → next + 1 < length S → (k : ℕ) → k < from → get_or atoms k 0 < get_or S (next + 1) 0
+pub low_next : (S atoms : Atoms) (from next : ℕ) → IsAscending S → ((k : ℕ) → k < from → get_or atoms k 0 ≤ get_or S next 0) → next + 1 < length S →
+    (k : ℕ) → k < from → get_or atoms k 0 < get_or S (next + 1) 0
 low_next S atoms from next up low lt k less =
     let more = rises S next (next + 1) up (omega arith) lt in
     let le = low k less in

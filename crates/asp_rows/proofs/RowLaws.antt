@@ -24,13 +24,17 @@ map-push : (f : ℕ → Bool) (xs : List ℕ) (x : ℕ) → map f (xs ++ x ∷ [
 map-push f [] x = refl
 map-push f (y ∷ ys) x = ap (λ (t : List Bool). f y ∷ t) (map-push f ys x)
 
-pub word_more : (S : Atoms) (atoms : List ℕ) (i w n : ℕ) → i < length atoms → w ≡ value (map (has S) (take i atoms)) → n ≡ 2 * w + bit (has S (get_or atoms i 0)) → n ≡ value (map (has S) (take (i + 1) atoms))
+pub word_more : (S : Atoms) (atoms : List ℕ) (i w n : ℕ) → i < length atoms → w ≡ value (map (has S) (take i atoms)) →
+    n ≡ 2 * w + bit (has S (get_or atoms i 0)) → n ≡ value (map (has S) (take (i + 1) atoms))
 word_more S atoms i w n lt is made =
     made ∙ ap (λ (k : ℕ). 2 * k + bit (has S (get_or atoms i 0))) is
-    ∙ sym (ap (λ (t : List ℕ). value (map (has S) t)) (take_more atoms i 0 lt) ∙ ap value (map-push (has S) (take i atoms) (get_or atoms i 0)) ∙ with_bits-push 0 (map (has S) (take i atoms)) (has S (get_or atoms i 0)))
+    ∙ sym (ap (λ (t : List ℕ). value (map (has S) t)) (take_more atoms i 0 lt) ∙ ap value (map-push (has S) (take i atoms) (get_or atoms i 0))
+    ∙ with_bits-push 0 (map (has S) (take i atoms)) (has S (get_or atoms i 0)))
 
 -- the atoms up to there of which the set has none
-pub zeros : (S : Atoms) (atoms : List ℕ) (from n : ℕ) → from + n ≤ length atoms → ((k : ℕ) → from ≤ k → k < from + n → has S (get_or atoms k 0) ≡ false) → value (map (has S) (take from atoms)) * 2 ^ n ≡ value (map (has S) (take (from + n) atoms))
+pub zeros : (S : Atoms) (atoms : List ℕ) (from n : ℕ) → from + n ≤ length atoms →
+    ((k : ℕ) → from ≤ k → k < from + n → has S (get_or atoms k 0) ≡ false) →
+    value (map (has S) (take from atoms)) * 2 ^ n ≡ value (map (has S) (take (from + n) atoms))
 zeros S atoms from zero le none =
     let one : value (map (has S) (take from atoms)) * 1 ≡ value (map (has S) (take from atoms)) = omega arith in
     let here : from ≡ from + 0 = omega arith in
@@ -45,7 +49,8 @@ zeros S atoms from (suc n) le none =
     word_more S atoms (from + n) (v * 2 ^ n) (v * 2 ^ suc n) (omega (arith, le)) before (twice ∙ nothing ∙ ap (λ (b : Bool). 2 * (v * 2 ^ n) + bit b) (sym lacks))
     ∙ ap (λ (k : ℕ). value (map (has S) (take k atoms))) next
 
-pub word_zeros : (S : Atoms) (atoms : List ℕ) (from at w : ℕ) → from ≤ at → at ≤ length atoms → w ≡ value (map (has S) (take from atoms)) → ((k : ℕ) → from ≤ k → k < at → has S (get_or atoms k 0) ≡ false) → w * 2 ^ (at - from) ≡ value (map (has S) (take at atoms))
+pub word_zeros : (S : Atoms) (atoms : List ℕ) (from at w : ℕ) → from ≤ at → at ≤ length atoms → w ≡ value (map (has S) (take from atoms)) →
+    ((k : ℕ) → from ≤ k → k < at → has S (get_or atoms k 0) ≡ false) → w * 2 ^ (at - from) ≡ value (map (has S) (take at atoms))
 word_zeros S atoms from at w low high is none =
     let there : from + (at - from) ≡ at = omega (arith, low) in
     ap (λ (k : ℕ). k * 2 ^ (at - from)) is
@@ -72,11 +77,13 @@ found S atoms from next at w up rise some lt le low high behind here is =
 
 -- and behind the last one
 pub no_more : (S atoms : Atoms) (from next w : ℕ) → IsAscending S → IsAscending atoms → from ≤ length atoms → (from < length atoms → (j : ℕ) → j < next → get_or S j 0 < get_or atoms from 0)
-    → (next < length S → get_or atoms (length atoms - 1) 0 < get_or S next 0) → w ≡ value (map (has S) (take from atoms)) → w * 2 ^ (length atoms - from) ≡ value (map (has S) (take (length atoms) atoms))
+    → (next < length S → get_or atoms (length atoms - 1) 0 < get_or S next 0) → w ≡ value (map (has S) (take from atoms)) →
+    w * 2 ^ (length atoms - from) ≡ value (map (has S) (take (length atoms) atoms))
 no_more S atoms from next w up rise within high last is =
     word_zeros S atoms from (length atoms) w within (omega arith) is (passed S atoms from next (length atoms) up rise high (omega arith) (λ lt. all_below atoms (get_or S next 0) rise (last lt)))
 
-pub one_more : (S atoms : Atoms) (next at w : ℕ) → at < length atoms → next < length S → get_or S next 0 ≡ get_or atoms at 0 → w ≡ value (map (has S) (take at atoms)) → 2 * w + 1 ≡ value (map (has S) (take (at + 1) atoms))
+pub one_more : (S atoms : Atoms) (next at w : ℕ) → at < length atoms → next < length S → get_or S next 0 ≡ get_or atoms at 0 →
+    w ≡ value (map (has S) (take at atoms)) → 2 * w + 1 ≡ value (map (has S) (take (at + 1) atoms))
 one_more S atoms next at w within lt same is = word_more S atoms at w (2 * w + 1) within is (ap (λ (b : Bool). 2 * w + bit b) (sym (has_at S (get_or atoms at 0) next lt same)))
 
 -- ---- a part of ascending atoms
@@ -139,7 +146,9 @@ pub words_more : (atoms : List ℕ) (S : Atoms) (from n w : ℕ) (done pushed : 
 words_more atoms S from n w done pushed lt is one push before =
     let len = length-drop from atoms in
     let same : from + n - from ≡ n = omega arith in
-    let word : w ≡ value (map (has S) (take 64 (drop from atoms))) = one ∙ ap (λ (k : ℕ). value (map (has S) (take k (drop from atoms)))) same ∙ ap (λ (t : List ℕ). value (map (has S) t)) (part_is atoms from n is) in
+    let word : w ≡ value (map (has S) (take 64 (drop from atoms))) =
+    one ∙ ap (λ (k : ℕ). value (map (has S) (take k (drop from atoms)))) same
+    ∙ ap (λ (t : List ℕ). value (map (has S) t)) (part_is atoms from n is) in
     ap (λ (t : List ℕ). t ++ encode (drop (from + n) atoms) S) push
     ∙ append_assoc done (w ∷ []) (encode (drop (from + n) atoms) S)
     ∙ ap (λ (t : List ℕ). done ++ w ∷ encode t S) (rest_is atoms from n is)

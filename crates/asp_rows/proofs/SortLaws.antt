@@ -38,7 +38,8 @@ turn_kept P e (y ∷ p) x true q all px t = subst (AllByRecursion P) (sym t.1) (
 turn_kept P e (y ∷ p) x false q all px t = subst (AllByRecursion P) (sym t.1) all
 
 turns_map : {A B : Type 0} (f : A → B) (P : A → Type 0) (e : A → A → Bool) (h : B → B → Bool) → ((x y : A) → P x → P y → e x y ≡ h (f x) (f y))
-    → (p : List A) (bs : List Bool) (xs q : List A) → AllByRecursion P p → AllByRecursion P xs → ReturnsInTurn (DiffersFromLast e) p bs xs q → ReturnsInTurn (DiffersFromLast h) (map f p) bs (map f xs) (map f q)
+    → (p : List A) (bs : List Bool) (xs q : List A) → AllByRecursion P p → AllByRecursion P xs → ReturnsInTurn (DiffersFromLast e) p bs xs q →
+    ReturnsInTurn (DiffersFromLast h) (map f p) bs (map f xs) (map f q)
 turns_map f P e h agree p [] xs q all each r = ap (map f) r
 turns_map f P e h agree p (b ∷ bs) [] q all each r = r
 turns_map f P e h agree p (b ∷ bs) (x ∷ xs) q all each r =

@@ -55,7 +55,8 @@ found_first g states p w h was (on path e) back =
     on_within (found_first g states p _ h was path (lead_first g _ w p e back)) e (free g states p w h was (on path e, back))
 
 -- and then by the second
-found_second : (g b : Graph) (states middle : List ℕ) (p w : ℕ) → IsReverse g b → AreClasses g states → get_or states p 0 ≡ 0 → ((v : ℕ) → LeadsWithin g states 0 p v → get_or middle v 0 ≡ 1) → Leads b p w → Leads g p w → LeadsWithin b middle 1 p w
+found_second : (g b : Graph) (states middle : List ℕ) (p w : ℕ) → IsReverse g b → AreClasses g states → get_or states p 0 ≡ 0 →
+    ((v : ℕ) → LeadsWithin g states 0 p v → get_or middle v 0 ≡ 1) → Leads b p w → Leads g p w → LeadsWithin b middle 1 p w
 found_second g b states middle p w r h was first here _ = here_within
 found_second g b states middle p w r h was first (on path e) front =
     on_within (found_second g b states middle p _ r h was first path (on front (r w _ ∙ e))) e
@@ -69,7 +70,9 @@ pub record Settles (g : Graph) (p : ℕ) (before after members : List ℕ) : Typ
   pub whole : (v : ℕ) → AreMutual g p v → is_in members v ≡ true
   pub states : (v : ℕ) → get_or after v 0 ≡ cond (is_in members v) (p + 2) (get_or before v 0)
 
-pub two_searches : (g b : Graph) (p : ℕ) (before middle after last reached members : List ℕ) → IsReverse g b → AreClasses g before → get_or before p 0 ≡ 0 → Finds g 0 1 p before middle reached → Finds b 1 (p + 2) p middle after members → ((v : ℕ) → get_or last v 0 ≡ cond (is_in reached v && eqb (get_or after v 0) 1) 0 (get_or after v 0)) → Settles g p before last members
+pub two_searches : (g b : Graph) (p : ℕ) (before middle after last reached members : List ℕ) → IsReverse g b → AreClasses g before →
+    get_or before p 0 ≡ 0 → Finds g 0 1 p before middle reached → Finds b 1 (p + 2) p middle after members →
+    ((v : ℕ) → get_or last v 0 ≡ cond (is_in reached v && eqb (get_or after v 0) 1) 0 (get_or after v 0)) → Settles g p before last members
 two_searches g b p before middle after last reached members r h was first second clears = record {
   paired = both;
   whole = all;
@@ -132,7 +135,8 @@ two_searches g b p before middle after last reached members r h was first second
         ∙ first.states v ∙ ap (λ t. cond t 1 (get_or before v 0)) (sym q) ∙ ap (λ t. cond t (p + 2) (get_or before v 0)) e
 
 -- ---- one more class
-pub settled : (g : Graph) (p : ℕ) (before after members : List ℕ) → AreClasses g before → get_or before p 0 ≡ 0 → Settles g p before after members → AreClasses g after × KeepsClasses before after × (get_or after p 0 ≢ 0)
+pub settled : (g : Graph) (p : ℕ) (before after members : List ℕ) → AreClasses g before → get_or before p 0 ≡ 0 → Settles g p before after members →
+    AreClasses g after × KeepsClasses before after × (get_or after p 0 ≢ 0)
 settled g p before after members h was s = (
   record {
     whole = λ v w m some. whole v w m some (is_in members v) refl (is_in members w) refl;
@@ -189,7 +193,8 @@ settled g p before after members h was s = (
 release_one : (states : List ℕ) (w v : ℕ) → w < length states → get_or (released states w) v 0 ≡ cond (eqb w v && eqb (get_or states v 0) 1) 0 (get_or states v 0)
 release_one states w v lt = cases (eqb (get_or states w 0) 1) refl (eqb w v) refl
   where
-    cases : (b : Bool) → b ≡ eqb (get_or states w 0) 1 → (c : Bool) → c ≡ eqb w v → get_or (cond (eqb (get_or states w 0) 1) (set states w 0) states) v 0 ≡ cond (eqb w v && eqb (get_or states v 0) 1) 0 (get_or states v 0)
+    cases : (b : Bool) → b ≡ eqb (get_or states w 0) 1 → (c : Bool) → c ≡ eqb w v →
+        get_or (cond (eqb (get_or states w 0) 1) (set states w 0) states) v 0 ≡ cond (eqb w v && eqb (get_or states v 0) 1) 0 (get_or states v 0)
     cases true e true q =
         let same : w ≡ v = eqb-true w v (sym q) in
         ap (λ b. get_or (cond b (set states w 0) states) v 0) (sym e)
@@ -231,16 +236,20 @@ pub release_each : (row states : List ℕ) (v : ℕ) → All (λ w. w < length s
 release_each [] states v h = refl
 release_each (x ∷ row) states v h =
     let one = release_one states x v (All-head (λ w. w < length states) x row h) in
-    let rest = release_each row (released states x) v (All-weaker (λ w. w < length states) (λ w. w < length (released states x)) (λ w lt. let e = length-released states x in omega (arith, e)) row (All-tail (λ w. w < length states) x row h)) in
+    let rest = release_each row (released states x) v (All-weaker (λ w. w < length states) (λ w. w < length (released states x))
+    (λ w lt. let e = length-released states x in omega (arith, e)) row (All-tail (λ w. w < length states) x row h)) in
     rest ∙ ap (λ n. cond (is_in row v && eqb n 1) 0 n) one ∙ cleared_twice (eqb x v) (is_in row v) (get_or states v 0)
 
 -- what settling a node comes to
-pub class_settled : (g b : Graph) (p : ℕ) (before middle after last reached members : List ℕ) → IsReverse g b → AreClasses g before → get_or before p 0 ≡ 0 → Finds g 0 1 p before middle reached → Finds b 1 (p + 2) p middle after members → last ≡ fold released after reached → AreClasses g last × KeepsClasses before last × (get_or last p 0 ≢ 0)
+pub class_settled : (g b : Graph) (p : ℕ) (before middle after last reached members : List ℕ) → IsReverse g b → AreClasses g before →
+    get_or before p 0 ≡ 0 → Finds g 0 1 p before middle reached → Finds b 1 (p + 2) p middle after members → last ≡ fold released after reached →
+    AreClasses g last × KeepsClasses before last × (get_or last p 0 ≢ 0)
 class_settled g b p before middle after last reached members r h was first second is =
     settled g p before last members h was (two_searches g b p before middle after last reached members r h was first second (λ v.
     ap (λ s. get_or s v 0) is ∙ release_each reached after v (λ k d lt. let w = first.within k d lt in omega (arith, w, first.size, second.size))))
 
-pub all_released : (g b : Graph) (p : ℕ) (before middle after reached members : List ℕ) → Finds g 0 1 p before middle reached → Finds b 1 (p + 2) p middle after members → All (λ w. w < length after) reached
+pub all_released : (g b : Graph) (p : ℕ) (before middle after reached members : List ℕ) → Finds g 0 1 p before middle reached →
+    Finds b 1 (p + 2) p middle after members → All (λ w. w < length after) reached
 all_released g b p before middle after reached members first second k d lt =
     let w = first.within k d lt in omega (arith, w, first.size, second.size)
 

@@ -72,7 +72,10 @@ var_atom p (suc i) positive small =
 both_ways : {A B : Type 0} → (A → B) → (B → A) → A ↔ B
 both_ways f g = (f, g)
 
-pub are_components : (p : Program) (classes numbers : List ℕ) (count : ℕ) (members : List (List ℕ)) (trivial : List Bool) → AreClasses (graph_of p) classes → All (λ n. n ≢ 0) classes → length (atoms_of p) < length classes → AreNumbered classes (length (atoms_of p)) numbers count → HasMembers numbers count (length numbers) members → trivial ≡ are_trivial (graph_of p) classes members → AreComponents p (record { numbers = numbers; members = members; trivial = trivial })
+pub are_components : (p : Program) (classes numbers : List ℕ) (count : ℕ) (members : List (List ℕ)) (trivial : List Bool) →
+    AreClasses (graph_of p) classes → All (λ n. n ≢ 0) classes → length (atoms_of p) < length classes →
+    AreNumbered classes (length (atoms_of p)) numbers count → HasMembers numbers count (length numbers) members →
+    trivial ≡ are_trivial (graph_of p) classes members → AreComponents p (record { numbers = numbers; members = members; trivial = trivial })
 are_components p classes numbers count members trivial h all_taken room n m t = record {
   numbered = let s = n.size in omega (arith, s);
   counted = ap length t ∙ length-map members (λ row. not (list_any (is_looped (graph_of p) classes) row));
@@ -89,7 +92,8 @@ are_components p classes numbers count members trivial h all_taken room n m t = 
     taken a s = all_taken (var_of_atom p a) 0 (let small = atom_small p a s in omega (arith, small, room))
 
     -- the class of the one is that of the other
-    joined : (a b : ℕ) → has (atoms_of p) a ≡ true → has (atoms_of p) b ≡ true → get_or numbers (var_of_atom p a) 0 ≡ get_or numbers (var_of_atom p b) 0 → AreMutual (graph_of p) (var_of_atom p a) (var_of_atom p b)
+    joined : (a b : ℕ) → has (atoms_of p) a ≡ true → has (atoms_of p) b ≡ true →
+        get_or numbers (var_of_atom p a) 0 ≡ get_or numbers (var_of_atom p b) 0 → AreMutual (graph_of p) (var_of_atom p a) (var_of_atom p b)
     joined a b s s' e =
         h.alone (var_of_atom p a) (var_of_atom p b) (n.apart (var_of_atom p a) (var_of_atom p b) (atom_positive p a) (place_small a s) (atom_positive p b) (place_small b s') e) (taken a s)
 
@@ -126,7 +130,8 @@ are_components p classes numbers count members trivial h all_taken room n m t = 
     is_member : (k v : ℕ) → k < length members → IsAtomVar p v × (get_or numbers v 0 ≡ k) → is_in (get_or members k []) v ≡ true
     is_member k v lt x =
         row_has k v lt ∙ and_from (ltb 0 v) (ltb v (length numbers) && eqb (get_or numbers v 0) k) (lt-ltb 0 v x.0.0)
-        (and_from (ltb v (length numbers)) (eqb (get_or numbers v 0) k) (lt-ltb v (length numbers) (let s = n.size in let small = x.0.1 in omega (arith, s, small))) (eq-eqb (get_or numbers v 0) k x.1))
+        (and_from (ltb v (length numbers)) (eqb (get_or numbers v 0) k)
+        (lt-ltb v (length numbers) (let s = n.size in let small = x.0.1 in omega (arith, s, small))) (eq-eqb (get_or numbers v 0) k x.1))
 
     number_small : (a : ℕ) → has (atoms_of p) a ≡ true → get_or numbers (var_of_atom p a) 0 < length members
     number_small a s = let lt = n.within (var_of_atom p a) (atom_positive p a) (place_small a s) in omega (arith, lt, m.size)
@@ -135,7 +140,9 @@ are_components p classes numbers count members trivial h all_taken room n m t = 
     own_row a s =
         is_member (get_or numbers (var_of_atom p a) 0) (var_of_atom p a) (number_small a s) ((atom_positive p a, atom_small p a s), refl)
 
-    is_trivial : (a : ℕ) → has (atoms_of p) a ≡ true → get_or trivial (get_or numbers (var_of_atom p a) 0) false ≡ not (list_any (is_looped (graph_of p) classes) (get_or members (get_or numbers (var_of_atom p a) 0) []))
+    is_trivial : (a : ℕ) → has (atoms_of p) a ≡ true →
+        get_or trivial (get_or numbers (var_of_atom p a) 0) false ≡ not
+        (list_any (is_looped (graph_of p) classes) (get_or members (get_or numbers (var_of_atom p a) 0) []))
     is_trivial a s =
         ap (λ ts. get_or ts (get_or numbers (var_of_atom p a) 0) false) t
         ∙ get_or-map (λ row. not (list_any (is_looped (graph_of p) classes) row)) members (get_or numbers (var_of_atom p a) 0) [] false (number_small a s)
@@ -159,13 +166,15 @@ are_components p classes numbers count members trivial h all_taken room n m t = 
             absurd (unlooped a s e (reaches_looped p classes a h (taken a s) (reach_on p a b a loop.1 loop.0)))
 
     -- an atom that is alone has a trivial component
-    not_looped : (a : ℕ) → has (atoms_of p) a ≡ true → IsAlone p (record { numbers = numbers; members = members; trivial = trivial }) a → get_or trivial (get_or numbers (var_of_atom p a) 0) false ≡ true
+    not_looped : (a : ℕ) → has (atoms_of p) a ≡ true → IsAlone p (record { numbers = numbers; members = members; trivial = trivial }) a →
+        get_or trivial (get_or numbers (var_of_atom p a) 0) false ≡ true
     not_looped a s x = is_trivial a s ∙ cases (list_any (is_looped (graph_of p) classes) (get_or members (get_or numbers (var_of_atom p a) 0) [])) refl
       where
         k : ℕ
         k = get_or numbers (var_of_atom p a) 0
 
-        cases : (b : Bool) → b ≡ list_any (is_looped (graph_of p) classes) (get_or members (get_or numbers (var_of_atom p a) 0) []) → not (list_any (is_looped (graph_of p) classes) (get_or members (get_or numbers (var_of_atom p a) 0) [])) ≡ true
+        cases : (b : Bool) → b ≡ list_any (is_looped (graph_of p) classes) (get_or members (get_or numbers (var_of_atom p a) 0) []) →
+            not (list_any (is_looped (graph_of p) classes) (get_or members (get_or numbers (var_of_atom p a) 0) [])) ≡ true
         cases false q = ap not (sym q)
         cases true q =
             let row : List ℕ = get_or members k [] in
@@ -187,7 +196,10 @@ pub atoms_within_graph : (p : Program) (g : Graph) (n : ℕ) → g ≡ graph_of 
 atoms_within_graph p g n is size = let e = length-graph_of p in let f = ap length is in omega (arith, e, f, size)
 
 -- what the search for components comes to
-pub components_found : (p : Program) (g : Graph) (classes numbers : List ℕ) (last count : ℕ) (members : List (List ℕ)) (trivial : List Bool) → g ≡ graph_of p → last ≡ length (atoms_of p) → AreClasses g classes → length classes ≡ length g → All (λ n. n ≢ 0) classes → AreNumbered classes last numbers count → HasMembers numbers count (length numbers) members → trivial ≡ are_trivial g classes members → AreComponents p (record { numbers = numbers; members = members; trivial = trivial })
+pub components_found : (p : Program) (g : Graph) (classes numbers : List ℕ) (last count : ℕ) (members : List (List ℕ)) (trivial : List Bool) →
+    g ≡ graph_of p → last ≡ length (atoms_of p) → AreClasses g classes → length classes ≡ length g → All (λ n. n ≢ 0) classes →
+    AreNumbered classes last numbers count → HasMembers numbers count (length numbers) members → trivial ≡ are_trivial g classes members →
+    AreComponents p (record { numbers = numbers; members = members; trivial = trivial })
 components_found p g classes numbers last count members trivial is atoms h size taken n m t =
     are_components p classes numbers count members trivial (subst (λ (f : Graph). AreClasses f classes) is h) taken (atoms_within_graph p g (length classes) is size)
     (subst (λ (l : ℕ). AreNumbered classes l numbers count) atoms n) m (t ∙ ap (λ f. are_trivial f classes members) is)

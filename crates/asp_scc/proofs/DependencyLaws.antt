@@ -22,7 +22,8 @@ use Rattle.asp_scc.specs.Graphs.{edges, is_in}
 use Rattle.asp_scc.specs.Dependencies.{positive_atoms, depends, positives, graph_of}
 
 -- ---- the rows of the graph
-place_at : {X Y : Type 0} (test : X → Bool) (f : X → Y) (xs : List X) (ys : List Y) (d v : Y) → ((x : X) → test x ≡ true → f x ≡ v) → list_any test xs ≡ true → get_or (map f xs ++ ys) (place_of test xs) d ≡ v
+place_at : {X Y : Type 0} (test : X → Bool) (f : X → Y) (xs : List X) (ys : List Y) (d v : Y) → ((x : X) → test x ≡ true → f x ≡ v) →
+    list_any test xs ≡ true → get_or (map f xs ++ ys) (place_of test xs) d ≡ v
 place_at test f [] ys d v h e = absurd (false≢true e)
 place_at test f (x ∷ xs) ys d v h e = cases (test x) refl (place_at test f xs ys d v h)
   where
@@ -88,7 +89,9 @@ dependence_edges p a b stands e =
     let parts = and_parts (has (head_atoms found.0.head) a) (has (positive_atoms form) b) found.2 in
     let listed : list_any (body_eq form) (bodies_of p) ≡ true = rule_has_form p found.0 found.1 in
     let test : Body → Bool = λ c. list_any (λ (r : Rule). has (head_atoms r.head) a && body_eq (normal r.body) c) (rules_in_force p) in
-    let passes : test form ≡ true = found.1 (λ (r : Rule). has (head_atoms r.head) a && body_eq (normal r.body) form) (and_from (has (head_atoms found.0.head) a) (body_eq form form) parts.0 (body_eq-itself form)) in
+    let passes : test form ≡ true =
+    found.1 (λ (r : Rule). has (head_atoms r.head) a && body_eq (normal r.body) form)
+    (and_from (has (head_atoms found.0.head) a) (body_eq form form) parts.0 (body_eq-itself form)) in
     record {
       via = number_of_form p form;
       first = ap (λ row. is_in row (number_of_form p form)) (atom_edges p a stands) ∙ form_in p test form (bodies_of p) listed passes;
@@ -107,7 +110,8 @@ edges_dependence p a u v stands e f =
     let found = in_forms p a u (sym (ap (λ row. is_in row u) (atom_edges p a stands)) ∙ e) in
     let b : Body = found.0 in
     let row : edges (graph_of p) u ≡ map (var_of_atom p) (positive_atoms b) = ap (edges (graph_of p)) (sym found.2) ∙ body_edges p b found.1.0.0 ∙ positive_vars p b in
-    let next = in_map (λ c. (has (atoms_of p) c ≡ true) × (has (positive_atoms b) c ≡ true)) (var_of_atom p) (positive_atoms b) v (standing (positive_atoms b) (λ c h. h) (positive_stand p b found.1.0.1)) (sym (ap (λ r. is_in r v) row) ∙ f) in
+    let next = in_map (λ c. (has (atoms_of p) c ≡ true) × (has (positive_atoms b) c ≡ true)) (var_of_atom p) (positive_atoms b) v
+    (standing (positive_atoms b) (λ c h. h) (positive_stand p b found.1.0.1)) (sym (ap (λ r. is_in r v) row) ∙ f) in
     let rule = some (Among (rules_in_force p)) (λ (r : Rule). has (head_atoms r.head) a && body_eq (normal r.body) b) (rules_in_force p) (each_among (rules_in_force p)) found.1.1 in
     let parts = and_parts (has (head_atoms rule.0.head) a) (body_eq (normal rule.0.body) b) rule.2 in
     record {
@@ -115,7 +119,8 @@ edges_dependence p a u v stands e f =
       stands = next.1.0;
       var = sym next.2;
       needed = rule.1 (λ r. has (head_atoms r.head) a && has (positive_atoms (normal r.body)) next.0)
-          (and_from (has (head_atoms rule.0.head) a) (has (positive_atoms (normal rule.0.body)) next.0) parts.0 (ap (λ c. has (positive_atoms c) next.0) (same_body (normal rule.0.body) b parts.1) ∙ next.1.1));
+          (and_from (has (head_atoms rule.0.head) a) (has (positive_atoms (normal rule.0.body)) next.0) parts.0
+          (ap (λ c. has (positive_atoms c) next.0) (same_body (normal rule.0.body) b parts.1) ∙ next.1.1));
     }
   where
     standing : (xs : List ℕ) → ((c : ℕ) → has xs c ≡ true → has xs c ≡ true) → HasAll (atoms_of p) xs → AllByRecursion (λ c. (has (atoms_of p) c ≡ true) × (has xs c ≡ true)) xs

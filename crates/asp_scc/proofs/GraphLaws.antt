@@ -8,7 +8,8 @@ use Rattle.asp_vars.specs.Literals.{Literal}
 use Rattle.asp_vars.specs.Numbering.{number_count}
 use Rattle.asp_vars.specs.Tabled.{IsAtomVar, IsBodyNumber}
 
-pub rows_more : {X Y : Type 0} (f : X → Y) (xs : List X) (i : ℕ) (d : X) (start rows rows' : List Y) (row : Y) → i < length xs → rows ≡ start ++ map f (take i xs) → row ≡ f (get_or xs i d) → rows' ≡ rows ++ row ∷ [] → rows' ≡ start ++ map f (take (i + 1) xs)
+pub rows_more : {X Y : Type 0} (f : X → Y) (xs : List X) (i : ℕ) (d : X) (start rows rows' : List Y) (row : Y) → i < length xs →
+    rows ≡ start ++ map f (take i xs) → row ≡ f (get_or xs i d) → rows' ≡ rows ++ row ∷ [] → rows' ≡ start ++ map f (take (i + 1) xs)
 rows_more f xs i d start rows rows' row lt before at after =
     after ∙ ap (λ r. r ++ row ∷ []) before ∙ append_assoc start (map f (take i xs)) (row ∷ [])
     ∙ ap (λ y. start ++ (map f (take i xs) ++ y ∷ [])) at

@@ -47,7 +47,8 @@ given_next given count class lt h = record {
     below c true e = let q = at c e in omega (arith, q)
     below c false e = let q = off c e in let k = h.below c in omega (arith, q, k)
 
-    apart : (c d : ℕ) → get_or (set given class (count + 1)) c 0 ≡ get_or (set given class (count + 1)) d 0 → get_or (set given class (count + 1)) c 0 ≢ 0 → (a : Bool) → a ≡ eqb class c → (b : Bool) → b ≡ eqb class d → c ≡ d
+    apart : (c d : ℕ) → get_or (set given class (count + 1)) c 0 ≡ get_or (set given class (count + 1)) d 0 →
+        get_or (set given class (count + 1)) c 0 ≢ 0 → (a : Bool) → a ≡ eqb class c → (b : Bool) → b ≡ eqb class d → c ≡ d
     apart c d same some true e true q = sym (eqb-true class c (sym e)) ∙ eqb-true class d (sym q)
     apart c d same some true e false q =
         let x = at c e in let y = off d q in let k = h.below d in absurd (omega (arith, same, x, y, k))
@@ -67,7 +68,9 @@ give_one given count class lt h = cases (eqb (get_or given class 0) 0) refl
   where
     positive : (c : ℕ) (b : Bool) → b ≡ eqb class c → 0 < get_or given c 0 → 0 < get_or (set given class (count + 1)) c 0
     positive c true e lt' =
-        let q : get_or (set given class (count + 1)) c 0 ≡ count + 1 = subst (λ (x : ℕ). get_or (set given class (count + 1)) x 0 ≡ count + 1) (eqb-true class c (sym e)) (get_or-set_same given class (count + 1) 0 lt) in
+        let q : get_or (set given class (count + 1)) c 0 ≡ count + 1 =
+        subst (λ (x : ℕ). get_or (set given class (count + 1)) x 0 ≡ count + 1) (eqb-true class c (sym e))
+        (get_or-set_same given class (count + 1) 0 lt) in
         omega (arith, q)
     positive c false e lt' =
         let q = get_or-set_other given class c (count + 1) 0 (λ z. false≢true (e ∙ eq-eqb class c (sym z))) in omega (arith, q, lt')
@@ -98,7 +101,8 @@ give_all [] given count small h = record { apart = h; size = refl; kept = λ c l
 give_all (x ∷ classes) given count small h =
     let s : List ℕ × ℕ = give_number (given, count) x in
     let first = give_one given count x (All-head (λ c. c < length given) x classes small) h in
-    let rest = give_all classes s.0 s.1 (All-weaker (λ c. c < length given) (λ c. c < length s.0) (λ c lt. omega (arith, lt, first.size)) classes (All-tail (λ c. c < length given) x classes small)) first.apart in
+    let rest = give_all classes s.0 s.1 (All-weaker (λ c. c < length given) (λ c. c < length s.0) (λ c lt. omega (arith, lt, first.size)) classes
+    (All-tail (λ c. c < length given) x classes small)) first.apart in
     record {
       apart = rest.apart;
       size = rest.size ∙ first.size;
@@ -106,13 +110,16 @@ give_all (x ∷ classes) given count small h =
       done = λ c e. cases c (eqb x c) refl (rest.kept x first.done) (rest.done c) e;
     }
   where
-    cases : (c : ℕ) (b : Bool) → b ≡ eqb x c → 0 < get_or (fold give_number (give_number (given, count) x) classes).0 x 0 → (is_in classes c ≡ true → 0 < get_or (fold give_number (give_number (given, count) x) classes).0 c 0) → (eqb x c || is_in classes c) ≡ true → 0 < get_or (fold give_number (give_number (given, count) x) classes).0 c 0
+    cases : (c : ℕ) (b : Bool) → b ≡ eqb x c → 0 < get_or (fold give_number (give_number (given, count) x) classes).0 x 0 →
+        (is_in classes c ≡ true → 0 < get_or (fold give_number (give_number (given, count) x) classes).0 c 0) → (eqb x c || is_in classes c) ≡ true →
+        0 < get_or (fold give_number (give_number (given, count) x) classes).0 c 0
     cases c true q here later e =
         subst (λ (y : ℕ). 0 < get_or (fold give_number (give_number (given, count) x) classes).0 y 0) (eqb-true x c (sym q)) here
     cases c false q here later e = later (ap (λ b. b || is_in classes c) q ∙ e)
 
 -- ---- members
-pub one_member : (numbers : List ℕ) (count i : ℕ) (rows rows' : List (List ℕ)) → 0 < i → get_or numbers i 0 < count → rows' ≡ with_edge i rows (get_or numbers i 0) → HasMembers numbers count i rows → HasMembers numbers count (i + 1) rows'
+pub one_member : (numbers : List ℕ) (count i : ℕ) (rows rows' : List (List ℕ)) → 0 < i → get_or numbers i 0 < count →
+    rows' ≡ with_edge i rows (get_or numbers i 0) → HasMembers numbers count i rows → HasMembers numbers count (i + 1) rows'
 one_member numbers count i rows rows' pos_i lt is h = subst (λ (r : List (List ℕ)). HasMembers numbers count (i + 1) r) (sym is) record {
   size = length-set rows (get_or numbers i 0) (get_or rows (get_or numbers i 0) [] ++ i ∷ []) ∙ h.size;
   has = λ k v lt'.
@@ -124,7 +131,9 @@ one_member numbers count i rows rows' pos_i lt is h = subst (λ (r : List (List 
     last_or true = refl
     last_or false = refl
 
-    cases : (k v : ℕ) (b : Bool) → b ≡ eqb i v → ((ltb 0 v && (ltb v i && eqb (get_or numbers v 0) k)) || (eqb i v && eqb (get_or numbers i 0) k)) ≡ (ltb 0 v && (ltb v (i + 1) && eqb (get_or numbers v 0) k))
+    cases : (k v : ℕ) (b : Bool) → b ≡ eqb i v →
+        ((ltb 0 v && (ltb v i && eqb (get_or numbers v 0) k)) || (eqb i v && eqb (get_or numbers i 0) k)) ≡
+        (ltb 0 v && (ltb v (i + 1) && eqb (get_or numbers v 0) k))
     cases k v true e =
         let same : i ≡ v = eqb-true i v (sym e) in
         let early : ltb v i ≡ false = grind (arith, nat_tests) in
@@ -143,12 +152,17 @@ one_member numbers count i rows rows' pos_i lt is h = subst (λ (r : List (List 
 
 -- ---- the numbers of places
 -- what the classes of places are numbered by
-pub numbered : (classes given numbers : List ℕ) (last count : ℕ) → last < length classes → All (λ c. c < length classes + 2) classes → (given, count) ≡ fold give_number (replicate (length classes + 2) 0, 0) (take (last + 1 - 1) (drop 1 classes)) → numbers ≡ numbers_from given (take (last + 1) classes) → AreNumbered classes last numbers count
+pub numbered : (classes given numbers : List ℕ) (last count : ℕ) → last < length classes → All (λ c. c < length classes + 2) classes →
+    (given, count) ≡ fold give_number (replicate (length classes + 2) 0, 0) (take (last + 1 - 1) (drop 1 classes)) →
+    numbers ≡ numbers_from given (take (last + 1) classes) → AreNumbered classes last numbers count
 numbered classes given numbers last count lt small is read =
     let start : List ℕ = replicate (length classes + 2) 0 in
     let part : List ℕ = take (last + 1 - 1) (drop 1 classes) in
     let room : length start ≡ length classes + 2 = length-replicate (length classes + 2) 0 in
-    let within : All (λ c. c < length start) part = All-take (λ c. c < length start) (last + 1 - 1) (drop 1 classes) (All-drop (λ c. c < length start) 1 classes (All-weaker (λ c. c < length classes + 2) (λ c. c < length start) (λ c l. omega (arith, l, room)) classes small)) in
+    let within : All (λ c. c < length start) part =
+    All-take (λ c. c < length start) (last + 1 - 1) (drop 1 classes)
+    (All-drop (λ c. c < length start) 1 classes (All-weaker (λ c. c < length classes + 2) (λ c. c < length start) (λ c l. omega (arith, l, room))
+    classes small)) in
     let all = give_all part start 0 within (none_given (length classes + 2)) in
     let Q : List ℕ × ℕ → Type 0 = λ s. Apart s.0 s.1 × ((c : ℕ) → is_in part c ≡ true → 0 < get_or s.0 c 0) in
     let facts : Q (given, count) = subst Q (sym is) (all.apart, all.done) in
@@ -175,7 +189,9 @@ numbered classes given numbers last count lt small is read =
         let e = length-take (last + 1 - 1) (drop 1 classes) in
         let f = length-drop 1 classes in
         let inside : v - 1 < length part = omega (arith, e, f) in
-        let at : get_or part (v - 1) 0 ≡ get_or classes v 0 = get_or-take (last + 1 - 1) (drop 1 classes) (v - 1) 0 (omega arith) ∙ get_or-drop 1 classes (v - 1) 0 ∙ ap (λ i. get_or classes i 0) (let k : 1 + (v - 1) ≡ v = omega arith in k) in
+        let at : get_or part (v - 1) 0 ≡ get_or classes v 0 =
+        get_or-take (last + 1 - 1) (drop 1 classes) (v - 1) 0 (omega arith) ∙ get_or-drop 1 classes (v - 1) 0
+        ∙ ap (λ i. get_or classes i 0) (let k : 1 + (v - 1) ≡ v = omega arith in k) in
         done (get_or classes v 0) (ap (λ c. is_in part c) (sym at) ∙ is_in-at part (v - 1) inside)
 
 -- a slice that is written back whole

@@ -157,7 +157,8 @@ any_of q (y ∷ xs) x e f = cases (eqb y x) refl (any_of q xs x)
     cases true t later = ap (λ b. b || list_any q xs) (ap q (eqb-true y x (sym t)) ∙ f)
     cases false t later = skip (q y) (list_any q xs) (later (ap (λ b. b || is_in xs x) t ∙ e) f)
 
-pub looped_reaches : (p : Program) (classes : List ℕ) (a : ℕ) → has (atoms_of p) a ≡ true → AreClasses (graph_of p) classes → get_or classes (var_of_atom p a) 0 ≢ 0 → is_looped (graph_of p) classes (var_of_atom p a) ≡ true → Reaches p a a
+pub looped_reaches : (p : Program) (classes : List ℕ) (a : ℕ) → has (atoms_of p) a ≡ true → AreClasses (graph_of p) classes →
+    get_or classes (var_of_atom p a) 0 ≢ 0 → is_looped (graph_of p) classes (var_of_atom p a) ≡ true → Reaches p a a
 looped_reaches p classes a stands h taken e =
     let v : ℕ = var_of_atom p a in
     let found = some (λ w. is_in (edges (graph_of p) v) w ≡ true) (λ w. eqb (get_or classes w 0) (get_or classes v 0)) (edges (graph_of p) v) (each_member (edges (graph_of p) v)) e in
@@ -165,7 +166,8 @@ looped_reaches p classes a stands h taken e =
     let back = h.alone v found.0 (sym same) taken in
     begins_reach p a a stands stands (record { via = found.0; first = found.1; rest = back.1 })
 
-pub reaches_looped : (p : Program) (classes : List ℕ) (a : ℕ) → AreClasses (graph_of p) classes → get_or classes (var_of_atom p a) 0 ≢ 0 → Reaches p a a → is_looped (graph_of p) classes (var_of_atom p a) ≡ true
+pub reaches_looped : (p : Program) (classes : List ℕ) (a : ℕ) → AreClasses (graph_of p) classes → get_or classes (var_of_atom p a) 0 ≢ 0 →
+    Reaches p a a → is_looped (graph_of p) classes (var_of_atom p a) ≡ true
 reaches_looped p classes a h taken path =
     let v : ℕ = var_of_atom p a in
     let begins = reach_begins p a a path in

@@ -45,7 +45,9 @@ grown found found' v on_ e =
     ap (λ f. is_in f v) on_.is ∙ list_any-append (λ u. eqb u v) found on_.more ∙ or_left (is_in found v) (is_in on_.more v) e
 
 -- ---- one node
-marked : (g : Graph) (old new from u w : ℕ) (before after found : List ℕ) → old ≢ new → w < length before → get_or after w 0 ≡ old → is_in (edges g u) w ≡ true → is_in found u ≡ true → Searching g old new from before after found → Searching g old new from before (set after w new) (found ++ w ∷ [])
+marked : (g : Graph) (old new from u w : ℕ) (before after found : List ℕ) → old ≢ new → w < length before → get_or after w 0 ≡ old →
+    is_in (edges g u) w ≡ true → is_in found u ≡ true → Searching g old new from before after found →
+    Searching g old new from before (set after w new) (found ++ w ∷ [])
 marked g old new from u w before after found differ lt is_old edge_ from_u h =
     let lt' : w < length after = omega (arith, h.size) in
     let fresh : is_in found w ≡ false = cases (is_in found w) refl in
@@ -87,14 +89,19 @@ marked g old new from u w before after found differ lt is_old edge_ from_u h =
         let none : f new ≡ 0 = ap (λ b. cond b 1 0) (ne_eqb new old (λ e. differ (sym e))) in
         omega (arith, changed, one, none, h.count, length-append found (w ∷ []))
 
-pub mark_keeps : (g : Graph) (old new from u w : ℕ) (before after found : List ℕ) → old ≢ new → w < length before → is_in (edges g u) w ≡ true → is_in found u ≡ true → Searching g old new from before after found → Searching g old new from before (mark old new (after, found) w).0 (mark old new (after, found) w).1 × GoesOn found (mark old new (after, found) w).1 × (get_or before w 0 ≡ old → is_in (mark old new (after, found) w).1 w ≡ true)
+pub mark_keeps : (g : Graph) (old new from u w : ℕ) (before after found : List ℕ) → old ≢ new → w < length before → is_in (edges g u) w ≡ true →
+    is_in found u ≡ true → Searching g old new from before after found →
+    Searching g old new from before (mark old new (after, found) w).0 (mark old new (after, found) w).1 ×
+    GoesOn found (mark old new (after, found) w).1 × (get_or before w 0 ≡ old → is_in (mark old new (after, found) w).1 w ≡ true)
 mark_keeps g old new from u w before after found differ lt edge_ from_u h = cases (eqb (get_or after w 0) old) refl
   where
     P : Bool → Type 0
     P b = let s : List ℕ × List ℕ = cond b (set after w new, found ++ w ∷ []) (after, found) in
         Searching g old new from before s.0 s.1 × GoesOn found s.1 × (get_or before w 0 ≡ old → is_in s.1 w ≡ true)
 
-    cases : (b : Bool) → b ≡ eqb (get_or after w 0) old → Searching g old new from before (mark old new (after, found) w).0 (mark old new (after, found) w).1 × GoesOn found (mark old new (after, found) w).1 × (get_or before w 0 ≡ old → is_in (mark old new (after, found) w).1 w ≡ true)
+    cases : (b : Bool) → b ≡ eqb (get_or after w 0) old →
+        Searching g old new from before (mark old new (after, found) w).0 (mark old new (after, found) w).1 ×
+        GoesOn found (mark old new (after, found) w).1 × (get_or before w 0 ≡ old → is_in (mark old new (after, found) w).1 w ≡ true)
     cases true e =
         let is_old : get_or after w 0 ≡ old = eqb-true (get_or after w 0) old (sym e) in
         rw (← e) (
@@ -130,7 +137,9 @@ goes_on_twice a b c h k = record {
   is = k.is ∙ ap (λ x. x ++ k.more) h.is ∙ append_assoc a h.more k.more;
 }
 
-pub marks_keep : (g : Graph) (old new from u : ℕ) (row before after found : List ℕ) → old ≢ new → AllByRecursion (λ w. (w < length before) × (is_in (edges g u) w ≡ true)) row → is_in found u ≡ true → Searching g old new from before after found → Marked g old new from before found row (marks old new (after, found) row)
+pub marks_keep : (g : Graph) (old new from u : ℕ) (row before after found : List ℕ) → old ≢ new →
+    AllByRecursion (λ w. (w < length before) × (is_in (edges g u) w ≡ true)) row → is_in found u ≡ true →
+    Searching g old new from before after found → Marked g old new from before found row (marks old new (after, found) row)
 marks_keep g old new from u [] before after found differ each from_u h = record {
   searching = h;
   goes_on = record { more = []; is = sym (append_nil found) };
@@ -150,7 +159,11 @@ marks_keep g old new from u (x ∷ row) before after found differ each from_u h 
       done = λ w e was. cases w (eqb x w) refl (grown s.1 (marks old new s row).1 x rest.goes_on) (first.2) (rest.done w) was e;
     }
   where
-    cases : (w : ℕ) (b : Bool) → b ≡ eqb x w → (is_in (mark old new (after, found) x).1 x ≡ true → is_in (marks old new (mark old new (after, found) x) row).1 x ≡ true) → (get_or before x 0 ≡ old → is_in (mark old new (after, found) x).1 x ≡ true) → (is_in row w ≡ true → get_or before w 0 ≡ old → is_in (marks old new (mark old new (after, found) x) row).1 w ≡ true) → get_or before w 0 ≡ old → (eqb x w || is_in row w) ≡ true → is_in (marks old new (mark old new (after, found) x) row).1 w ≡ true
+    cases : (w : ℕ) (b : Bool) → b ≡ eqb x w →
+        (is_in (mark old new (after, found) x).1 x ≡ true → is_in (marks old new (mark old new (after, found) x) row).1 x ≡ true) →
+        (get_or before x 0 ≡ old → is_in (mark old new (after, found) x).1 x ≡ true) →
+        (is_in row w ≡ true → get_or before w 0 ≡ old → is_in (marks old new (mark old new (after, found) x) row).1 w ≡ true) →
+        get_or before w 0 ≡ old → (eqb x w || is_in row w) ≡ true → is_in (marks old new (mark old new (after, found) x) row).1 w ≡ true
     cases w true q grows first later was e =
         let same : x ≡ w = eqb-true x w (sym q) in
         subst (λ (y : ℕ). is_in (marks old new (mark old new (after, found) x) row).1 y ≡ true) same (grows (first (ap (λ y. get_or before y 0) same ∙ was)))
@@ -189,14 +202,18 @@ both_each : (n : ℕ) (P : ℕ → Type 0) (xs : List ℕ) → All (λ v. v < n)
 both_each n P [] small h = tt
 both_each n P (x ∷ xs) small h = ((All-head (λ v. v < n) x xs small, h.0), both_each n P xs (All-tail (λ v. v < n) x xs small) h.1)
 
-pub followed_more : (g : Graph) (old new from i u : ℕ) (before after found : List ℕ) (s : List ℕ × List ℕ) → old ≢ new → i < length found → u ≡ get_or found i 0 → All (λ v. v < length before) (edges g u) → Searching g old new from before after found → AreFollowed g old before found i → s ≡ marks old new (after, found) (edges g u) → Searching g old new from before s.0 s.1 × AreFollowed g old before s.1 (i + 1) × GoesOn found s.1
+pub followed_more : (g : Graph) (old new from i u : ℕ) (before after found : List ℕ) (s : List ℕ × List ℕ) → old ≢ new → i < length found →
+    u ≡ get_or found i 0 → All (λ v. v < length before) (edges g u) → Searching g old new from before after found → AreFollowed g old before found i →
+    s ≡ marks old new (after, found) (edges g u) → Searching g old new from before s.0 s.1 × AreFollowed g old before s.1 (i + 1) × GoesOn found s.1
 followed_more g old new from i u before after found s differ lt at within h followed is =
     let from_u : is_in found u ≡ true = subst (λ (x : ℕ). is_in found x ≡ true) (sym at) (is_in-at found i lt) in
     let m = marks_keep g old new from u (edges g u) before after found differ (both_each (length before) (λ w. is_in (edges g u) w ≡ true) (edges g u) within (each_in (edges g u))) from_u h in
     let P : List ℕ × List ℕ → Type 0 = λ t. Searching g old new from before t.0 t.1 × AreFollowed g old before t.1 (i + 1) × GoesOn found t.1 in
     subst P (sym is) (m.searching, λ k le w e was. cases m k le w e was (eqb k i) refl, m.goes_on)
   where
-    cases : Marked g old new from before found (edges g u) (marks old new (after, found) (edges g u)) → (k : ℕ) → k < i + 1 → (w : ℕ) → is_in (edges g (get_or (marks old new (after, found) (edges g u)).1 k 0)) w ≡ true → get_or before w 0 ≡ old → (b : Bool) → b ≡ eqb k i → is_in (marks old new (after, found) (edges g u)).1 w ≡ true
+    cases : Marked g old new from before found (edges g u) (marks old new (after, found) (edges g u)) → (k : ℕ) → k < i + 1 → (w : ℕ) →
+        is_in (edges g (get_or (marks old new (after, found) (edges g u)).1 k 0)) w ≡ true → get_or before w 0 ≡ old → (b : Bool) → b ≡ eqb k i →
+        is_in (marks old new (after, found) (edges g u)).1 w ≡ true
     cases m k le w e was b q =
         let lt' : k < length found = omega arith in
         let kept : get_or (marks old new (after, found) (edges g u)).1 k 0 ≡ get_or found k 0 = ap (λ f. get_or f k 0) m.goes_on.is ∙ get_or-append found m.goes_on.more 0 k lt' in
@@ -212,7 +229,8 @@ followed_more g old new from i u before after found s differ lt at within h foll
             grown found (marks old new (after, found) (edges g u)).1 w m.goes_on (followed k lt'' w e' was)
 
 -- where all edges have been followed
-pub finds : (g : Graph) (old new from i : ℕ) (before after found : List ℕ) → Searching g old new from before after found → AreFollowed g old before found i → length found ≤ i → is_in found from ≡ true → Finds g old new from before after found
+pub finds : (g : Graph) (old new from i : ℕ) (before after found : List ℕ) → Searching g old new from before after found →
+    AreFollowed g old before found i → length found ≤ i → is_in found from ≡ true → Finds g old new from before after found
 finds g old new from i before after found h followed all begun = record {
   size = h.size;
   within = h.within;
@@ -233,7 +251,8 @@ pub record Round (g : Graph) (old new from : ℕ) (before after found : List ℕ
   pub followed : AreFollowed g old before found i
   pub begun : is_in found from ≡ true
 
-pub first_round : (g : Graph) (old new from : ℕ) (before : List ℕ) (s : List ℕ × List ℕ) → old ≢ new → from < length before → get_or before from 0 ≡ old → s ≡ mark old new (before, []) from → Round g old new from before s.0 s.1 0
+pub first_round : (g : Graph) (old new from : ℕ) (before : List ℕ) (s : List ℕ × List ℕ) → old ≢ new → from < length before →
+    get_or before from 0 ≡ old → s ≡ mark old new (before, []) from → Round g old new from before s.0 s.1 0
 first_round g old new from before s differ lt is_old is =
     let P : List ℕ × List ℕ → Type 0 = λ t. Round g old new from before t.0 t.1 0 in
     subst P (sym is) (rw (eq-eqb (get_or before from 0) old is_old) record {
@@ -270,7 +289,9 @@ get_or-any (x ∷ xs) zero d e lt = refl
 get_or-any (x ∷ xs) (suc i) d e lt = get_or-any xs i d e (omega arith)
 
 -- one more round
-pub next_round : (g : Graph) (old new from i u : ℕ) (before after found row : List ℕ) (s : List ℕ × List ℕ) → old ≢ new → length before ≡ length g → All (All (λ w. w < length g)) g → i < length found → u ≡ get_or found i u → row ≡ edges g u → Round g old new from before after found i → s ≡ marks old new (after, found) row → Round g old new from before s.0 s.1 (i + 1)
+pub next_round : (g : Graph) (old new from i u : ℕ) (before after found row : List ℕ) (s : List ℕ × List ℕ) → old ≢ new → length before ≡ length g →
+    All (All (λ w. w < length g)) g → i < length found → u ≡ get_or found i u → row ≡ edges g u → Round g old new from before after found i →
+    s ≡ marks old new (after, found) row → Round g old new from before s.0 s.1 (i + 1)
 next_round g old new from i u before after found row s differ size graph lt at row_is h is =
     let at' : u ≡ get_or found i 0 = at ∙ get_or-any found i u 0 lt in
     let small : u < length before = subst (λ (x : ℕ). x < length before) (sym at') (h.searching.within i 0 lt) in

@@ -46,7 +46,9 @@ row_in [] rows v w u h = none (is_in (get_or rows w []) u) (eqb v u)
     none false false = refl
 row_in (x ∷ row) rows v w u h =
     let first = edge_in rows v w x u (All-head (λ y. y < length rows) x row h) in
-    let rest = row_in row (with_edge v rows x) v w u (All-weaker (λ y. y < length rows) (λ y. y < length (with_edge v rows x)) (λ y lt. let e = length-with_edge v rows x in omega (arith, e)) row (All-tail (λ y. y < length rows) x row h)) in
+    let rest = row_in row (with_edge v rows x) v w u
+    (All-weaker (λ y. y < length rows) (λ y. y < length (with_edge v rows x)) (λ y lt. let e = length-with_edge v rows x in omega (arith, e)) row
+    (All-tail (λ y. y < length rows) x row h)) in
     rest ∙ ap (λ b. b || (eqb v u && is_in row w)) first ∙ joined (is_in (get_or rows w []) u) (eqb v u) (eqb x w) (is_in row w)
   where
     joined : (a b c d : Bool) → ((a || (b && c)) || (b && d)) ≡ (a || (b && (c || d)))

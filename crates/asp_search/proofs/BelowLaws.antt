@@ -29,7 +29,8 @@ use Rattle.asp_search.specs.Invariants.{view_of}
 use Rattle.asp_search.proofs.StepsLaws.{continues_from, fails_same}
 
 -- ---- a nogood that shows a set unstable
-pub fault_useful : (p : Program) (known : List Atoms) (bound : Option (List ℤ)) (gives : Nogood → Type 0) (vars : ℕ) (es : List Entry) (n : Nogood) → IsFault p gives vars es n → IsUseful p known bound n
+pub fault_useful : (p : Program) (known : List Atoms) (bound : Option (List ℤ)) (gives : Nogood → Type 0) (vars : ℕ) (es : List Entry) (n : Nogood) →
+    IsFault p gives vars es n → IsUseful p known bound n
 fault_useful p known bound gives vars es n f = record {
   good = subst (λ (b : Base). HitsOnly p (excuse p known bound b) n.lits) (sym f.pure) f.entailed;
   counts = subst (Counts bound) (sym f.pure) tt;
@@ -55,7 +56,8 @@ module _ (gives : Nogood → Type 0) (md : Mode) (t u : SearchView) (c : Paced) 
       (omega (arith, ap (length {A = Entry}) implies.1, length-append t.entries implies.0))
 
   -- and memory is wanting then
-  pub adds_fail : (q : List Literal) (f : Units) → ((n : Nogood) → gives n → Counts t.bound n.base) → Adds gives t.slots u.slots → Implies t.entries u.entries → u ≡ record t { entries = u.entries; slots = u.slots } →
+  pub adds_fail : (q : List Literal) (f : Units) → ((n : Nogood) → gives n → Counts t.bound n.base) → Adds gives t.slots u.slots →
+      Implies t.entries u.entries → u ≡ record t { entries = u.entries; slots = u.slots } →
       Fails gives (view_of md t c known last) (view_of md u c known None) q f f
   adds_fail q f counts adds implies e =
       fails_after gives (view_of md t c known last) (view_of md u c known None) (view_of md u c known None) q f f (adds_continue counts adds implies e) (fails_same gives md u c known None q f)

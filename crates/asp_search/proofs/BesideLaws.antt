@@ -78,7 +78,9 @@ search_is_new p m t c e f = ap (λ (x : SearchView). view_of m x c [] None) e �
 pub unbounded_state : (p : Program) (bound : Option (List ℤ)) (t : SearchView) → bound ≡ None →
     t ≡ record { program = p; bound = bound; cube = None; clashing = false; decisions = []; entries = []; slots = t.slots; ranking = first_ranking p } → t ≡ first_state p t.slots
 unbounded_state p bound t none e =
-    e ∙ ap (λ (b : Option (List ℤ)). let x : SearchView = record { program = p; bound = b; cube = None; clashing = false; decisions = []; entries = []; slots = t.slots; ranking = first_ranking p } in x) none
+    e ∙ ap (λ (b : Option (List ℤ)). let x : SearchView =
+    record { program = p; bound = b; cube = None; clashing = false; decisions = []; entries = []; slots = t.slots; ranking = first_ranking p }
+    in x) none
 
 -- ---- nogoods of others
 of_use_counts : (m : Mode) (bound : Option (List ℤ)) (b : Base) → is_of_use m bound b ≡ true → Counts bound b

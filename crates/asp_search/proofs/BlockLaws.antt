@@ -75,7 +75,8 @@ begins_within old lits h l has =
     (has_more (take (length lits) old) (drop (length lits) old) l (subst (λ (n : List Literal). has_literal n l ≡ true) same has))
 
 -- ---- dropping one
-pub drop_one : (newest : Nogood) (id old : ℕ) (first slots : List (Option StoredNogood)) (blocking : List ℕ) (n : Nogood) → AreBlocking slots (blocking ++ old ∷ []) → nogood_at slots old ≡ Some n → IsWithin newest.lits n.lits →
+pub drop_one : (newest : Nogood) (id old : ℕ) (first slots : List (Option StoredNogood)) (blocking : List ℕ) (n : Nogood) →
+    AreBlocking slots (blocking ++ old ∷ []) → nogood_at slots old ≡ Some n → IsWithin newest.lits n.lits →
     Drops newest id first slots (blocking ++ old ∷ []) → Drops newest id first (set slots old None) blocking
 drop_one newest id old first slots blocking n b k within d =
     let parts = blocking_pop slots blocking old b in
@@ -156,7 +157,8 @@ init_last (x ∷ y ∷ ys) zero d h = absurd (omega (arith, h))
 init_last (x ∷ xs) (suc n) d h = ap (λ (zs : List ℕ). x ∷ zs) (init_last xs n d (omega (arith, h)))
 
 -- dropping it
-module _ (slots : List (Option StoredNogood)) (blocking rest : List ℕ) (id : ℕ) (lits : List Literal) (es : List Entry) (is : blocking ≡ rest ++ id ∷ []) (b : AreBlocking slots blocking) (redundant : IsRedundant slots es lits id) where
+module _ (slots : List (Option StoredNogood)) (blocking rest : List ℕ) (id : ℕ) (lits : List Literal) (es : List Entry)
+    (is : blocking ≡ rest ++ id ∷ []) (b : AreBlocking slots blocking) (redundant : IsRedundant slots es lits id) where
   split : AreBlocking slots (rest ++ id ∷ [])
   split = subst (AreBlocking slots) is b
 
@@ -178,16 +180,19 @@ module _ (slots : List (Option StoredNogood)) (blocking rest : List ℕ) (id : �
   newest_gone = let parts = blocking_pop slots rest id split in removed_blocking slots rest id parts.1 parts.0
 
 -- the last of the list, where it was dropped
-pub last_dropped : (t u : SearchView) (blocking new : List ℕ) (n id : ℕ) (lits : List Literal) → n + 1 ≡ length blocking → id ≡ get_or blocking n id → AreBlocking t.slots blocking → IsRedundant t.slots t.entries lits id →
+pub last_dropped : (t u : SearchView) (blocking new : List ℕ) (n id : ℕ) (lits : List Literal) → n + 1 ≡ length blocking → id ≡ get_or blocking n id →
+    AreBlocking t.slots blocking → IsRedundant t.slots t.entries lits id →
     u ≡ record t { slots = set t.slots id None } → new ≡ take n blocking →
     AreBlocking u.slots new × ((newest : Nogood) (j : ℕ) (first : List (Option StoredNogood)) → newest.lits ≡ lits → Drops newest j first t.slots blocking → Drops newest j first u.slots new)
 last_dropped t u blocking new n id lits size at stand redundant gone short =
     let is : blocking ≡ take n blocking ++ id ∷ [] = init_last blocking n id size ∙ ap (λ (i : ℕ). take n blocking ++ i ∷ []) (sym at) in
     let slots : set t.slots id None ≡ u.slots = sym (ap (λ (x : SearchView). x.slots) gone) in (
-      subst (AreBlocking u.slots) (sym short) (subst (λ (xs : List (Option StoredNogood)). AreBlocking xs (take n blocking)) slots (newest_gone t.slots blocking (take n blocking) id lits t.entries is stand redundant)),
+      subst (AreBlocking u.slots) (sym short) (subst (λ (xs : List (Option StoredNogood)). AreBlocking xs (take n blocking)) slots
+          (newest_gone t.slots blocking (take n blocking) id lits t.entries is stand redundant)),
       λ newest j first same d.
           subst (Drops newest j first u.slots) (sym short)
-          (subst (λ (xs : List (Option StoredNogood)). Drops newest j first xs (take n blocking)) slots (newest_drops t.slots blocking (take n blocking) id lits t.entries is stand redundant newest j first same d)),
+          (subst (λ (xs : List (Option StoredNogood)). Drops newest j first xs (take n blocking)) slots
+          (newest_drops t.slots blocking (take n blocking) id lits t.entries is stand redundant newest j first same d)),
     )
 
 -- the slots alone changed, and then once more
@@ -214,7 +219,8 @@ pub some_is : (o : Option Nogood) → IsSome o → (n : Nogood) × (o ≡ Some n
 some_is None h = cc
 some_is (Some n) h = (n, refl)
 
-pub redundant_from : (vars : ℕ) (slots : List (Option StoredNogood)) (es : List Entry) (lits : List Literal) (id : ℕ) (n : Nogood) → IsOrdered vars es → AreReasoned (nogood_at slots) es → length slots ≤ 2 ^ 31 → nogood_at slots id ≡ Some n →
+pub redundant_from : (vars : ℕ) (slots : List (Option StoredNogood)) (es : List Entry) (lits : List Literal) (id : ℕ) (n : Nogood) →
+    IsOrdered vars es → AreReasoned (nogood_at slots) es → length slots ≤ 2 ^ 31 → nogood_at slots id ≡ Some n →
     starts_with literal_eq n.lits lits ≡ true → All (λ l. reason_in es l.var ≢ Some id) n.lits → IsRedundant slots es lits id
 redundant_from vars slots es lits id n o r few k begins none = record {
   within = λ m q. subst (λ (x : Nogood). IsWithin lits x.lits) (same_nogood n m (sym k ∙ q)) (begins_within n.lits lits begins);
@@ -240,7 +246,8 @@ block_blocking t a b k id newest blocking stand keep undo =
     subst (λ (xs : List (Option StoredNogood)). AreBlocking xs blocking) (sym (ap (λ (x : SearchView). x.slots) undo)) (drop_none newest t.slots a.slots id blocking keep stand).blocking_stand
 
 -- all of it, where the new nogood is listed
-pub block_done : (t a b u : SearchView) (k id : ℕ) (q : List Literal) (newest : Nogood) (lits : List Literal) (old blocking new : List ℕ) → newest ≡ blocking_nogood q t.decisions → lits ≡ newest.lits →
+pub block_done : (t a b u : SearchView) (k id : ℕ) (q : List Literal) (newest : Nogood) (lits : List Literal) (old blocking new : List ℕ) →
+    newest ≡ blocking_nogood q t.decisions → lits ≡ newest.lits →
     AreBlocking t.slots old → k ≡ length t.decisions - 1 → a ≡ record t { slots = a.slots } → IsAddedAt t.slots a.slots id newest kind.Forever →
     b ≡ record a { decisions = take k a.decisions; entries = cut k a.entries; ranking = b.ranking } → u ≡ record b { slots = u.slots } →
     ((w : Nogood) (j : ℕ) (first : List (Option StoredNogood)) → w.lits ≡ lits → Drops w j first b.slots old → Drops w j first u.slots blocking) →
@@ -253,7 +260,8 @@ block_done t a b u k id q newest lits old blocking new is same stand count keep 
     subst (λ (n : Nogood). Blocks n t u id new) is (subst (Blocks newest t u id) (sym pushed) done)
 
 -- ---- where others go then
-pub block_thinned : (newest : Nogood) (t m u : SearchView) (id : ℕ) (blocking : List ℕ) (es : List Entry) → Blocks newest t m id blocking → u ≡ record m { slots = u.slots } → IsReduced es m.slots u.slots → Blocks newest t u id blocking
+pub block_thinned : (newest : Nogood) (t m u : SearchView) (id : ℕ) (blocking : List ℕ) (es : List Entry) → Blocks newest t m id blocking →
+    u ≡ record m { slots = u.slots } → IsReduced es m.slots u.slots → Blocks newest t u id blocking
 block_thinned newest t m u id blocking es b same r =
     let third : SearchView → SearchView = λ x. record x { slots = u.slots } in
     let fourth : Ranking → SearchView = λ r. record t { entries = cut (length t.decisions - 1) t.entries; decisions = take (length t.decisions - 1) t.decisions; slots = u.slots; ranking = r } in

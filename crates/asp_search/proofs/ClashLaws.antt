@@ -26,7 +26,9 @@ module _ (t : SearchView) (id : ℕ) (lit : Literal) (top : ℕ) (cube decisions
   lists_conflict p known b bound same m =
       subst (λ (x : Option (List ℤ)). IsConflict p known x cube decisions nogood) (sym same)
       (subst (λ (x : List Literal). IsConflict p known b x decisions nogood) (sym (is_cube m.cube m.entered))
-      (subst (λ (x : List Literal). IsConflict p known b m.cube x nogood) (sym decided) (subst (λ (x : List Literal). IsConflict p known b m.cube (take (level_in t.entries lit.var) t.decisions) x) (sym (from_is p known b m)) m.conflict)))
+      (subst (λ (x : List Literal). IsConflict p known b m.cube x nogood) (sym decided)
+      (subst (λ (x : List Literal). IsConflict p known b m.cube (take (level_in t.entries lit.var) t.decisions) x) (sym (from_is p known b m))
+      m.conflict)))
 
   pub clash_is : (p : Program) (k sought : Option Reasoning) (answers : List Atoms) (size : ℕ) (b bound : Option (List ℤ)) (x : Clash) → sought ≡ k → size ≡ length answers → bound ≡ b →
       x ≡ record { program = p; cube = cube; decisions = decisions; nogood = nogood; reasoning = sought; known = size; bound = bound } → IsClashOf p k answers b t id lit x

@@ -124,7 +124,8 @@ pub useful_among : (p : Program) (K L : List Atoms) (bound : Option (List ℤ)) 
 useful_among p K L bound n among u = record { good = base_among p K L bound n.base n.lits among u.good; counts = u.counts }
 
 -- ---- what it leaves out
-each_covered : (r : Reasoning) (p : Program) (K : List Atoms) (slots : List (Option StoredNogood)) → ((S : Atoms) → covers r p K S ≡ true → IsExcluded p slots S) → (M : List Atoms) → AreExcluded p slots (filter (covers r p K) M)
+each_covered : (r : Reasoning) (p : Program) (K : List Atoms) (slots : List (Option StoredNogood)) →
+    ((S : Atoms) → covers r p K S ≡ true → IsExcluded p slots S) → (M : List Atoms) → AreExcluded p slots (filter (covers r p K) M)
 each_covered r p K slots out [] = tt
 each_covered r p K slots out (S ∷ M) = cases (covers r p K S) refl (each_covered r p K slots out M)
   where
@@ -145,7 +146,8 @@ differ : (r : Reasoning) → mode.Consequences r ≡ mode.Opt → ⊥
 differ r e = cc
 
 -- ---- what the search keeps
-search_renewed : (p : Program) (r : Reasoning) (t u : SearchView) (vars : ℕ) (checker : Program) (K L : List Atoms) (blocking new : List ℕ) (bound : Option (List ℤ)) (last latest : Option ℕ) → Covers (covering_nogood r p L) t u new →
+search_renewed : (p : Program) (r : Reasoning) (t u : SearchView) (vars : ℕ) (checker : Program) (K L : List Atoms) (blocking new : List ℕ)
+    (bound : Option (List ℤ)) (last latest : Option ℕ) → Covers (covering_nogood r p L) t u new →
     AreAmong (used_up (Some r) p K) (used_up (Some r) p L) → L ≢ [] → IsLast u.slots latest → IsSearch p (mode.Consequences r) t vars checker (used_up (Some r) p K) blocking bound last →
     IsSearch p (mode.Consequences r) u vars checker (used_up (Some r) p L) new bound latest
 search_renewed p r t u vars checker K L blocking new bound last latest c among some stands s =
@@ -167,18 +169,22 @@ search_renewed p r t u vars checker K L blocking new bound last latest c among s
   where
     useful : (j : ℕ) (n : Nogood) → (nogood_at t.slots j ≡ Some n) ⊎ (n ≡ covering_nogood r p L) → IsUseful t.program (used_up (Some r) p L) t.bound n
     useful j n (inl k) = useful_among t.program (used_up (Some r) p K) (used_up (Some r) p L) t.bound n among (s.useful j n k)
-    useful j n (inr e) = subst (IsUseful t.program (used_up (Some r) p L) t.bound) (sym e) (subst (λ (x : Program). IsUseful x (used_up (Some r) p L) t.bound (covering_nogood r p L)) s.program (covering_useful r p L t.bound some))
+    useful j n (inr e) = subst (IsUseful t.program (used_up (Some r) p L) t.bound) (sym e)
+        (subst (λ (x : Program). IsUseful x (used_up (Some r) p L) t.bound (covering_nogood r p L)) s.program (covering_useful r p L t.bound some))
 
     out : (S : Atoms) → covers r p L S ≡ true → IsExcluded p u.slots S
     out S h = record { id = c.id; kept = record { nogood = covering_nogood r p L; kind = kind.Forever; locked = false }; stands = c.stands; forever = refl; hit = covering_hits r p L S some ∙ h }
 
-pub search_covers : (p : Program) (m : Mode) (r : Reasoning) (t u : SearchView) (vars : ℕ) (checker : Program) (K L : List Atoms) (blocking new : List ℕ) (bound : Option (List ℤ)) (last latest : Option ℕ) → reasoning_of m ≡ Some r →
-    Covers (covering_nogood r p L) t u new → AreAmong (used_up (Some r) p K) (used_up (Some r) p L) → L ≢ [] → IsLast u.slots latest → IsSearch p m t vars checker (used_up (reasoning_of m) p K) blocking bound last →
+pub search_covers : (p : Program) (m : Mode) (r : Reasoning) (t u : SearchView) (vars : ℕ) (checker : Program) (K L : List Atoms)
+    (blocking new : List ℕ) (bound : Option (List ℤ)) (last latest : Option ℕ) → reasoning_of m ≡ Some r →
+    Covers (covering_nogood r p L) t u new → AreAmong (used_up (Some r) p K) (used_up (Some r) p L) → L ≢ [] → IsLast u.slots latest →
+    IsSearch p m t vars checker (used_up (reasoning_of m) p K) blocking bound last →
     IsSearch p m u vars checker (used_up (reasoning_of m) p L) new bound latest
 search_covers p m r t u vars checker K L blocking new bound last latest sought c among some stands s =
     let is : m ≡ mode.Consequences r = mode_is m r sought in
     subst (λ (x : Mode). IsSearch p x u vars checker (used_up (reasoning_of x) p L) new bound latest) (sym is)
-    (search_renewed p r t u vars checker K L blocking new bound last latest c among some stands (subst (λ (x : Mode). IsSearch p x t vars checker (used_up (reasoning_of x) p K) blocking bound last) is s))
+    (search_renewed p r t u vars checker K L blocking new bound last latest c among some stands
+    (subst (λ (x : Mode). IsSearch p x t vars checker (used_up (reasoning_of x) p K) blocking bound last) is s))
 
 -- ---- one answer more
 pub some_with : (r : Reasoning) (p : Program) (K L : List Atoms) (S : Atoms) → L ≡ common_sets r p (K ++ S ∷ []) → L ≢ []
@@ -189,7 +195,9 @@ some_with r p K L S is none = cut (sym (common-push r p K S) ∙ (sym is ∙ non
 
 -- which uses up what those before did
 pub used_with : (r : Reasoning) (p : Program) (K L : List Atoms) (S : Atoms) → L ≡ common_sets r p (K ++ S ∷ []) → AreAmong (used_up (Some r) p K) (used_up (Some r) p L)
-used_with r p K L S is = used-less r p K L (λ a h. unshown-among r p K (K ++ S ∷ []) among a (ap (λ (A : Atoms). has A a) (sym (unshown-common r p (K ++ S ∷ [])) ∙ ap (unshown r p) (sym is)) ∙ h)) (some_with r p K L S is)
+used_with r p K L S is = used-less r p K L
+    (λ a h. unshown-among r p K (K ++ S ∷ []) among a
+    (ap (λ (A : Atoms). has A a) (sym (unshown-common r p (K ++ S ∷ [])) ∙ ap (unshown r p) (sym is)) ∙ h)) (some_with r p K L S is)
   where
     among : AreAmong K (K ++ S ∷ [])
     among T h = list_any-append (same_set T) K (S ∷ []) ∙ or_left (list_any (same_set T) K) (list_any (same_set T) (S ∷ [])) h
@@ -219,27 +227,33 @@ covered gives r t u c K L last q S f new none found is b = record {
     cases j n (inl e) = inl (IsDerived.stands j e)
     cases j n (inr e) = inr (e ∙ ap (covering_nogood r t.program) is)
 
-pub covered_answer : (gives : Nogood → Type 0) (m : Mode) (r : Reasoning) (t u : SearchView) (c : Paced) (K L : List Atoms) (last : Option ℕ) (q : List Literal) (S : Atoms) (f : Units) (new : List ℕ) → reasoning_of m ≡ Some r → last ≡ None →
-    IsFound (view_of m t c K last) q S → L ≡ common_sets r t.program (K ++ S ∷ []) → Covers (covering_nogood r t.program L) t u new → Answers gives (view_of m t c K last) (view_of m u c L last) q f f S
+pub covered_answer : (gives : Nogood → Type 0) (m : Mode) (r : Reasoning) (t u : SearchView) (c : Paced) (K L : List Atoms) (last : Option ℕ)
+    (q : List Literal) (S : Atoms) (f : Units) (new : List ℕ) → reasoning_of m ≡ Some r → last ≡ None →
+    IsFound (view_of m t c K last) q S → L ≡ common_sets r t.program (K ++ S ∷ []) → Covers (covering_nogood r t.program L) t u new →
+    Answers gives (view_of m t c K last) (view_of m u c L last) q f f S
 covered_answer gives m r t u c K L last q S f new sought none found is b =
     let at : m ≡ mode.Consequences r = mode_is m r sought in
-    subst (λ (x : Mode). Answers gives (view_of x t c K last) (view_of x u c L last) q f f S) (sym at) (covered gives r t u c K L last q S f new none (subst (λ (x : Mode). IsFound (view_of x t c K last) q S) at found) is b)
+    subst (λ (x : Mode). Answers gives (view_of x t c K last) (view_of x u c L last) q f f S) (sym at)
+    (covered gives r t u c K L last q S f new none (subst (λ (x : Mode). IsFound (view_of x t c K last) q S) at found) is b)
 
 -- the nogood that a call to the search brings
-pub adopted : (m : Mode) (r : Reasoning) (t u : SearchView) (c : Paced) (K L : List Atoms) (last : Option ℕ) (new : List ℕ) → reasoning_of m ≡ Some r → u ≡ record t { slots = u.slots } → Covers (covering_nogood r t.program L) t u new →
+pub adopted : (m : Mode) (r : Reasoning) (t u : SearchView) (c : Paced) (K L : List Atoms) (last : Option ℕ) (new : List ℕ) →
+    reasoning_of m ≡ Some r → u ≡ record t { slots = u.slots } → Covers (covering_nogood r t.program L) t u new →
     Adopts (view_of m t c K last) (view_of m u c L None) L
 adopted m r t u c K L last new sought same b = record {
   same = ap (λ (y : SearchView). view_of m y c L None) same;
   nogoods = λ k e j n q. cases k e j n (b.nogoods j n q);
 }
   where
-    cases : (k : Reasoning) → reasoning_of m ≡ Some k → (j : ℕ) (n : Nogood) → (nogood_at t.slots j ≡ Some n) ⊎ (n ≡ covering_nogood r t.program L) → (nogood_at t.slots j ≡ Some n) ⊎ (n ≡ covering_nogood k t.program L)
+    cases : (k : Reasoning) → reasoning_of m ≡ Some k → (j : ℕ) (n : Nogood) → (nogood_at t.slots j ≡ Some n) ⊎ (n ≡ covering_nogood r t.program L) →
+        (nogood_at t.slots j ≡ Some n) ⊎ (n ≡ covering_nogood k t.program L)
     cases k e j n (inl q) = inl q
     cases k e j n (inr q) = inr (q ∙ ap (λ (x : Reasoning). covering_nogood x t.program L) (same_Some r k (sym sought ∙ e)))
 
 -- ---- dropping former ones
 -- the newest of the list
-pub spare_one : (id old : ℕ) (first slots : List (Option StoredNogood)) (blocking : List ℕ) → AreBlocking slots (blocking ++ old ∷ []) → Spares id first slots (blocking ++ old ∷ []) → Spares id first (set slots old None) blocking
+pub spare_one : (id old : ℕ) (first slots : List (Option StoredNogood)) (blocking : List ℕ) → AreBlocking slots (blocking ++ old ∷ []) →
+    Spares id first slots (blocking ++ old ∷ []) → Spares id first (set slots old None) blocking
 spare_one id old first slots blocking b d =
     let parts = blocking_pop slots blocking old b in
     let small : old < length slots = kept_within slots old x.kept x.stands in
@@ -261,7 +275,8 @@ spare_one id old first slots blocking b d =
     ne q = d.apart (length blocking) id (omega (arith, length-append blocking (old ∷ []))) (at blocking id ∙ sym q)
 
 -- the last of the list, where it was dropped
-pub last_spared : (t u : SearchView) (blocking new : List ℕ) (n id : ℕ) → n + 1 ≡ length blocking → id ≡ get_or blocking n id → AreBlocking t.slots blocking → u ≡ record t { slots = set t.slots id None } → new ≡ take n blocking →
+pub last_spared : (t u : SearchView) (blocking new : List ℕ) (n id : ℕ) → n + 1 ≡ length blocking → id ≡ get_or blocking n id →
+    AreBlocking t.slots blocking → u ≡ record t { slots = set t.slots id None } → new ≡ take n blocking →
     AreBlocking u.slots new × ((j : ℕ) (first : List (Option StoredNogood)) → Spares j first t.slots blocking → Spares j first u.slots new)
 last_spared t u blocking new n id size at stand gone short =
     let is : blocking ≡ take n blocking ++ id ∷ [] = init_last blocking n id size ∙ ap (λ (i : ℕ). take n blocking ++ i ∷ []) (sym at) in
@@ -275,7 +290,8 @@ last_spared t u blocking new n id size at stand gone short =
     )
 
 -- before any is dropped
-pub spare_none : (newest : Nogood) (slots more : List (Option StoredNogood)) (id : ℕ) (blocking : List ℕ) → IsAddedAt slots more id newest kind.Forever → AreBlocking slots blocking → Spares id more more blocking
+pub spare_none : (newest : Nogood) (slots more : List (Option StoredNogood)) (id : ℕ) (blocking : List ℕ) →
+    IsAddedAt slots more id newest kind.Forever → AreBlocking slots blocking → Spares id more more blocking
 spare_none newest slots more id blocking a b = record {
   none = λ j n q. q;
   stands = refl;
@@ -284,7 +300,8 @@ spare_none newest slots more id blocking a b = record {
 }
 
 -- after all: a was kept, at most decisions were taken back, others were dropped, and the number was listed
-pub cover_done : (newest : Nogood) (t a b u : SearchView) (id : ℕ) (old blocking new : List ℕ) → newest.base ≡ base.Local → a ≡ record t { slots = a.slots } → IsAddedAt t.slots a.slots id newest kind.Forever →
+pub cover_done : (newest : Nogood) (t a b u : SearchView) (id : ℕ) (old blocking new : List ℕ) → newest.base ≡ base.Local →
+    a ≡ record t { slots = a.slots } → IsAddedAt t.slots a.slots id newest kind.Forever →
     b ≡ record a { entries = b.entries; decisions = b.decisions; ranking = b.ranking } → u ≡ record b { slots = u.slots } → AreBlocking t.slots old →
     ((j : ℕ) (first : List (Option StoredNogood)) → Spares j first b.slots old → Spares j first u.slots blocking) → new ≡ blocking ++ id ∷ [] → Covers newest t u new
 cover_done newest t a b u id old blocking new local kept added undone dropped stand spares pushed =
@@ -318,15 +335,19 @@ cover_done newest t a b u id old blocking new local kept added undone dropped st
         ∙ (λ i. record t { entries = sym es i; decisions = sym ds i; slots = u.slots; ranking = sym rs i })
 
 -- what stands where the newest was kept, and where decisions were taken back then
-pub kept_blocking_stand : (t a : SearchView) (id : ℕ) (newest : Nogood) (old blocking : List ℕ) → AreBlocking t.slots old → IsAddedAt t.slots a.slots id newest kind.Forever → blocking ≡ old → AreBlocking a.slots blocking
+pub kept_blocking_stand : (t a : SearchView) (id : ℕ) (newest : Nogood) (old blocking : List ℕ) → AreBlocking t.slots old →
+    IsAddedAt t.slots a.slots id newest kind.Forever → blocking ≡ old → AreBlocking a.slots blocking
 kept_blocking_stand t a id newest old blocking stand added same =
     subst (AreBlocking a.slots) (sym same) (blocking_stay t.slots a.slots old (grows_forever t.slots a.slots (added_stays t.slots a.slots id newest kind.Forever added)) stand)
 
-pub undone_same : (a b : SearchView) (decisions : List Literal) (entries : List Entry) → b ≡ record a { decisions = decisions; entries = entries; ranking = b.ranking } → b ≡ record a { entries = b.entries; decisions = b.decisions; ranking = b.ranking }
+pub undone_same : (a b : SearchView) (decisions : List Literal) (entries : List Entry) →
+    b ≡ record a { decisions = decisions; entries = entries; ranking = b.ranking } →
+    b ≡ record a { entries = b.entries; decisions = b.decisions; ranking = b.ranking }
 undone_same a b decisions entries e =
     e ∙ (λ i. record a { entries = sym (ap (λ (x : SearchView). x.entries) e) i; decisions = sym (ap (λ (x : SearchView). x.decisions) e) i; ranking = b.ranking })
 
-pub undone_blocking : (a b : SearchView) (decisions : List Literal) (entries : List Entry) (blocking : List ℕ) → b ≡ record a { decisions = decisions; entries = entries; ranking = b.ranking } → AreBlocking a.slots blocking → AreBlocking b.slots blocking
+pub undone_blocking : (a b : SearchView) (decisions : List Literal) (entries : List Entry) (blocking : List ℕ) →
+    b ≡ record a { decisions = decisions; entries = entries; ranking = b.ranking } → AreBlocking a.slots blocking → AreBlocking b.slots blocking
 undone_blocking a b decisions entries blocking e stand = subst (λ (xs : List (Option StoredNogood)). AreBlocking xs blocking) (sym (ap (λ (x : SearchView). x.slots) e)) stand
 
 -- ---- what is kept of the answers, where consequences are sought
@@ -379,7 +400,9 @@ seen_some m p seen is some none = here (reasoning_of m) some (subst (IsSeen (rea
     here (Some r) some h = h
 
 -- what it is with one answer more
-pub seen_with : (m : Mode) (p : Program) (x y : Knowing) (S : Atoms) → IsSeenBy m p x → y ≡ record x { sets = common_sets x.reasoning x.program (x.sets ++ S ∷ []) } → IsSeenBy m p y × (y.reasoning ≡ x.reasoning) × (y.sets ≡ common_sets x.reasoning p (x.sets ++ S ∷ []))
+pub seen_with : (m : Mode) (p : Program) (x y : Knowing) (S : Atoms) → IsSeenBy m p x →
+    y ≡ record x { sets = common_sets x.reasoning x.program (x.sets ++ S ∷ []) } → IsSeenBy m p y × (y.reasoning ≡ x.reasoning) ×
+    (y.sets ≡ common_sets x.reasoning p (x.sets ++ S ∷ []))
 seen_with m p x y S s e = (
   record { program = ap (λ (z : Knowing). z.program) e ∙ s.program; reasoning = s.reasoning ∙ ap (λ (r : Reasoning). Some r) (sym (ap (λ (z : Knowing). z.reasoning) e)) },
   ap (λ (z : Knowing). z.reasoning) e,

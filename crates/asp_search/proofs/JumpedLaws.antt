@@ -61,7 +61,8 @@ pub jump_slots : (t u w : SearchView) (to id : ℕ) (slots : List (Option Stored
 jump_slots t u w to id slots lit e imply = sym (ap (λ (x : SearchView). x.slots) e) ∙ sym (ap (λ (x : SearchView). x.slots) imply)
 
 -- ---- what is asked for implying the literal
-module _ (t u : SearchView) (from : List Literal) (to : ℕ) (slots : List (Option StoredNogood)) (n : Nogood) (lit : Literal) (e : u ≡ back t to slots u.ranking) (o : IsOrdered (var_count t.program) t.entries)
+module _ (t u : SearchView) (from : List Literal) (to : ℕ) (slots : List (Option StoredNogood)) (n : Nogood) (lit : Literal)
+    (e : u ≡ back t to slots u.ranking) (o : IsOrdered (var_count t.program) t.entries)
     (c : AreContained (var_count t.program) t.entries n.lits) (j : IsJump t.entries from n.lits to lit) where
   pub back_under : (q : List Literal) → IsUnder t q → IsUnder u q
   back_under q x = subst (λ (y : SearchView). IsUnder y q) (sym e) (record { cube_is = x.cube_is; fixpoint = x.fixpoint })

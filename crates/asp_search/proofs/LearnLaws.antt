@@ -39,16 +39,19 @@ pub contained : (vars : ℕ) (es : List Entry) (n : List Literal) → is_violate
 contained vars es n h i d k = list_all_at (holds_in (assignment vars es)) n _ h (has_at n i d k)
 
 -- the violated nogood is the one that the store gives
-pub violated_is : (vars : ℕ) (slots : List (Option StoredNogood)) (es : List Entry) (id : ℕ) (n : Nogood) → Some n ≡ nogood_at slots id → IsViolated vars slots es id → is_violated (assignment vars es) n.lits ≡ true
+pub violated_is : (vars : ℕ) (slots : List (Option StoredNogood)) (es : List Entry) (id : ℕ) (n : Nogood) → Some n ≡ nogood_at slots id →
+    IsViolated vars slots es id → is_violated (assignment vars es) n.lits ≡ true
 violated_is vars slots es id n q v =
     subst (λ (m : Nogood). is_violated (assignment vars es) m.lits ≡ true) (ap (λ (o : Option Nogood). unwrap_or o n) (sym v.1 ∙ sym q)) v.2
 
-pub violated_at : (vars wars : ℕ) (slots tlots : List (Option StoredNogood)) (es fs : List Entry) (id : ℕ) → wars ≡ vars → tlots ≡ slots → fs ≡ es → IsViolated vars slots es id → IsViolated wars tlots fs id
+pub violated_at : (vars wars : ℕ) (slots tlots : List (Option StoredNogood)) (es fs : List Entry) (id : ℕ) → wars ≡ vars → tlots ≡ slots → fs ≡ es →
+    IsViolated vars slots es id → IsViolated wars tlots fs id
 violated_at vars wars slots tlots es fs id v s e h =
     subst (λ (n : ℕ). IsViolated n tlots fs id) (sym v)
     (subst (λ (xs : List (Option StoredNogood)). IsViolated vars xs fs id) (sym s) (subst (λ (xs : List Entry). IsViolated vars slots xs id) (sym e) h))
 
-pub explained : {E : Type 0} (r : Result Learned E) (gives : Nogood → Type 0) (says : Literal → ℕ → Nogood → Type 0) (vars : ℕ) (slots : List (Option StoredNogood)) (es : List Entry) (id : ℕ) (from : Nogood) → Some from ≡ nogood_at slots id →
+pub explained : {E : Type 0} (r : Result Learned E) (gives : Nogood → Type 0) (says : Literal → ℕ → Nogood → Type 0) (vars : ℕ)
+    (slots : List (Option StoredNogood)) (es : List Entry) (id : ℕ) (from : Nogood) → Some from ≡ nogood_at slots id →
     is_violated (assignment vars es) from.lits ≡ true → ((l : Literal) (k : ℕ) (n : Nogood) → says l k n → IsAtHand gives slots n) →
     IfOk r (λ l. (used : List Used) × IsReached es from used (nogood_of l) × All (IsNamed says es) used) →
     IfOk r (λ l. AreContained vars es (nogood_of l).lits) → IfOk r (λ l. AreAssumed es (nogood_of l).lits) → IfOk r (IsLearned es from.lits) → IfOk r (Explains gives vars slots es id)
@@ -66,7 +69,8 @@ explained (Ok l) gives says vars slots es id from q v had reached contained assu
 explained (Err e) gives says vars slots es id from q v had reached contained assumed learned = tt
 
 -- the same, where the trail and the store are the state's
-pub explained_at : {E : Type 0} (r : Result Learned E) (gives : Nogood → Type 0) (says : Literal → ℕ → Nogood → Type 0) (vars wars : ℕ) (slots tlots : List (Option StoredNogood)) (es fs : List Entry) (id : ℕ) (from : Nogood) →
+pub explained_at : {E : Type 0} (r : Result Learned E) (gives : Nogood → Type 0) (says : Literal → ℕ → Nogood → Type 0) (vars wars : ℕ)
+    (slots tlots : List (Option StoredNogood)) (es fs : List Entry) (id : ℕ) (from : Nogood) →
     wars ≡ vars → tlots ≡ slots → fs ≡ es → Some from ≡ nogood_at tlots id → IsViolated vars slots es id → ((l : Literal) (k : ℕ) (n : Nogood) → says l k n → IsAtHand gives slots n) →
     IfOk r (λ l. (used : List Used) × IsReached fs from used (nogood_of l) × All (IsNamed says fs) used) →
     IfOk r (λ l. AreContained wars fs (nogood_of l).lits) → IfOk r (λ l. AreAssumed fs (nogood_of l).lits) → IfOk r (IsLearned fs from.lits) → IfOk r (Explains gives vars slots es id)
@@ -78,7 +82,8 @@ explained_at r gives says vars wars slots tlots es fs id from v s e q violated h
     (λ l k n w. subst (λ (xs : List (Option StoredNogood)). IsAtHand gives xs n) (sym s) (had l k n w)) reached contained assumed learned)))
 
 -- what is said to be a reason is kept, or may be given
-pub said_at_hand : (late gives : Nogood → Type 0) (slots tlots : List (Option StoredNogood)) (es : List Entry) → tlots ≡ slots → ((n : Nogood) → late n → gives n) → (l : Literal) (k : ℕ) (n : Nogood) →
+pub said_at_hand : (late gives : Nogood → Type 0) (slots tlots : List (Option StoredNogood)) (es : List Entry) → tlots ≡ slots →
+    ((n : Nogood) → late n → gives n) → (l : Literal) (k : ℕ) (n : Nogood) →
     IsSaid late tlots es l k n → IsAtHand gives slots n
 said_at_hand late gives slots tlots es e given l k n (inl w) = inl (k, sym (ap (λ (xs : List (Option StoredNogood)). nogood_at xs k) e) ∙ w.here)
 said_at_hand late gives slots tlots es e given l k n (inr w) = inr (given n w.passes)

@@ -59,13 +59,15 @@ module _ (gives : Nogood → Type 0) (md : Mode) (t : SearchView) (c : Paced) (k
   pub met_useful : (l : Learned) → IsMet gives (view_of md t c known last) q id l → IsUseful t.program U t.bound (nogood_of l)
   met_useful l m =
       learnt_useful t.program U t.bound (var_count t.program) t.entries m.explains.from (nogood_of l) m.explains.used m.ordered m.explains.reached (m.useful id m.explains.from m.explains.stands)
-      (All-weaker (λ u. IsAtHand gives t.slots u.nogood) (λ u. IsUseful t.program U t.bound u.nogood) (λ u h. at_hand_useful t.program U t.bound gives t.slots m.useful m.given u.nogood h) m.explains.used m.explains.had)
+      (All-weaker (λ u. IsAtHand gives t.slots u.nogood) (λ u. IsUseful t.program U t.bound u.nogood)
+      (λ u h. at_hand_useful t.program U t.bound gives t.slots m.useful m.given u.nogood h) m.explains.used m.explains.had)
 
   pub met_derived : (l : Learned) → IsMet gives (view_of md t c known last) q id l → IsDerived t.program gives t.bound (nogood_at t.slots) (nogood_of l)
   met_derived l m = learnt_derived t.program gives t.bound (var_count t.program) t.slots t.entries id l m.ordered (λ n g. (m.given n g).counts) m.explains
 
   pub met_of : (l : Learned) → IsEntered (view_of md t c known last) q → IsOrdered (var_count t.program) t.entries → ((r : List Literal) → IsUnder t r → IsBegun t.program r t.decisions t.entries) →
-      AreSettled t.program U t.bound t.entries → AreUseful t.program U t.bound t.slots → ((n : Nogood) → gives n → IsUseful t.program U t.bound n) → Explains gives (var_count t.program) t.slots t.entries id l → IsMet gives (view_of md t c known last) q id l
+      AreSettled t.program U t.bound t.entries → AreUseful t.program U t.bound t.slots → ((n : Nogood) → gives n → IsUseful t.program U t.bound n) →
+      Explains gives (var_count t.program) t.slots t.entries id l → IsMet gives (view_of md t c known last) q id l
   met_of l e o begun r u v x =
       let b = begun q (record { cube_is = e.cube; fixpoint = e.clear }) in
       record { entered = e.cube; clear = e.clear; last = e.last; ordered = o; starts = b.starts; fixpoint = b.fixpoint; reasons = r; useful = u; given = v; explains = x }
@@ -105,7 +107,8 @@ module _ (gives : Nogood → Type 0) (md : Mode) (t : SearchView) (c : Paced) (k
         small = (jump_var vars t.entries x.from.lits n.lits to lit m.ordered x.contained j).1;
         has = has_value (value_of (values_of t) lit.var) (complement lit) holds;
         low = omega (arith, level_in_top t.entries lit.var m.ordered.rising, m.starts.counted);
-        conflict = conflict t.program vars q t.decisions t.entries x.from.lits j.top.0 top m.ordered m.starts m.fixpoint (omega (arith, j.above)) j.top.1 j.top.2 U t.bound settled (from_settled (learned.Jump n to lit) m);
+        conflict = conflict t.program vars q t.decisions t.entries x.from.lits j.top.0 top m.ordered m.starts m.fixpoint (omega (arith, j.above))
+            j.top.1 j.top.2 U t.bound settled (from_settled (learned.Jump n to lit) m);
       }
 
   -- the nogood that shows the conflict holds on the trail
@@ -119,7 +122,8 @@ module _ (gives : Nogood → Type 0) (md : Mode) (t : SearchView) (c : Paced) (k
 pub shows_for : (p : Program) (k : Option Reasoning) (known : List Atoms) (bound : Option (List ℤ)) (t : SearchView) (id : ℕ) (lit : Literal) → p ≡ t.program → bound ≡ t.bound →
     ShowsConflict t.program (used_up k t.program known) t.bound t id lit → ShowsConflict p (used_up k p known) bound t id lit
 shows_for p k known bound t id lit program bounded m =
-    subst (λ (x : Program). ShowsConflict x (used_up k x known) bound t id lit) (sym program) (subst (λ (x : Option (List ℤ)). ShowsConflict t.program (used_up k t.program known) x t id lit) (sym bounded) m)
+    subst (λ (x : Program). ShowsConflict x (used_up k x known) bound t id lit) (sym program)
+    (subst (λ (x : Option (List ℤ)). ShowsConflict t.program (used_up k t.program known) x t id lit) (sym bounded) m)
 
 pub clash_for : (p : Program) (k : Option Reasoning) (known : List Atoms) (bound : Option (List ℤ)) (t : SearchView) (id : ℕ) (lit : Literal) (x : Clash) → p ≡ t.program → bound ≡ t.bound →
     IsClashOf p k known bound t id lit x → IsClashOf t.program k known t.bound t id lit x
@@ -127,21 +131,28 @@ clash_for p k known bound t id lit x program bounded c =
     subst (λ (y : Program). IsClashOf y k known t.bound t id lit x) program (subst (λ (y : Option (List ℤ)). IsClashOf p k known y t id lit x) bounded c)
 
 -- the same of what need not be found again
-pub useful_for : (p : Program) (t : SearchView) (m : Mode) (known : List Atoms) (n : Nogood) → p ≡ t.program → IsUseful t.program (used_up (reasoning_of m) t.program known) t.bound n → IsUseful t.program (used_up (reasoning_of m) p known) t.bound n
+pub useful_for : (p : Program) (t : SearchView) (m : Mode) (known : List Atoms) (n : Nogood) → p ≡ t.program →
+    IsUseful t.program (used_up (reasoning_of m) t.program known) t.bound n → IsUseful t.program (used_up (reasoning_of m) p known) t.bound n
 useful_for p t m known n same h = subst (λ (x : Program). IsUseful t.program (used_up (reasoning_of m) x known) t.bound n) (sym same) h
 
-pub all_useful_for : (p : Program) (t : SearchView) (m : Mode) (known : List Atoms) → p ≡ t.program → AreUseful t.program (used_up (reasoning_of m) p known) t.bound t.slots → AreUseful t.program (used_up (reasoning_of m) t.program known) t.bound t.slots
+pub all_useful_for : (p : Program) (t : SearchView) (m : Mode) (known : List Atoms) → p ≡ t.program →
+    AreUseful t.program (used_up (reasoning_of m) p known) t.bound t.slots →
+    AreUseful t.program (used_up (reasoning_of m) t.program known) t.bound t.slots
 all_useful_for p t m known same h = subst (λ (x : Program). AreUseful t.program (used_up (reasoning_of m) x known) t.bound t.slots) same h
 
-pub all_excluded_for : (p : Program) (t : SearchView) (m : Mode) (known : List Atoms) → p ≡ t.program → AreExcluded t.program t.slots (used_up (reasoning_of m) p known) → AreExcluded t.program t.slots (used_up (reasoning_of m) t.program known)
+pub all_excluded_for : (p : Program) (t : SearchView) (m : Mode) (known : List Atoms) → p ≡ t.program →
+    AreExcluded t.program t.slots (used_up (reasoning_of m) p known) → AreExcluded t.program t.slots (used_up (reasoning_of m) t.program known)
 all_excluded_for p t m known same h = subst (λ (x : Program). AreExcluded t.program t.slots (used_up (reasoning_of m) x known)) same h
 
-pub settled_for : (p : Program) (t : SearchView) (m : Mode) (known : List Atoms) (S : Atoms) (lits : List Literal) → p ≡ t.program → Settled t.program (used_up (reasoning_of m) t.program known ++ S ∷ []) t.bound lits → Settled t.program (used_up (reasoning_of m) p known ++ S ∷ []) t.bound lits
+pub settled_for : (p : Program) (t : SearchView) (m : Mode) (known : List Atoms) (S : Atoms) (lits : List Literal) → p ≡ t.program →
+    Settled t.program (used_up (reasoning_of m) t.program known ++ S ∷ []) t.bound lits →
+    Settled t.program (used_up (reasoning_of m) p known ++ S ∷ []) t.bound lits
 settled_for p t m known S lits same h = subst (λ (x : Program). Settled t.program (used_up (reasoning_of m) x known ++ S ∷ []) t.bound lits) (sym same) h
 
 -- the reasons of the entries are settled, since what a propagator gives or writes counts
 pub settled_reasons : (p : Program) (t : SearchView) (m : Mode) (known : List Atoms) (gives late : Nogood → Type 0) → p ≡ t.program → IsSound p →
-    ((n : Nogood) (K : List Atoms) → IsSound t.program → gives n → IsUseful t.program K t.bound n) → ((n : Nogood) → late n → gives n) → AreUseful t.program (used_up (reasoning_of m) p known) t.bound t.slots →
+    ((n : Nogood) (K : List Atoms) → IsSound t.program → gives n → IsUseful t.program K t.bound n) → ((n : Nogood) → late n → gives n) →
+    AreUseful t.program (used_up (reasoning_of m) p known) t.bound t.slots →
     (IsSound t.program → AreImpliedBy (IsAtHand late t.slots) t.entries) → AreSettled t.program (used_up (reasoning_of m) t.program known) t.bound t.entries
 settled_reasons p t m known gives late same sound counts given useful implied =
     let s : IsSound t.program = subst IsSound same sound in
@@ -159,7 +170,8 @@ none_used None p = refl
 none_used (Some r) p = none_covered r p (models p)
 
 -- a list of one more, where no consequences are sought
-pub known_more : (m : Mode) (p : Program) (seen : Option Knowing) (K L : List Atoms) (S : Atoms) → IsSeen (reasoning_of m) p seen → m ≡ mode.Enum → L ≡ K ++ S ∷ [] → answers_known L seen ≡ answers_known K seen ++ S ∷ []
+pub known_more : (m : Mode) (p : Program) (seen : Option Knowing) (K L : List Atoms) (S : Atoms) → IsSeen (reasoning_of m) p seen → m ≡ mode.Enum →
+    L ≡ K ++ S ∷ [] → answers_known L seen ≡ answers_known K seen ++ S ∷ []
 known_more mode.Enum p None K L S is enum more = more
 known_more mode.Enum p (Some k) K L S is enum more = absurd is
 known_more mode.Opt p seen K L S is enum more = absurd (differ enum)
@@ -171,7 +183,8 @@ known_more (mode.Consequences r) p seen K L S is enum more = absurd (differ enum
     differ : mode.Consequences r ≡ mode.Enum → ⊥
     differ e = cc
 
-pub used_more : (m : Mode) (p : Program) (seen : Option Knowing) (K L : List Atoms) (S : Atoms) → IsSeen (reasoning_of m) p seen → m ≡ mode.Enum → L ≡ K ++ S ∷ [] → used_in p m L seen ≡ used_in p m K seen ++ S ∷ []
+pub used_more : (m : Mode) (p : Program) (seen : Option Knowing) (K L : List Atoms) (S : Atoms) → IsSeen (reasoning_of m) p seen → m ≡ mode.Enum →
+    L ≡ K ++ S ∷ [] → used_in p m L seen ≡ used_in p m K seen ++ S ∷ []
 used_more mode.Enum p None K L S is enum more = more
 used_more mode.Enum p (Some k) K L S is enum more = absurd is
 used_more mode.Opt p seen K L S is enum more = absurd (differ enum)

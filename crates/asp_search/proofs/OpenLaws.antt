@@ -74,7 +74,8 @@ shared_by p known bound base.Pure lits e good = good
 shared_by p known bound (base.Below c) lits e good = good
 shared_by p known bound base.Local lits e good = absurd (false≢true e)
 
-pub kept_shared : (longest : ℕ) (p : Program) (known : List Atoms) (bound : Option (List ℤ)) (slots : List (Option StoredNogood)) (id : ℕ) (n : Nogood) → AreUseful p known bound slots → AreSmall (var_count p) slots →
+pub kept_shared : (longest : ℕ) (p : Program) (known : List Atoms) (bound : Option (List ℤ)) (slots : List (Option StoredNogood)) (id : ℕ)
+    (n : Nogood) → AreUseful p known bound slots → AreSmall (var_count p) slots →
     nogood_at slots id ≡ Some n → is_shared longest n ≡ true → IsShared p n
 kept_shared longest p known bound slots id n useful small q e = record {
   variables = small id n q;

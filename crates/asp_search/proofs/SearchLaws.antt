@@ -27,7 +27,8 @@ use Rattle.asp_search.specs.Blocking.{Blocks}
 use Rattle.asp_search.specs.Invariants.{IsSearch}
 
 -- with what is useful then
-search_from : (p : Program) (m : Mode) (t u : SearchView) (vars : ℕ) (checker : Program) (known : List Atoms) (blocking : List ℕ) (bound : Option (List ℤ)) (last new : Option ℕ) → u.program ≡ t.program → u.bound ≡ t.bound →
+search_from : (p : Program) (m : Mode) (t u : SearchView) (vars : ℕ) (checker : Program) (known : List Atoms) (blocking : List ℕ)
+    (bound : Option (List ℤ)) (last new : Option ℕ) → u.program ≡ t.program → u.bound ≡ t.bound →
     AreUseful t.program known t.bound u.slots → KeepsForever t.slots u.slots → IsLast u.slots new →
     IsSearch p m t vars checker known blocking bound last → IsSearch p m u vars checker known blocking bound new
 search_from p m t u vars checker known blocking bound last new program bounded useful forever stands s = record {
@@ -50,19 +51,22 @@ pub search_checked : (p : Program) (m : Mode) (t : SearchView) (vars : ℕ) (che
 search_checked p m t vars checker new known blocking bound last same s = subst (λ (x : Program). IsSearch p m t vars x known blocking bound last) (sym same) s
 
 -- the same nogoods
-pub search_same : (p : Program) (m : Mode) (t u : SearchView) (vars : ℕ) (checker : Program) (known : List Atoms) (blocking : List ℕ) (bound : Option (List ℤ)) (last new : Option ℕ) → u.program ≡ t.program → u.bound ≡ t.bound →
+pub search_same : (p : Program) (m : Mode) (t u : SearchView) (vars : ℕ) (checker : Program) (known : List Atoms) (blocking : List ℕ)
+    (bound : Option (List ℤ)) (last new : Option ℕ) → u.program ≡ t.program → u.bound ≡ t.bound →
     u.slots ≡ t.slots → IsLast u.slots new → IsSearch p m t vars checker known blocking bound last → IsSearch p m u vars checker known blocking bound new
 search_same p m t u vars checker known blocking bound last new program bounded slots stands s =
     search_from p m t u vars checker known blocking bound last new program bounded (subst (λ (x : List (Option StoredNogood)). AreUseful t.program known t.bound x) (sym slots) s.useful)
     (λ id k q f. ap (λ (x : List (Option StoredNogood)). kept_at x id) slots ∙ q) stands s
 
-pub search_stays : (p : Program) (m : Mode) (t u : SearchView) (vars : ℕ) (checker : Program) (known : List Atoms) (blocking : List ℕ) (bound : Option (List ℤ)) (last : Option ℕ) → u.program ≡ t.program → u.bound ≡ t.bound →
+pub search_stays : (p : Program) (m : Mode) (t u : SearchView) (vars : ℕ) (checker : Program) (known : List Atoms) (blocking : List ℕ)
+    (bound : Option (List ℤ)) (last : Option ℕ) → u.program ≡ t.program → u.bound ≡ t.bound →
     u.slots ≡ t.slots → IsSearch p m t vars checker known blocking bound last → IsSearch p m u vars checker known blocking bound last
 search_stays p m t u vars checker known blocking bound last program bounded slots s =
     search_same p m t u vars checker known blocking bound last last program bounded slots (subst (λ (x : List (Option StoredNogood)). IsLast x last) (sym slots) s.last_stands) s
 
 -- those that a propagator gave
-pub search_adds : (p : Program) (m : Mode) (t u : SearchView) (vars : ℕ) (checker : Program) (known : List Atoms) (blocking : List ℕ) (bound : Option (List ℤ)) (last : Option ℕ) (gives : Nogood → Type 0) →
+pub search_adds : (p : Program) (m : Mode) (t u : SearchView) (vars : ℕ) (checker : Program) (known : List Atoms) (blocking : List ℕ)
+    (bound : Option (List ℤ)) (last : Option ℕ) (gives : Nogood → Type 0) →
     u.program ≡ t.program → u.bound ≡ t.bound → ((n : Nogood) → gives n → IsUseful t.program known t.bound n) → Adds gives t.slots u.slots →
     IsSearch p m t vars checker known blocking bound last → IsSearch p m u vars checker known blocking bound last
 search_adds p m t u vars checker known blocking bound last gives program bounded sound adds s =
@@ -70,14 +74,16 @@ search_adds p m t u vars checker known blocking bound last gives program bounded
     search_from p m t u vars checker known blocking bound last last program bounded (useful_adds t.program known t.bound gives t.slots u.slots sound adds s.useful)
     (grows_forever t.slots u.slots g) (last_stays t.slots u.slots last g s.last_stands) s
 
-pub search_told : (p : Program) (m : Mode) (t u : SearchView) (vars : ℕ) (checker : Program) (known : List Atoms) (blocking : List ℕ) (bound : Option (List ℤ)) (last : Option ℕ) (gives : Nogood → Type 0) →
+pub search_told : (p : Program) (m : Mode) (t u : SearchView) (vars : ℕ) (checker : Program) (known : List Atoms) (blocking : List ℕ)
+    (bound : Option (List ℤ)) (last : Option ℕ) (gives : Nogood → Type 0) →
     u.program ≡ t.program → u.bound ≡ t.bound → ((n : Nogood) → gives n → IsUseful t.program known t.bound n) → Adds gives t.slots u.slots →
     IsSearch p m t vars checker known blocking bound last → IsSearch p m u vars checker known blocking bound None
 search_told p m t u vars checker known blocking bound last gives program bounded sound adds s =
     search_same p m u u vars checker known blocking bound last None refl refl refl tt (search_adds p m t u vars checker known blocking bound last gives program bounded sound adds s)
 
 -- one more
-pub search_added : (p : Program) (m : Mode) (t u : SearchView) (vars : ℕ) (checker : Program) (known : List Atoms) (blocking : List ℕ) (bound : Option (List ℤ)) (last new : Option ℕ) (id : ℕ) (n : Nogood) (kind : Kind) →
+pub search_added : (p : Program) (m : Mode) (t u : SearchView) (vars : ℕ) (checker : Program) (known : List Atoms) (blocking : List ℕ)
+    (bound : Option (List ℤ)) (last new : Option ℕ) (id : ℕ) (n : Nogood) (kind : Kind) →
     u.program ≡ t.program → u.bound ≡ t.bound → IsAddedAt t.slots u.slots id n kind → IsUseful t.program known t.bound n → IsLast u.slots new →
     IsSearch p m t vars checker known blocking bound last → IsSearch p m u vars checker known blocking bound new
 search_added p m t u vars checker known blocking bound last new id n kind program bounded a useful stands s =
@@ -92,8 +98,10 @@ pub newest_last : (t u : List (Option StoredNogood)) (id : ℕ) (n : Nogood) (ki
 newest_last t u id n kind a = (n, added_newest t u id n kind a)
 
 -- some fewer
-pub search_thinned : (p : Program) (m : Mode) (t u : SearchView) (vars : ℕ) (checker : Program) (known : List Atoms) (blocking : List ℕ) (bound : Option (List ℤ)) (last new : Option ℕ) (es : List Entry) →
-    u.program ≡ t.program → u.bound ≡ t.bound → IsReduced es t.slots u.slots → IsLast u.slots new → IsSearch p m t vars checker known blocking bound last → IsSearch p m u vars checker known blocking bound new
+pub search_thinned : (p : Program) (m : Mode) (t u : SearchView) (vars : ℕ) (checker : Program) (known : List Atoms) (blocking : List ℕ)
+    (bound : Option (List ℤ)) (last new : Option ℕ) (es : List Entry) →
+    u.program ≡ t.program → u.bound ≡ t.bound → IsReduced es t.slots u.slots → IsLast u.slots new →
+    IsSearch p m t vars checker known blocking bound last → IsSearch p m u vars checker known blocking bound new
 search_thinned p m t u vars checker known blocking bound last new es program bounded r stands s =
     search_from p m t u vars checker known blocking bound last new program bounded (useful_none t.program known t.bound t.slots u.slots (reduced_none es t.slots u.slots r) s.useful) r.forever stands s
 
@@ -107,7 +115,8 @@ last_named old slots id e l = (l.0, ap (option_map (λ (k : StoredNogood). k.nog
 
 -- ---- a smaller bound
 pub search_lower : (p : Program) (m : Mode) (t u : SearchView) (vars : ℕ) (checker : Program) (known : List Atoms) (blocking : List ℕ) (bound : Option (List ℤ)) (c : List ℤ) (last : Option ℕ) →
-    u.program ≡ t.program → u.bound ≡ Some c → u.slots ≡ t.slots → IsSmaller c t.bound → IsSearch p m t vars checker known blocking bound last → IsSearch p m u vars checker known blocking (Some c) last
+    u.program ≡ t.program → u.bound ≡ Some c → u.slots ≡ t.slots → IsSmaller c t.bound → IsSearch p m t vars checker known blocking bound last →
+    IsSearch p m u vars checker known blocking (Some c) last
 search_lower p m t u vars checker known blocking bound c last program bounded slots smaller s = record {
   program = s.program ∙ sym program;
   bounded = sym bounded;
@@ -156,7 +165,8 @@ search_lists p t u vars checker known id blocking new bound q S settled hit b s 
     useful j n (inr e) = subst (IsUseful t.program (known ++ S ∷ []) t.bound) (sym e) (record { good = settled; counts = tt })
 
 -- the same, of what the code has in its hands
-pub search_listed : (p : Program) (m : Mode) (t u : SearchView) (vars : ℕ) (checker : Program) (known ks : List Atoms) (id : ℕ) (blocking new : List ℕ) (bound : Option (List ℤ)) (last : Option ℕ) (q : List Literal) (S : Atoms) →
+pub search_listed : (p : Program) (m : Mode) (t u : SearchView) (vars : ℕ) (checker : Program) (known ks : List Atoms) (id : ℕ)
+    (blocking new : List ℕ) (bound : Option (List ℤ)) (last : Option ℕ) (q : List Literal) (S : Atoms) →
     m ≡ mode.Enum → last ≡ None → ks ≡ known ++ S ∷ [] → Settled t.program (known ++ S ∷ []) t.bound (q ++ t.decisions) → hits (values t.program S) (q ++ t.decisions) ≡ true →
     Blocks (blocking_nogood q t.decisions) t u id new → IsSearch p m t vars checker known blocking bound last → IsSearch p m u vars checker ks new bound (Some id)
 search_listed p m t u vars checker known ks id blocking new bound last q S enum none more settled hit b s =

@@ -109,7 +109,8 @@ module _ (gives : Nogood → Type 0) (md : Mode) (t : SearchView) (c : Paced) (k
     within = all_pass (has_literal q) (opposed l).lits (λ k h. pair_within k (or_cases (literal_eq l k) (has_literal (complement l ∷ []) k) h));
     why = IsDerived.given (IsAxiom.pair l) tt;
     settled =
-        clash_settled t.program (is_done t.program U t.bound) (opposed l).lits l (has_more (l ∷ []) (complement l ∷ []) l (one_has l)) (has_later (l ∷ []) (complement l ∷ []) (complement l) (one_has (complement l)));
+        clash_settled t.program (is_done t.program U t.bound) (opposed l).lits l (has_more (l ∷ []) (complement l ∷ []) l (one_has l))
+        (has_later (l ∷ []) (complement l ∷ []) (complement l) (one_has (complement l)));
     decisions = refl;
     derived = derived_same t.program gives t.bound t.slots;
     learnt = refl;
@@ -125,7 +126,8 @@ module _ (gives : Nogood → Type 0) (md : Mode) (t : SearchView) (c : Paced) (k
       pair_within k (inr h) = subst (λ (m : Literal). has_literal q m ≡ true) (only_one (complement l) k h) x.1
 
   -- ---- a conflict
-  pub conflict_of : (q : List Literal) (id : ℕ) (lit : Literal) (x : Clash) → t.cube ≡ Some q → ShowsConflict t.program U t.bound t id lit → IsClashOf t.program (reasoning_of md) known t.bound t id lit x →
+  pub conflict_of : (q : List Literal) (id : ℕ) (lit : Literal) (x : Clash) → t.cube ≡ Some q → ShowsConflict t.program U t.bound t id lit →
+      IsClashOf t.program (reasoning_of md) known t.bound t id lit x →
       IsConflictOf (view_of md t c known last) q x
   conflict_of q id lit x entered m is =
       let e = is m in
@@ -186,7 +188,8 @@ module _ (gives : Nogood → Type 0) (md : Mode) (t : SearchView) (c : Paced) (k
       let after : SearchView = record t { entries = cut to t.entries ++ entry ∷ []; decisions = take to t.decisions; slots = slots; ranking = ranking } in
       let later : Paced = record c { learnt = min (c.learnt + 1) (2 ^ 64 - 1) } in
       let j : IsJump t.entries m.explains.from.lits n.lits to lit = met_jump gives md t c known last q id n to lit m in
-      let start : take (length (cut to t.entries ++ entry ∷ []) - 1) (cut to t.entries ++ entry ∷ []) ≡ cut to t.entries = before_newest (cut to t.entries) (cut to t.entries ++ entry ∷ []) entry refl in
+      let start : take (length (cut to t.entries ++ entry ∷ []) - 1) (cut to t.entries ++ entry ∷ []) ≡ cut to t.entries =
+      before_newest (cut to t.entries) (cut to t.entries ++ entry ∷ []) entry refl in
       let beside : All (IsBeside (assignment vars (cut to t.entries)) lit) n.lits = jump_beside vars t.entries m.explains.from.lits n.lits to lit m.ordered m.explains.contained j in
       let follows : FollowsByLast (view_of md after later known (Some new)) = record {
         id = new;
@@ -286,7 +289,8 @@ decided_some t u l members e entries decisions =
     ∙ (ap (λ (xs : List Entry). let y : SearchView = record t { decisions = u.decisions; entries = xs; ranking = order } in y) entries
     ∙ ap (λ (ds : List Literal). let y : SearchView = record t { decisions = ds; entries = more; ranking = order } in y) decisions)
 
-pub decides_now : (gives : Nogood → Type 0) (silent : List (Option Bool) → Type 0) (md : Mode) (t u : SearchView) (c : Paced) (known : List Atoms) (last : Option ℕ) (f : Units) (r : Option Literal) (l : Literal) →
+pub decides_now : (gives : Nogood → Type 0) (silent : List (Option Bool) → Type 0) (md : Mode) (t u : SearchView) (c : Paced) (known : List Atoms)
+    (last : Option ℕ) (f : Units) (r : Option Literal) (l : Literal) →
     r ≡ Some l → last ≡ None → IsFixpoint silent t.slots (values_of t) →
     u ≡ record t { decisions = u.decisions; entries = u.entries; ranking = record t.ranking { members = u.ranking.members } } →
     IfSome r (λ k. IsNext (var_count t.program) (values_of t) t.ranking.activities k.var) →
@@ -362,7 +366,8 @@ module _ (gives : Nogood → Type 0) (t u : SearchView) (c : Paced) (known : Lis
     restarts = refl;
   }
     where
-      cases : (j : ℕ) (n : Nogood) → (nogood_at t.slots j ≡ Some n) ⊎ (n ≡ blocking_nogood q t.decisions) → IsDerived t.program gives t.bound (nogood_at t.slots) n ⊎ (n ≡ blocking_nogood q t.decisions)
+      cases : (j : ℕ) (n : Nogood) → (nogood_at t.slots j ≡ Some n) ⊎ (n ≡ blocking_nogood q t.decisions) →
+          IsDerived t.program gives t.bound (nogood_at t.slots) n ⊎ (n ≡ blocking_nogood q t.decisions)
       cases j n (inl e) = inl (IsDerived.stands j e)
       cases j n (inr e) = inr e
 
@@ -399,7 +404,8 @@ view_paced m t c d known last restarts learnt =
     ap first (sym restarts) ∙ ap second (sym learnt)
 
 pub listed : (gives : Nogood → Type 0) (m : Mode) (t u : SearchView) (c d : Paced) (known ks : List Atoms) (last : Option ℕ) (q : List Literal) (S : Atoms) (f : Units) (id : ℕ) (blocking : List ℕ) →
-    m ≡ mode.Enum → last ≡ None → IsFound (view_of m t c known last) q S → ks ≡ known ++ S ∷ [] → Blocks (blocking_nogood q t.decisions) t u id blocking → d.restarts ≡ c.restarts → d.learnt ≡ c.learnt →
+    m ≡ mode.Enum → last ≡ None → IsFound (view_of m t c known last) q S → ks ≡ known ++ S ∷ [] →
+    Blocks (blocking_nogood q t.decisions) t u id blocking → d.restarts ≡ c.restarts → d.learnt ≡ c.learnt →
     Answers gives (view_of m t c known last) (view_of m u d ks (Some id)) q f f S
 listed gives m t u c d known ks last q S f id blocking enum none found more b restarts learnt =
     subst (λ (x : Searching). Answers gives (view_of m t c known last) x q f f S) (view_paced m u c d ks (Some id) restarts learnt)
@@ -425,7 +431,8 @@ improved gives m t u c known last q S f opt none found e =
     (improves gives t u c known last q S f none u.ranking (subst (λ (x : Mode). IsFound (view_of x t c known last) q S) opt found) e)
 
 -- ---- closed, where nogoods were dropped after that
-pub closes_thinned : (gives : Nogood → Type 0) (s t u : Searching) (q : List Literal) (f g : Units) (n : Nogood) (es : List Entry) → Closes gives s t q f g n → u ≡ record t { slots = u.slots } → IsReduced es t.slots u.slots →
+pub closes_thinned : (gives : Nogood → Type 0) (s t u : Searching) (q : List Literal) (f g : Units) (n : Nogood) (es : List Entry) →
+    Closes gives s t q f g n → u ≡ record t { slots = u.slots } → IsReduced es t.slots u.slots →
     Closes gives s u q f g n
 closes_thinned gives s t u q f g n es d same r =
     subst (λ (y : Searching). Closes gives s y q f g n) (sym same)
@@ -460,16 +467,19 @@ some_of (Some x) h = (x, refl)
 
 -- ---- learnt, and then what propagators gave is dropped
 -- the number of the last nogood is named by the newest entry
-newest_named : (es new : List Entry) (e : Entry) (old slots : List (Option StoredNogood)) (id : ℕ) → new ≡ es ++ e ∷ [] → e.reason ≡ Some id → IsReduced new old slots → kept_at slots id ≡ kept_at old id
+newest_named : (es new : List Entry) (e : Entry) (old slots : List (Option StoredNogood)) (id : ℕ) → new ≡ es ++ e ∷ [] → e.reason ≡ Some id →
+    IsReduced new old slots → kept_at slots id ≡ kept_at old id
 newest_named es new e old slots id is reason r =
     r.named (length es) e id (omega (arith, ap (length {A = Entry}) is, length-append es (e ∷ [])))
     (ap (λ (xs : List Entry). (get_or xs (length es) e).reason) is ∙ (ap (λ (x : Entry). x.reason) (get_or_push es e e (length es) refl) ∙ reason))
 
-pub jumped_named : (t u : SearchView) (slots : List (Option StoredNogood)) (to id : ℕ) (lit : Literal) → u.entries ≡ cut to t.entries ++ record { lit = lit; level = level (cut to t.entries); reason = Some id } ∷ [] →
+pub jumped_named : (t u : SearchView) (slots : List (Option StoredNogood)) (to id : ℕ) (lit : Literal) →
+    u.entries ≡ cut to t.entries ++ record { lit = lit; level = level (cut to t.entries); reason = Some id } ∷ [] →
     IsReduced u.entries u.slots slots → kept_at slots id ≡ kept_at u.slots id
 jumped_named t u slots to id lit is r = newest_named (cut to t.entries) u.entries (record { lit = lit; level = level (cut to t.entries); reason = Some id }) u.slots slots id is refl r
 
-pub learns_swept : (gives : Nogood → Type 0) (s t : Searching) (slots : List (Option StoredNogood)) (q : List Literal) (f g : Units) → ((id : ℕ) → t.last ≡ Some id → kept_at slots id ≡ kept_at t.slots id) →
+pub learns_swept : (gives : Nogood → Type 0) (s t : Searching) (slots : List (Option StoredNogood)) (q : List Literal) (f g : Units) →
+    ((id : ℕ) → t.last ≡ Some id → kept_at slots id ≡ kept_at t.slots id) →
     IsReduced t.entries t.slots slots → GrowsUnlessGiven t.slots slots → Learns gives s t q f g → Learns gives s (record t { slots = slots }) q f g
 learns_swept gives s t slots q f g named r others l = record {
   same = record { program = l.same.program; mode = l.same.mode; cube = l.same.cube; known = l.same.known; bound = l.same.bound };

@@ -55,7 +55,8 @@ pub held_step : (p : Program) (a : List (Option Bool)) (xs held new : List ℕ) 
 held_step p a xs held new i var atom same h is v e q =
     held_more p a held new i var atom (subst (λ (ys : List ℕ). i < length ys) same h) (is ∙ ap (λ (ys : List ℕ). get_or ys i 0) same) v e q
 
-pub held_end : (p : Program) (a : List (Option Bool)) (xs held : List ℕ) (i : ℕ) → xs ≡ atoms_of p → length xs ≤ i → i ≤ length xs → held ≡ filter (is_held p a) (take i (atoms_of p)) → held ≡ filter (is_held p a) (atoms_of p)
+pub held_end : (p : Program) (a : List (Option Bool)) (xs held : List ℕ) (i : ℕ) → xs ≡ atoms_of p → length xs ≤ i → i ≤ length xs →
+    held ≡ filter (is_held p a) (take i (atoms_of p)) → held ≡ filter (is_held p a) (atoms_of p)
 held_end p a xs held i same low high e = held_all p a held i (subst (λ (ys : List ℕ). length ys ≡ i) same (omega (arith, low, high))) e
 
 -- what passes a test ascends as all does

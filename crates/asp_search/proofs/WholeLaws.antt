@@ -94,8 +94,10 @@ module _ (silent : List (Option Bool) → Type 0) (known : List Atoms) (t : Sear
     settled = answer_settles t.program known t.bound (var_count t.program) q t.decisions t.entries full_whole f.reasons f.starts;
   }
 
-pub full_found : (silent : List (Option Bool) → Type 0) (m : Mode) (t : SearchView) (c : Paced) (K : List Atoms) (last : Option ℕ) (q : List Literal) → IsFull silent (used_up (reasoning_of m) t.program K) t q →
-    ((v : List Bool) → follow.IsWhole t.program (values_of t) v → silent (values_of t) → KeepsAll t.program t.bound v) → is_stable t.program (atoms_on t.program (var_count t.program) t.entries) ≡ true →
+pub full_found : (silent : List (Option Bool) → Type 0) (m : Mode) (t : SearchView) (c : Paced) (K : List Atoms) (last : Option ℕ) (q : List Literal)
+    → IsFull silent (used_up (reasoning_of m) t.program K) t q →
+    ((v : List Bool) → follow.IsWhole t.program (values_of t) v → silent (values_of t) → KeepsAll t.program t.bound v) →
+    is_stable t.program (atoms_on t.program (var_count t.program) t.entries) ≡ true →
     IsFound (view_of m t c K last) q (atoms_on t.program (var_count t.program) t.entries)
 full_found silent m t c K last q f whole stable =
     let n = full_new silent (used_up (reasoning_of m) t.program K) t q f whole stable in

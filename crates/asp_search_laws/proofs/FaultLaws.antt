@@ -105,7 +105,8 @@ module _ (p : Program) (U : Atoms) (x y : List (Option Bool)) (same : (l : Liter
   excused_same : (b : Body) → is_excused p x U b ≡ is_excused p y U b
   excused_same b = ap₂ (λ (c d : Bool). c || d) (same (complement (literal_of_form p b)) (form_positive p b)) (needs_same b)
 
-  rules_same : (rs : List Rule) → list_all (λ r. not (list_any (has U) (head_atoms r.head)) || is_excused p x U (normal r.body)) rs ≡ list_all (λ r. not (list_any (has U) (head_atoms r.head)) || is_excused p y U (normal r.body)) rs
+  rules_same : (rs : List Rule) → list_all (λ r. not (list_any (has U) (head_atoms r.head)) || is_excused p x U (normal r.body)) rs ≡ list_all
+      (λ r. not (list_any (has U) (head_atoms r.head)) || is_excused p y U (normal r.body)) rs
   rules_same [] = refl
   rules_same (r ∷ rs) = ap₂ (λ (c d : Bool). (not (list_any (has U) (head_atoms r.head)) || c) && d) (excused_same (normal r.body)) (rules_same rs)
 
@@ -133,7 +134,14 @@ module _ (p : Program) (es : List Entry) (w : IsWhole p (var_count p) es) where
       cases : (var_count p < v) ⊎ (v ≤ var_count p) → value_of (assignment (var_count p) es) v ≡ value_of (assigned p (atoms_on p (var_count p) es)) v
       cases (inl h) =
           past (assignment (var_count p) es) v None (omega (arith, h, size, length-map (assignment (var_count p) es) truth_of))
-          ∙ sym (past (assigned p (atoms_on p (var_count p) es)) v None (omega (arith, h, size, ap (length {A = Bool}) (whole_same p (var_count p) es w), length-map (values p (atoms_on p (var_count p) es)) (λ (b : Bool). Some b))))
+          ∙ sym (past (assigned p (atoms_on p (var_count p) es)) v None
+          (omega (
+            arith,
+            h,
+            size,
+            ap (length {A = Bool}) (whole_same p (var_count p) es w),
+            length-map (values p (atoms_on p (var_count p) es)) (λ (b : Bool). Some b),
+          )))
       cases (inr h) =
           set_value (assignment (var_count p) es) v (w.full v (low, h))
           ∙ (ap (λ (vs : List Bool). Some (get_or vs v false)) (whole_same p (var_count p) es w)
@@ -176,7 +184,9 @@ module _ (p : Program) (es : List Entry) (w : IsWhole p (var_count p) es) where
       IsLoopNogood p (assignment (var_count p) es) U a n → IsFault p gives (var_count p) es n
   loop_fault gives U a n sub has_a l =
       let violated : is_violated (assignment (var_count p) es) n.lits ≡ true =
-      ap (is_violated (assignment (var_count p) es)) l.literals ∙ and_from (holds_in (assignment (var_count p) es) (T (var_of_atom p a))) (list_all (holds_in (assignment (var_count p) es)) l.rest) (true_atom a (sub a has_a)) l.hold in
+      ap (is_violated (assignment (var_count p) es)) l.literals
+      ∙ and_from (holds_in (assignment (var_count p) es) (T (var_of_atom p a))) (list_all (holds_in (assignment (var_count p) es)) l.rest)
+      (true_atom a (sub a has_a)) l.hold in
       record {
         pure = l.pure;
         entailed = l.entailed;

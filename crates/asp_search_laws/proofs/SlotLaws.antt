@@ -95,7 +95,8 @@ reduced_none es old new r id n q = cases (r.each id)
     cases (inr e) = absurd (no_some n (ap (λ (o : Option StoredNogood). option_map (λ (k : StoredNogood). k.nogood) o) (sym e) ∙ q))
 
 -- where what propagators gave is dropped, all else stays
-pub others_stay : (old new : List (Option StoredNogood)) (named : ℕ → Bool) → ((id : ℕ) → kept_at new id ≡ if named id then kept_at old id else unless_given (kept_at old id)) → GrowsUnlessGiven old new
+pub others_stay : (old new : List (Option StoredNogood)) (named : ℕ → Bool) →
+    ((id : ℕ) → kept_at new id ≡ if named id then kept_at old id else unless_given (kept_at old id)) → GrowsUnlessGiven old new
 others_stay old new named each id k h q = cases (named id) (each id)
   where
     stays : unless_given (kept_at old id) ≡ Some k
@@ -140,7 +141,8 @@ useful_adds p known bound gives old new sound a u id n q = cases (adds_each give
 pub excluded_stay : (p : Program) (old new : List (Option StoredNogood)) (S : Atoms) → KeepsForever old new → IsExcluded p old S → IsExcluded p new S
 excluded_stay p old new S f b = record { id = b.id; kept = b.kept; stands = f b.id b.kept b.stands b.forever; forever = b.forever; hit = b.hit }
 
-pub all_excluded : (p : Program) (old new : List (Option StoredNogood)) (known : List Atoms) → ((S : Atoms) → IsExcluded p old S → IsExcluded p new S) → AreExcluded p old known → AreExcluded p new known
+pub all_excluded : (p : Program) (old new : List (Option StoredNogood)) (known : List Atoms) →
+    ((S : Atoms) → IsExcluded p old S → IsExcluded p new S) → AreExcluded p old known → AreExcluded p new known
 all_excluded p old new [] f b = tt
 all_excluded p old new (S ∷ known) f b = (f S b.0, all_excluded p old new known f b.1)
 
@@ -207,14 +209,16 @@ removed_none slots id h j n q = cases (cases_eq j id)
   where
     cases : (j ≡ id) ⊎ (j ≡ id → ⊥) → nogood_at slots j ≡ Some n
     cases (inl e) =
-        absurd (no_some n (ap (λ (o : Option StoredNogood). option_map (λ (k : StoredNogood). k.nogood) o) (sym (get_or-set_same slots id None None h)) ∙ (ap (λ (i : ℕ). nogood_at (set slots id None) i) (sym e) ∙ q)))
+        absurd (no_some n (ap (λ (o : Option StoredNogood). option_map (λ (k : StoredNogood). k.nogood) o)
+        (sym (get_or-set_same slots id None None h)) ∙ (ap (λ (i : ℕ). nogood_at (set slots id None) i) (sym e) ∙ q)))
     cases (inr ne) = ap (λ (o : Option StoredNogood). option_map (λ (k : StoredNogood). k.nogood) o) (sym (get_or-set_other slots id j None None ne)) ∙ q
 
 pub removed_other : (slots : List (Option StoredNogood)) (id j : ℕ) → j ≢ id → kept_at (set slots id None) j ≡ kept_at slots j
 removed_other slots id j ne = get_or-set_other slots id j None None ne
 
 -- Where another kept forever says more, each answer that was blocked still is.
-pub removed_excluded : (p : Program) (slots : List (Option StoredNogood)) (id other : ℕ) (k m : StoredNogood) (S : Atoms) → kept_at slots id ≡ Some k → kept_at slots other ≡ Some m → m.kind ≡ kind.Forever → other ≢ id →
+pub removed_excluded : (p : Program) (slots : List (Option StoredNogood)) (id other : ℕ) (k m : StoredNogood) (S : Atoms) →
+    kept_at slots id ≡ Some k → kept_at slots other ≡ Some m → m.kind ≡ kind.Forever → other ≢ id →
     IsWithin m.nogood.lits k.nogood.lits → IsExcluded p slots S → IsExcluded p (set slots id None) S
 removed_excluded p slots id other k m S old new forever ne within b = cases (cases_eq b.id id)
   where

@@ -172,7 +172,8 @@ fails_after gives s m t q f g c h =
     (subst (λ (x : Searching). Fails gives x t q f g) c.same h)
 
 -- ---- with what the propagator gives and is silent of, by the program and the bound
-module _ (G : Program → Option (List ℤ) → Nogood → Type 0) (Q : Program → Option (List ℤ) → List (Option Bool) → Type 0) (s m t : Searching) (f g : Units) (c : Continues (G s.program s.bound) s m) where
+module _ (G : Program → Option (List ℤ) → Nogood → Type 0) (Q : Program → Option (List ℤ) → List (Option Bool) → Type 0) (s m t : Searching)
+    (f g : Units) (c : Continues (G s.program s.bound) s m) where
   cube_of : (q : List Literal) → s.cube ≡ Some q → m.cube ≡ Some q
   cube_of q e = ap (λ (x : Searching). x.cube) c.same ∙ e
 

@@ -118,7 +118,9 @@ force-same : (N : Atoms) (p : Program) → IsDenied N p → rules_in_force (cons
 force-same N p d =
     let left = map (constrained_rule N) p.rules in
     let free : AllByRecursion (λ a. has N a ≡ false) (open_atoms p) =
-    each-filter (λ a. has N a ≡ false) (λ a. not (has (heads_of p.rules) a)) (set_of (named p)) (each_weaker (λ a. has (set_of (named p)) a ≡ true) (λ a. has N a ≡ false) (named-free N p d) (set_of (named p)) (HasAll-itself (set_of (named p)))) in
+    each-filter (λ a. has N a ≡ false) (λ a. not (has (heads_of p.rules) a)) (set_of (named p))
+    (each_weaker (λ a. has (set_of (named p)) a ≡ true) (λ a. has N a ≡ false) (named-free N p d) (set_of (named p))
+    (HasAll-itself (set_of (named p)))) in
     ap (λ L. left ++ flat_map (λ a. external_rule a (last_value p.externals a)) L) (open-same N p d)
     ∙ ap (λ rs. left ++ rs) (sym (opened-same N (last_value p.externals) (open_atoms p) free))
     ∙ sym (map-append (constrained_rule N) p.rules (opened_rules p))
@@ -128,7 +130,9 @@ step-denied : (N S T : Atoms) (rs : List Rule) (a : ℕ) → has N a ≡ true �
 step-denied N S T rs a e =
     has-step S T (map (constrained_rule N) rs) a
     ∙ list_any-map (derives_at S T a) (constrained_rule N) rs
-    ∙ none-among (λ r. derives_at S T a (constrained_rule N r)) rs (each_of (λ r. derives_at S T a (constrained_rule N r) ≡ false) (λ r. ap (λ c. c && body_holds_between S T r.body) (reduct-denied N S a r.head e)) rs)
+    ∙ none-among (λ r. derives_at S T a (constrained_rule N r)) rs
+    (each_of (λ r. derives_at S T a (constrained_rule N r) ≡ false)
+    (λ r. ap (λ c. c && body_holds_between S T r.body) (reduct-denied N S a r.head e)) rs)
 
 step-other : (N S T : Atoms) (rs : List Rule) (a : ℕ) → has N a ≡ false → has (step (reduct S (map (constrained_rule N) rs)) T) a ≡ has (step (reduct S rs) T) a
 step-other N S T rs a out =
@@ -140,7 +144,8 @@ step-other N S T rs a out =
 left-denied : (N : Atoms) (p : Program) → IsDenied N p → (S T : Atoms) (a : ℕ) → has N a ≡ true → has (step (reduct S (rules_in_force (constrained_by N p))) T) a ≡ false
 left-denied N p d S T a e = ap (λ rs. has (step (reduct S rs) T) a) (force-same N p d) ∙ step-denied N S T (rules_in_force p) a e
 
-left-other : (N : Atoms) (p : Program) → IsDenied N p → (S T : Atoms) (a : ℕ) → has N a ≡ false → has (step (reduct S (rules_in_force (constrained_by N p))) T) a ≡ has (step (reduct S (rules_in_force p)) T) a
+left-other : (N : Atoms) (p : Program) → IsDenied N p → (S T : Atoms) (a : ℕ) → has N a ≡ false →
+    has (step (reduct S (rules_in_force (constrained_by N p))) T) a ≡ has (step (reduct S (rules_in_force p)) T) a
 left-other N p d S T a e = ap (λ rs. has (step (reduct S rs) T) a) (force-same N p d) ∙ step-other N S T (rules_in_force p) a e
 
 -- ---- constraints
@@ -190,7 +195,8 @@ unviolated N X r none underived = false_from_ne_true (is_violated X (constrained
       | inr k ↦ both_ways (derives_at X X k.0 r) (underived k.0 k.1) (and_from (has (reduct_heads X r.head) k.0) (body_holds_between X X r.body) k.2 read)
     ])
 
-none-violated : (N X : Atoms) (rs : List Rule) → list_any (is_violated X) rs ≡ false → ((a : ℕ) → has N a ≡ true → list_any (derives_at X X a) rs ≡ false) → list_any (is_violated X) (map (constrained_rule N) rs) ≡ false
+none-violated : (N X : Atoms) (rs : List Rule) → list_any (is_violated X) rs ≡ false →
+    ((a : ℕ) → has N a ≡ true → list_any (derives_at X X a) rs ≡ false) → list_any (is_violated X) (map (constrained_rule N) rs) ≡ false
 none-violated N X [] none underived = refl
 none-violated N X (r ∷ rs) none underived =
     let parts = or_parts (is_violated X r) (list_any (is_violated X) rs) none in
@@ -242,7 +248,8 @@ stable-there N p d X stable apart =
     let parts = and_parts (same_set X (least_model p X)) (not (list_any (is_violated X) rules)) stable in
     let q : X ≡ least_model p X = stable-least p X stable in
     let none : IsUnderived N p X = λ a e h.
-    both_ways (has X a) (apart a e) (ap (λ T. has T a) q ∙ sym (derived-has p X a d.whole) ∙ step-subset (reduct X rules) (least_model c X) (least_model p X) (monotone p X d.whole) (least-within N p d X) a h) in
+    both_ways (has X a) (apart a e) (ap (λ T. has T a) q ∙ sym (derived-has p X a d.whole)
+    ∙ step-subset (reduct X rules) (least_model c X) (least_model p X) (monotone p X d.whole) (least-within N p d X) a h) in
     and_from (same_set X (least_model c X)) (not (list_any (is_violated X) (rules_in_force c)))
     (ap (same_set X) (same-least N p d X none) ∙ parts.0)
     (ap not (ap (list_any (is_violated X)) (force-same N p d) ∙ none-violated N X rules (not-true (list_any (is_violated X) rules) parts.1) (λ a e.
@@ -261,18 +268,25 @@ stable-back N p d X stable =
     let none : list_any (λ r. is_violated X (constrained_rule N r)) rules ≡ false =
     sym (list_any-map (is_violated X) (constrained_rule N) rules) ∙ sym (ap (list_any (is_violated X)) (force-same N p d)) ∙ not-true (list_any (is_violated X) (rules_in_force c)) parts.1 in
     let underived : IsUnderived N p X = λ a e h.
-    both_ways (list_any (λ r. is_violated X (constrained_rule N r)) rules) none (list_any-weaker (derives_at X X a) (λ r. is_violated X (constrained_rule N r)) rules (each_of (λ r. derives_at X X a r ≡ true → is_violated X (constrained_rule N r) ≡ true) (λ r. violated-denied N X a r e (apart a e)) rules)
+    both_ways (list_any (λ r. is_violated X (constrained_rule N r)) rules) none
+    (list_any-weaker (derives_at X X a) (λ r. is_violated X (constrained_rule N r)) rules
+    (each_of (λ r. derives_at X X a r ≡ true → is_violated X (constrained_rule N r) ≡ true) (λ r. violated-denied N X a r e (apart a e))
+    rules)
     (sym (has-step X X rules a) ∙ ap (λ T. has (step (reduct X rules) T) a) q ∙ h)) in
     and_from (same_set X (least_model p X)) (not (list_any (is_violated X) rules))
     (ap (same_set X) (sym (same-least N p d X underived)) ∙ parts.0)
-    (ap not (false_from_ne_true (list_any (is_violated X) rules) (λ v. both_ways (list_any (λ r. is_violated X (constrained_rule N r)) rules) none (list_any-weaker (is_violated X) (λ r. is_violated X (constrained_rule N r)) rules (each_of (λ r. is_violated X r ≡ true → is_violated X (constrained_rule N r) ≡ true) (violated-stays N X) rules) v))))
+    (ap not (false_from_ne_true (list_any (is_violated X) rules)
+    (λ v. both_ways (list_any (λ r. is_violated X (constrained_rule N r)) rules) none
+    (list_any-weaker (is_violated X) (λ r. is_violated X (constrained_rule N r)) rules
+    (each_of (λ r. is_violated X r ≡ true → is_violated X (constrained_rule N r) ≡ true) (violated-stays N X) rules) v))))
 
 -- ---- assumptions
 barred_holds : (N X : Atoms) (l : ℤ) → IsApart N X → is_barred N l ≡ true → holds X l ≡ true
 barred_holds N X (pos a) apart e = absurd (false≢true e)
 barred_holds N X (negsuc a) apart e = ap not (apart (suc a) e)
 
-one_assumed : (N X : Atoms) (l : ℤ) (ls ks : List ℤ) (c : Bool) → IsApart N X → is_barred N l ≡ c → (all_hold X ks ≡ true → all_hold X ls ≡ true) → all_hold X (cond (not c) (l ∷ ks) ks) ≡ true → all_hold X (l ∷ ls) ≡ true
+one_assumed : (N X : Atoms) (l : ℤ) (ls ks : List ℤ) (c : Bool) → IsApart N X → is_barred N l ≡ c → (all_hold X ks ≡ true → all_hold X ls ≡ true) →
+    all_hold X (cond (not c) (l ∷ ks) ks) ≡ true → all_hold X (l ∷ ls) ≡ true
 one_assumed N X l ls ks true apart e later h = and_from (holds X l) (all_hold X ls) (barred_holds N X l apart e) (later h)
 one_assumed N X l ls ks false apart e later h = let parts = and_parts (holds X l) (all_hold X ks) h in and_from (holds X l) (all_hold X ls) parts.0 (later parts.1)
 

@@ -58,7 +58,9 @@ pub facts-derived : (p : Program) → IsSound p → (S : Atoms) → IsSubset (fa
 facts-derived p sound S a h =
     let L = least_model p S in
     let by_rule : list_any (λ (r : Rule). has (fact_of r) a) p.rules ≡ true = sym (list_any-flat_map (λ b. eqb b a) fact_of p.rules) ∙ fact-given p a h in
-    let derived : list_any (derives_at S L a) p.rules ≡ true = list_any-weaker (λ (r : Rule). has (fact_of r) a) (derives_at S L a) p.rules (each_of (λ r. has (fact_of r) a ≡ true → derives_at S L a r ≡ true) (λ r. fact_derived S L a r.head r.body) p.rules) by_rule in
+    let derived : list_any (derives_at S L a) p.rules ≡ true =
+    list_any-weaker (λ (r : Rule). has (fact_of r) a) (derives_at S L a) p.rules
+    (each_of (λ r. has (fact_of r) a ≡ true → derives_at S L a r ≡ true) (λ r. fact_derived S L a r.head r.body) p.rules) by_rule in
     ap (λ T. has T a) (sym (least_model-derived p S sound))
     ∙ has-step S L (rules_in_force p) a
     ∙ list_any-append (derives_at S L a) p.rules (opened_rules p)
@@ -113,4 +115,5 @@ map-same f g (q ∷ qs) h = ap (λ z. z ∷ map f qs) (h q) ∙ ap (λ zs. g q �
 
 pub cost-left : (p : Program) (S : Atoms) → cost p (united (facts_in p) S) ≡ cost (left_in p) S
 cost-left p S =
-    map-same (cost_at (united (facts_in p) S) p.minimize) (cost_at S p.minimize) (priorities p.minimize) (λ q. cost-clear (facts_in p) S p.minimize q (clear-left (facts_in p) (minimized p.minimize) (map atom_of p.assumptions) (needed-apart p)))
+    map-same (cost_at (united (facts_in p) S) p.minimize) (cost_at S p.minimize) (priorities p.minimize)
+    (λ q. cost-clear (facts_in p) S p.minimize q (clear-left (facts_in p) (minimized p.minimize) (map atom_of p.assumptions) (needed-apart p)))

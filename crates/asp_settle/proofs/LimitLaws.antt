@@ -35,7 +35,8 @@ sound-rules N [] h = refl
 sound-rules N (r ∷ rs) h =
     let parts = and_parts (is_sound_rule r) (list_all is_sound_rule rs) h in
     let rule = and_parts (is_sound_head r.head) (is_sound_body r.body) parts.0 in
-    and_from (is_sound_rule (constrained_rule N r)) (list_all is_sound_rule (map (constrained_rule N) rs)) (and_from (is_sound_head (constrained_head N r.head)) (is_sound_body r.body) (sound-head N r.head rule.0) rule.1) (sound-rules N rs parts.1)
+    and_from (is_sound_rule (constrained_rule N r)) (list_all is_sound_rule (map (constrained_rule N) rs))
+    (and_from (is_sound_head (constrained_head N r.head)) (is_sound_body r.body) (sound-head N r.head rule.0) rule.1) (sound-rules N rs parts.1)
 
 weights-same : (N : Atoms) (rs : List Rule) → sum_by (λ (r : Rule). weighted_count r.body) (map (constrained_rule N) rs) ≡ sum_by (λ (r : Rule). weighted_count r.body) rs
 weights-same N [] = refl
@@ -87,7 +88,8 @@ rules_within N a rs h =
 assumed_within : (q : ℤ → Bool) (a : ℕ) (ls : List ℤ) → has (map atom_of (filter q ls)) a ≡ true → has (map atom_of ls) a ≡ true
 assumed_within q a ls h =
     list_any-map (λ b. eqb b a) atom_of ls
-    ∙ list_any-weaker (λ l. q l && eqb (atom_of l) a) (λ l. eqb (atom_of l) a) ls (each_of (λ l. (q l && eqb (atom_of l) a) ≡ true → eqb (atom_of l) a ≡ true) (λ l e. (and_parts (q l) (eqb (atom_of l) a) e).1) ls)
+    ∙ list_any-weaker (λ l. q l && eqb (atom_of l) a) (λ l. eqb (atom_of l) a) ls
+    (each_of (λ l. (q l && eqb (atom_of l) a) ≡ true → eqb (atom_of l) a ≡ true) (λ l e. (and_parts (q l) (eqb (atom_of l) a) e).1) ls)
     (sym (list_any-filter (λ l. eqb (atom_of l) a) q ls) ∙ sym (list_any-map (λ b. eqb b a) atom_of (filter q ls)) ∙ h)
 
 pub atoms-constrained : (N : Atoms) (p : Program) → IsSubset (atoms_of (constrained_by N p)) (atoms_of p)

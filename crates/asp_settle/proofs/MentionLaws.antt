@@ -28,20 +28,25 @@ pub facts-stand : (p : Program) → IsSubset (facts_in p) (atoms_of p)
 facts-stand p a h =
     let heads : list_any (λ (r : Rule). has (head_atoms r.head) a) p.rules ≡ true = sym (list_any-flat_map (λ b. eqb b a) (λ (r : Rule). head_atoms r.head) p.rules) ∙ facts-heads p a h in
     let rules : has (flat_map atoms_at p.rules) a ≡ true =
-    list_any-flat_map (λ b. eqb b a) atoms_at p.rules ∙ list_any-weaker (λ (r : Rule). has (head_atoms r.head) a) (λ r. has (atoms_at r) a) p.rules (each_of (λ r. has (head_atoms r.head) a ≡ true → has (atoms_at r) a ≡ true) (λ r e.
+    list_any-flat_map (λ b. eqb b a) atoms_at p.rules
+    ∙ list_any-weaker (λ (r : Rule). has (head_atoms r.head) a) (λ r. has (atoms_at r) a) p.rules
+    (each_of (λ r. has (head_atoms r.head) a ≡ true → has (atoms_at r) a ≡ true) (λ r e.
     list_any-append (λ b. eqb b a) (head_atoms r.head) (body_atoms r.body) ∙ or_left (has (head_atoms r.head) a) (has (body_atoms r.body) a) e) p.rules) heads in
     let outputs : List ℕ = flat_map (λ o. map atom_of o.condition) p.outputs in
     let items : List ℕ = flat_map (λ m. map (λ item. atom_of item.0) m.items) p.minimize in
     let externals : List ℕ = map (λ e. e.atom) p.externals in
     let front : (xs ys : List ℕ) → has xs a ≡ true → has (xs ++ ys) a ≡ true = λ xs ys e. list_any-append (λ b. eqb b a) xs ys ∙ or_left (has xs a) (has ys a) e in
-    has-set_of (mentions p) a ∙ front (((flat_map atoms_at p.rules ++ items) ++ outputs) ++ externals) (map atom_of p.assumptions) (front ((flat_map atoms_at p.rules ++ items) ++ outputs) externals (front (flat_map atoms_at p.rules ++ items) outputs (front (flat_map atoms_at p.rules) items rules)))
+    has-set_of (mentions p) a ∙ front (((flat_map atoms_at p.rules ++ items) ++ outputs) ++ externals) (map atom_of p.assumptions)
+    (front ((flat_map atoms_at p.rules ++ items) ++ outputs) externals
+    (front (flat_map atoms_at p.rules ++ items) outputs (front (flat_map atoms_at p.rules) items rules)))
 
 -- ---- none of them is left
 pub none-among : {X : Type 0} (p : X → Bool) (xs : List X) → AllByRecursion (λ x. p x ≡ false) xs → list_any p xs ≡ false
 none-among p [] h = refl
 none-among p (x ∷ xs) h = or_from (p x) (list_any p xs) h.0 (none-among p xs h.1)
 
-kept_absent : {X : Type 0} (F : Atoms) (a : ℕ) (f : X → ℕ) (x : X) (xs : List X) (c : Bool) → has F a ≡ true → has F (f x) ≡ c → has (map f xs) a ≡ false → has (map f (cond (not c) (x ∷ xs) xs)) a ≡ false
+kept_absent : {X : Type 0} (F : Atoms) (a : ℕ) (f : X → ℕ) (x : X) (xs : List X) (c : Bool) → has F a ≡ true → has F (f x) ≡ c →
+    has (map f xs) a ≡ false → has (map f (cond (not c) (x ∷ xs) xs)) a ≡ false
 kept_absent F a f x xs true fact e h = h
 kept_absent F a f x xs false fact e h = or_from (eqb (f x) a) (has (map f xs) a) (ne_eqb (f x) a (λ same. both_ways (has F a) (ap (has F) (sym same) ∙ e) fact)) h
 
@@ -72,7 +77,8 @@ rule-absent : (F : Atoms) (a : ℕ) → has F a ≡ true → (r : Rule) → AllB
 rule-absent F a fact r =
     each-flat_map (λ x. has (atoms_at x) a ≡ false) (λ h. map (λ b. record { head = h; body = b }) (settled_body F r.body)) (settled_head F r.head)
     (each_weaker (λ h. has (head_atoms h) a ≡ false) (λ h. AllByRecursion (λ x. has (atoms_at x) a ≡ false) (map (λ b. record { head = h; body = b }) (settled_body F r.body))) (λ h eh.
-    each-map (λ x. has (atoms_at x) a ≡ false) (λ b. record { head = h; body = b }) (settled_body F r.body) (each_weaker (λ b. has (body_atoms b) a ≡ false) (λ b. has (head_atoms h ++ body_atoms b) a ≡ false) (λ b eb.
+    each-map (λ x. has (atoms_at x) a ≡ false) (λ b. record { head = h; body = b }) (settled_body F r.body)
+    (each_weaker (λ b. has (body_atoms b) a ≡ false) (λ b. has (head_atoms h ++ body_atoms b) a ≡ false) (λ b eb.
     list_any-append (λ c. eqb c a) (head_atoms h) (body_atoms b) ∙ or_from (has (head_atoms h) a) (has (body_atoms b) a) eh eb) (settled_body F r.body) (body-absent F a fact r.body)))
     (settled_head F r.head) (head-absent F a fact r.head))
 
@@ -82,7 +88,9 @@ output-absent F a fact o =
 
 none-left : {X : Type 0} (a : ℕ) (f : X → List X) (g : X → List ℕ) → ((x : X) → AllByRecursion (λ y. has (g y) a ≡ false) (f x)) → (xs : List X) → has (flat_map g (flat_map f xs)) a ≡ false
 none-left a f g h xs =
-    list_any-flat_map (λ b. eqb b a) g (flat_map f xs) ∙ none-among (λ x. has (g x) a) (flat_map f xs) (each-flat_map (λ y. has (g y) a ≡ false) f xs (each_of (λ x. AllByRecursion (λ y. has (g y) a ≡ false) (f x)) h xs))
+    list_any-flat_map (λ b. eqb b a) g (flat_map f xs)
+    ∙ none-among (λ x. has (g x) a) (flat_map f xs)
+    (each-flat_map (λ y. has (g y) a ≡ false) f xs (each_of (λ x. AllByRecursion (λ y. has (g y) a ≡ false) (f x)) h xs))
 
 pub facts-apart : (p : Program) (a : ℕ) → has (facts_in p) a ≡ true → has (atoms_of (left_in p)) a ≡ false
 facts-apart p a fact =

@@ -52,7 +52,10 @@ heads_by_rule (r ∷ rs) a =
 pub heads-left : (F : Atoms) (rs : List Rule) → IsSubset (heads_of (flat_map (settled_rule F) rs)) (heads_of rs)
 heads-left F rs a h =
     heads_by_rule rs a
-    ∙ list_any-weaker (λ r. list_any (λ (x : Rule). has (head_atoms x.head) a && true) (settled_rule F r)) (λ (r : Rule). has (head_atoms r.head) a && true) rs (each_of (λ (r : Rule). list_any (λ (x : Rule). has (head_atoms x.head) a && true) (settled_rule F r) ≡ true → (has (head_atoms r.head) a && true) ≡ true) (λ r e.
+    ∙ list_any-weaker (λ r. list_any (λ (x : Rule). has (head_atoms x.head) a && true) (settled_rule F r))
+    (λ (r : Rule). has (head_atoms r.head) a && true) rs
+    (each_of (λ (r : Rule). list_any (λ (x : Rule). has (head_atoms x.head) a && true) (settled_rule F r) ≡ true →
+    (has (head_atoms r.head) a && true) ≡ true) (λ r e.
     sym (and-true (has (head_atoms r.head) a))
     ∙ head_kept F a r.head (and_parts (list_any (λ x. has (head_atoms x) a) (settled_head F r.head)) _ (sym (parts-read F (λ x. has (head_atoms x) a) (λ b. true) r) ∙ e)).0) rs)
     (sym (list_any-flat_map (λ (x : Rule). has (head_atoms x.head) a && true) (settled_rule F) rs) ∙ sym (heads_by_rule (flat_map (settled_rule F) rs) a) ∙ h)
@@ -71,7 +74,8 @@ open-set H (e ∷ es) =
 abbrev last_from : List External → ℕ → ExternalValue → ExternalValue
 last_from es a v = fold (λ u e. cond (eqb e.atom a) e.value u) v es
 
-last_one : (H : Atoms) (a : ℕ) (e : External) (es : List External) (v : ExternalValue) (c : Bool) → has H a ≡ false → has H e.atom ≡ c → ((u : ExternalValue) → last_from (filter (is_open H) es) a u ≡ last_from es a u) →
+last_one : (H : Atoms) (a : ℕ) (e : External) (es : List External) (v : ExternalValue) (c : Bool) → has H a ≡ false → has H e.atom ≡ c →
+    ((u : ExternalValue) → last_from (filter (is_open H) es) a u ≡ last_from es a u) →
     last_from (cond (not c) (e ∷ filter (is_open H) es) (filter (is_open H) es)) a v ≡ last_from es a (cond (eqb e.atom a) e.value v)
 last_one H a e es v true out h later =
     later v ∙ ap (last_from es a) (sym (ap (λ b. cond b e.value v) (ne_eqb e.atom a (λ same. both_ways (has H a) out (ap (has H) (sym same) ∙ h)))))
@@ -117,7 +121,10 @@ abbrev heads' : Program → List ℕ
 heads' p = heads_of (flat_map (settled_rule (facts_in p)) p.rules)
 
 pub open-left : (p : Program) → open_atoms (left_in p) ≡ open_atoms p
-open-left p = same_from_has (open_atoms (left_in p)) (open_atoms p) (ascends-filter (λ a. not (has (heads' p) a)) (set_of (named (filter (is_open (heads p)) p.externals))) (IsAscending-set_of (named (filter (is_open (heads p)) p.externals)))) (ascends-filter (λ a. not (has (heads p) a)) (set_of (named p.externals)) (IsAscending-set_of (named p.externals))) (λ a.
+open-left p = same_from_has (open_atoms (left_in p)) (open_atoms p)
+    (ascends-filter (λ a. not (has (heads' p) a)) (set_of (named (filter (is_open (heads p)) p.externals)))
+    (IsAscending-set_of (named (filter (is_open (heads p)) p.externals))))
+    (ascends-filter (λ a. not (has (heads p) a)) (set_of (named p.externals)) (IsAscending-set_of (named p.externals))) (λ a.
     has-filter (λ b. not (has (heads' p) b)) (set_of (named (filter (is_open (heads p)) p.externals))) a
     ∙ ap (λ b. not (has (heads' p) a) && b) (has-set_of (named (filter (is_open (heads p)) p.externals)) a ∙ open_there (heads p) a p.externals)
     ∙ twice (has (heads' p) a) (has (heads p) a) (has (named p.externals) a) (heads-left (facts_in p) p.rules a)
@@ -140,7 +147,8 @@ rules-left : (F H : Atoms) (es : List External) (L : List ℕ) → AllByRecursio
 rules-left F H es [] free = refl
 rules-left F H es (a ∷ L) free =
     flat_map-append (settled_rule F) (external_rule a (last_value es a)) (flat_map (λ b. external_rule b (last_value es b)) L)
-    ∙ ap (λ rs. rs ++ flat_map (settled_rule F) (flat_map (λ b. external_rule b (last_value es b)) L)) (rule-left F a (last_value es a) free.0.0 ∙ ap (external_rule a) (sym (last-left H a free.0.1 es value.Release)))
+    ∙ ap (λ rs. rs ++ flat_map (settled_rule F) (flat_map (λ b. external_rule b (last_value es b)) L))
+    (rule-left F a (last_value es a) free.0.0 ∙ ap (external_rule a) (sym (last-left H a free.0.1 es value.Release)))
     ∙ ap (λ rs. external_rule a (last_value (filter (is_open H) es) a) ++ rs) (rules-left F H es L free.1)
 
 pass_one : (q : ℕ → Bool) (x : ℕ) (xs : List ℕ) (c : Bool) → q x ≡ c → AllByRecursion (λ a. q a ≡ true) xs → AllByRecursion (λ a. q a ≡ true) (cond c (x ∷ xs) xs)
@@ -163,7 +171,9 @@ single_head a r e = by (is_always r.body) r.head e
 pub facts-heads : (p : Program) → IsSubset (facts_in p) (heads_of p.rules)
 facts-heads p a h =
     list_any-flat_map (λ b. eqb b a) (λ (r : Rule). head_atoms r.head) p.rules
-    ∙ list_any-weaker (λ (r : Rule). has (fact_of r) a) (λ (r : Rule). has (head_atoms r.head) a) p.rules (each_of (λ r. has (fact_of r) a ≡ true → has (head_atoms r.head) a ≡ true) (single_head a) p.rules) (sym (list_any-flat_map (λ b. eqb b a) fact_of p.rules) ∙ fact-given p a h)
+    ∙ list_any-weaker (λ (r : Rule). has (fact_of r) a) (λ (r : Rule). has (head_atoms r.head) a) p.rules
+    (each_of (λ r. has (fact_of r) a ≡ true → has (head_atoms r.head) a ≡ true) (single_head a) p.rules)
+    (sym (list_any-flat_map (λ b. eqb b a) fact_of p.rules) ∙ fact-given p a h)
 
 free : (p : Program) (a : ℕ) → not (has (heads p) a) ≡ true → IsFreeAtom (facts_in p) (heads p) a
 free p a e =
@@ -174,5 +184,8 @@ pub force-left : (p : Program) → rules_in_force (left_in p) ≡ flat_map (sett
 force-left p =
     let F = facts_in p in
     ap (λ L. flat_map (settled_rule F) p.rules ++ flat_map (λ a. external_rule a (last_value (filter (is_open (heads p)) p.externals) a)) L) (open-left p)
-    ∙ ap (λ rs. flat_map (settled_rule F) p.rules ++ rs) (sym (rules-left F (heads p) p.externals (open_atoms p) (each_weaker (λ a. not (has (heads p) a) ≡ true) (IsFreeAtom F (heads p)) (free p) (open_atoms p) (passing (λ a. not (has (heads p) a)) (set_of (named p.externals))))))
+    ∙ ap (λ rs. flat_map (settled_rule F) p.rules ++ rs)
+    (sym (rules-left F (heads p) p.externals (open_atoms p)
+    (each_weaker (λ a. not (has (heads p) a) ≡ true) (IsFreeAtom F (heads p)) (free p) (open_atoms p)
+    (passing (λ a. not (has (heads p) a)) (set_of (named p.externals))))))
     ∙ sym (flat_map-append (settled_rule F) p.rules (opened_rules p))

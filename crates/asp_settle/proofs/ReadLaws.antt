@@ -94,7 +94,8 @@ weight-read F S T (i ∷ items) =
     ap (λ b. cond b i.1 (pos 0) +ℤ weight_between (united F S) (united F T) items) (between-united F S T i.0)
     ∙ one_weight S T i (settled_items F items) (settled_weight F items) _ (has F (atom_of i.0)) (is_positive i.0) (weight-read F S T items)
 
-kept-weight : (S T : Atoms) (i : ℤ × ℤ) (rest : List (ℤ × ℤ)) (c h : Bool) → pos 0 ≤ℤ i.1 → pos 0 ≤ℤ weight_between S T rest → h ≡ holds_between S T i.0 → pos 0 ≤ℤ weight_between S T (cond c (i ∷ rest) rest)
+kept-weight : (S T : Atoms) (i : ℤ × ℤ) (rest : List (ℤ × ℤ)) (c h : Bool) → pos 0 ≤ℤ i.1 → pos 0 ≤ℤ weight_between S T rest →
+    h ≡ holds_between S T i.0 → pos 0 ≤ℤ weight_between S T (cond c (i ∷ rest) rest)
 kept-weight S T i rest true true w r e = grind (arith, ints)
 kept-weight S T i rest true false w r e = grind (arith, ints)
 kept-weight S T i rest false h w r e = r

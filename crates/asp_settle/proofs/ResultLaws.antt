@@ -74,7 +74,8 @@ optima-left p sound =
     ∙ ap (map u) (filter-same (λ S. not (list_any (λ T. betters (cost p T) (cost p (u S))) (map u (answers q)))) (λ S. not (list_any (λ T. betters (cost q T) (cost q S)) (answers q))) (answers q)
     (each_any (λ S. not (list_any (λ T. betters (cost p T) (cost p (u S))) (map u (answers q))) ≡ not (list_any (λ T. betters (cost q T) (cost q S)) (answers q))) (λ S.
     ap not (list_any-map (λ T. betters (cost p T) (cost p (u S))) u (answers q)
-    ∙ any-same (λ T. betters (cost p (u T)) (cost p (u S))) (λ T. betters (cost q T) (cost q S)) (λ T. ap (λ c. betters c (cost p (u S))) (cost-left p T) ∙ ap (betters (cost q T)) (cost-left p S)) (answers q))) (answers q)))
+    ∙ any-same (λ T. betters (cost p (u T)) (cost p (u S))) (λ T. betters (cost q T) (cost q S))
+    (λ T. ap (λ c. betters c (cost p (u S))) (cost-left p T) ∙ ap (betters (cost q T)) (cost-left p S)) (answers q))) (answers q)))
 
 -- ---- some of the answers
 pub chosen-left : (p : Program) (chosen : Atoms → Bool) → IsSound p → map (united (facts_in p)) (filter chosen (answers (left_in p))) ≡ filter (λ S. chosen (without (facts_in p) S)) (answers p)
@@ -83,7 +84,9 @@ chosen-left p chosen sound =
     let q = left_in p in
     sym (ap (filter (λ S. chosen (without (facts_in p) S))) (same-answers p sound)
     ∙ filter-map (λ S. chosen (without (facts_in p) S)) u (answers q)
-    ∙ ap (map u) (filter-same (λ S. chosen (without (facts_in p) (u S))) chosen (answers q) (each_weaker (IsOther p) (λ S. chosen (without (facts_in p) (u S)) ≡ chosen S) (λ S o. ap chosen (without-united (facts_in p) S o.ascending o.apart)) (answers q) (others p sound))))
+    ∙ ap (map u) (filter-same (λ S. chosen (without (facts_in p) (u S))) chosen (answers q)
+    (each_weaker (IsOther p) (λ S. chosen (without (facts_in p) (u S)) ≡ chosen S)
+    (λ S o. ap chosen (without-united (facts_in p) S o.ascending o.apart)) (answers q) (others p sound))))
 
 pub optima-chosen : (p : Program) (chosen : Atoms → Bool) → IsSound p → map (united (facts_in p)) (filter chosen (optima (left_in p))) ≡ filter (λ S. chosen (without (facts_in p) S)) (optima p)
 optima-chosen p chosen sound =
@@ -91,7 +94,9 @@ optima-chosen p chosen sound =
     let q = left_in p in
     sym (ap (filter (λ S. chosen (without (facts_in p) S))) (optima-left p sound)
     ∙ filter-map (λ S. chosen (without (facts_in p) S)) u (optima q)
-    ∙ ap (map u) (filter-same (λ S. chosen (without (facts_in p) (u S))) chosen (optima q) (each_weaker (IsOther p) (λ S. chosen (without (facts_in p) (u S)) ≡ chosen S) (λ S o. ap chosen (without-united (facts_in p) S o.ascending o.apart)) (optima q)
+    ∙ ap (map u) (filter-same (λ S. chosen (without (facts_in p) (u S))) chosen (optima q)
+    (each_weaker (IsOther p) (λ S. chosen (without (facts_in p) (u S)) ≡ chosen S)
+    (λ S o. ap chosen (without-united (facts_in p) S o.ascending o.apart)) (optima q)
     (each-filter (IsOther p) (λ S. not (list_any (λ T. betters (cost q T) (cost q S)) (answers q))) (answers q) (others p sound)))))
 
 pub optimum-left : (p : Program) (S : Atoms) (c : List ℤ) → IsSound p → IsOptimum (left_in p) S c → IsOptimum p (united (facts_in p) S) c
@@ -101,7 +106,8 @@ optimum-left p S c sound o =
     record {
       answer = subst (λ Ss. Contains Ss (u S)) (sym (same-answers p sound)) (contains-map u (answers q) S o.answer);
       sums = o.sums ∙ sym (cost-left p S);
-      least = ap (list_any (λ T. betters (cost p T) c)) (same-answers p sound) ∙ list_any-map (λ T. betters (cost p T) c) u (answers q) ∙ any-same (λ T. betters (cost p (u T)) c) (λ T. betters (cost q T) c) (λ T. ap (λ d. betters d c) (cost-left p T)) (answers q) ∙ o.least;
+      least = ap (list_any (λ T. betters (cost p T) c)) (same-answers p sound) ∙ list_any-map (λ T. betters (cost p T) c) u (answers q)
+          ∙ any-same (λ T. betters (cost p (u T)) c) (λ T. betters (cost q T) c) (λ T. ap (λ d. betters d c) (cost-left p T)) (answers q) ∙ o.least;
     }
 
 -- ---- what they have in common
@@ -144,10 +150,15 @@ held-some Brave S K a e = e
 held-some Cautious S K a e = or_left (has S a) (list_any (λ T. has T a) K) (and_parts (has S a) (list_all (λ T. has T a) K) e).0
 
 -- what is held by some of the answers is an atom of both programs
-held-stands : (w : Reasoning) (p : Program) (S : Atoms) (K : List Atoms) (a : ℕ) → AllByRecursion (IsOther p) (S ∷ K) → held_by w (S ∷ K) a ≡ true → (has (atoms_of (left_in p)) a ≡ true) × (has (atoms_of p) a ≡ true)
+held-stands : (w : Reasoning) (p : Program) (S : Atoms) (K : List Atoms) (a : ℕ) → AllByRecursion (IsOther p) (S ∷ K) → held_by w (S ∷ K) a ≡ true →
+    (has (atoms_of (left_in p)) a ≡ true) × (has (atoms_of p) a ≡ true)
 held-stands w p S K a all h =
-    one_passes ((has (atoms_of (left_in p)) a ≡ true) × (has (atoms_of p) a ≡ true)) (λ T. has T a) (S ∷ K) (each_weaker (IsOther p) (λ T. has T a ≡ true → (has (atoms_of (left_in p)) a ≡ true) × (has (atoms_of p) a ≡ true)) (λ T o e.
-    ((stable-subset (left_in p) T o.stable).1 a e, (stable-subset p (united (facts_in p) T) o.whole).1 a (has-united (facts_in p) T a ∙ or_left (has T a) (has (facts_in p) a) e))) (S ∷ K) all) (held-some w S K a h)
+    one_passes ((has (atoms_of (left_in p)) a ≡ true) × (has (atoms_of p) a ≡ true)) (λ T. has T a) (S ∷ K)
+    (each_weaker (IsOther p) (λ T. has T a ≡ true → (has (atoms_of (left_in p)) a ≡ true) × (has (atoms_of p) a ≡ true)) (λ T o e. (
+      (stable-subset (left_in p) T o.stable).1 a e,
+      (stable-subset p (united (facts_in p) T) o.whole).1 a
+          (has-united (facts_in p) T a ∙ or_left (has T a) (has (facts_in p) a) e),
+    )) (S ∷ K) all) (held-some w S K a h)
 
 pub same_both : (h s t : Bool) → (h ≡ true → (s ≡ true) × (t ≡ true)) → (h && t) ≡ (h && s)
 same_both true s t k = (k refl).1 ∙ sym (k refl).0
@@ -163,19 +174,25 @@ common_at w p S K a false all out =
     ∙ same_both (held_by w (S ∷ K) a) (has (atoms_of (left_in p)) a) (has (atoms_of p) a) (held-stands w p S K a all)
     ∙ sym (ap (λ b. (held_by w (S ∷ K) a && has (atoms_of (left_in p)) a) || b) out ∙ or-false (held_by w (S ∷ K) a && has (atoms_of (left_in p)) a))
 
-common-left : (w : Reasoning) (p : Program) (S : Atoms) (K : List Atoms) → AllByRecursion (IsOther p) (S ∷ K) → consequences w p (map (united (facts_in p)) (S ∷ K)) ≡ united (facts_in p) (consequences w (left_in p) (S ∷ K))
+common-left : (w : Reasoning) (p : Program) (S : Atoms) (K : List Atoms) → AllByRecursion (IsOther p) (S ∷ K) →
+    consequences w p (map (united (facts_in p)) (S ∷ K)) ≡ united (facts_in p) (consequences w (left_in p) (S ∷ K))
 common-left w p S K all =
     let F = facts_in p in
     let q = left_in p in
-    same_from_has (consequences w p (map (united F) (S ∷ K))) (united F (consequences w q (S ∷ K))) (consequences-ascend w p (map (united F) (S ∷ K))) (united-ascends F (consequences w q (S ∷ K)) (consequences-ascend w q (S ∷ K))) (λ a.
-    has-consequences w p (map (united F) (S ∷ K)) a ∙ common_at w p S K a (has F a) all refl ∙ ap (λ b. b || has F a) (sym (has-consequences w q (S ∷ K) a)) ∙ sym (has-united F (consequences w q (S ∷ K)) a))
+    same_from_has (consequences w p (map (united F) (S ∷ K))) (united F (consequences w q (S ∷ K))) (consequences-ascend w p (map (united F) (S ∷ K)))
+    (united-ascends F (consequences w q (S ∷ K)) (consequences-ascend w q (S ∷ K))) (λ a.
+    has-consequences w p (map (united F) (S ∷ K)) a ∙ common_at w p S K a (has F a) all refl
+    ∙ ap (λ b. b || has F a) (sym (has-consequences w q (S ∷ K) a)) ∙ sym (has-united F (consequences w q (S ∷ K)) a))
 
-common-of : (w : Reasoning) (p : Program) (K : List Atoms) → AllByRecursion (IsOther p) K → consequences_of w p (map (united (facts_in p)) K) ≡ option_map (united (facts_in p)) (consequences_of w (left_in p) K)
+common-of : (w : Reasoning) (p : Program) (K : List Atoms) → AllByRecursion (IsOther p) K →
+    consequences_of w p (map (united (facts_in p)) K) ≡ option_map (united (facts_in p)) (consequences_of w (left_in p) K)
 common-of w p [] all = refl
 common-of w p (S ∷ K) all = ap (λ C. Some C) (common-left w p S K all)
 
 pub all-consequences : (p : Program) (w : Reasoning) → IsSound p → consequences_of w p (answers p) ≡ option_map (united (facts_in p)) (consequences_of w (left_in p) (answers (left_in p)))
 all-consequences p w sound = ap (consequences_of w p) (same-answers p sound) ∙ common-of w p (answers (left_in p)) (others p sound)
 
-pub consequences-left : (p : Program) (w : Reasoning) (chosen : Atoms → Bool) → IsSound p → consequences_of w p (map (united (facts_in p)) (filter chosen (answers (left_in p)))) ≡ option_map (united (facts_in p)) (consequences_of w (left_in p) (filter chosen (answers (left_in p))))
+pub consequences-left : (p : Program) (w : Reasoning) (chosen : Atoms → Bool) → IsSound p →
+    consequences_of w p (map (united (facts_in p)) (filter chosen (answers (left_in p)))) ≡ option_map (united (facts_in p))
+    (consequences_of w (left_in p) (filter chosen (answers (left_in p))))
 consequences-left p w chosen sound = common-of w p (filter chosen (answers (left_in p))) (each-filter (IsOther p) chosen (answers (left_in p)) (others p sound))

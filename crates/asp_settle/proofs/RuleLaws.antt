@@ -54,7 +54,8 @@ all_heads P Q bs (h ∷ hs) =
     ∙ ap (λ b. (P h && list_any Q bs) || b) (sym (list_any-flat_map (test_of P Q) (rules_with bs) hs) ∙ all_heads P Q bs hs)
     ∙ each_or (P h) (list_any P hs) (list_any Q bs)
 
-pub parts-read : (F : Atoms) (P : Head → Bool) (Q : Body → Bool) (r : Rule) → list_any (λ x. P x.head && Q x.body) (settled_rule F r) ≡ (list_any P (settled_head F r.head) && list_any Q (settled_body F r.body))
+pub parts-read : (F : Atoms) (P : Head → Bool) (Q : Body → Bool) (r : Rule) →
+    list_any (λ x. P x.head && Q x.body) (settled_rule F r) ≡ (list_any P (settled_head F r.head) && list_any Q (settled_body F r.body))
 parts-read F P Q r = all_heads P Q (settled_body F r.body) (settled_head F r.head)
 
 -- ---- what rules derive
@@ -113,7 +114,8 @@ no_head F S a (head.One b) fact = by (has F b) refl
     by true e = refl
     by false e = ap (λ c. (c || false) || false) (ne_eqb b a (λ same. both_ways (has F a) (ap (has F) (sym same) ∙ e) fact))
 no_head F S a (head.Choice atoms) fact =
-    ap (λ b. b || false) (has-filter (has S) (filter (λ b. not (has F b)) atoms) a ∙ ap (λ b. has S a && b) (has-filter (λ b. not (has F b)) atoms a ∙ ap (λ b. not b && has atoms a) fact) ∙ and-false (has S a))
+    ap (λ b. b || false) (has-filter (has S) (filter (λ b. not (has F b)) atoms) a
+    ∙ ap (λ b. has S a && b) (has-filter (λ b. not (has F b)) atoms a ∙ ap (λ b. not b && has atoms a) fact) ∙ and-false (has S a))
 no_head F S a head.Never fact = refl
 
 pub other-derived : (F S T : Atoms) (a : ℕ) → has F a ≡ false → (r : Rule) → is_sound_body r.body ≡ true → list_any (derives_at S T a) (settled_rule F r) ≡ derives_at (united F S) (united F T) a r
@@ -158,10 +160,13 @@ any-left F p q (r ∷ rs) h =
     ∙ ap (λ b. b || list_any (λ x. list_any p (settled_rule F x)) rs) h.0
     ∙ ap (λ b. q r || b) (sym (list_any-flat_map p (settled_rule F) rs) ∙ any-left F p q rs h.1)
 
-pub step-left : (F S T : Atoms) (rs : List Rule) (a : ℕ) → HaveSoundBodies rs → has F a ≡ false → has (step (reduct S (flat_map (settled_rule F) rs)) T) a ≡ has (step (reduct (united F S) rs) (united F T)) a
+pub step-left : (F S T : Atoms) (rs : List Rule) (a : ℕ) → HaveSoundBodies rs → has F a ≡ false →
+    has (step (reduct S (flat_map (settled_rule F) rs)) T) a ≡ has (step (reduct (united F S) rs) (united F T)) a
 step-left F S T rs a sound out =
     has-step S T (flat_map (settled_rule F) rs) a
-    ∙ any-left F (derives_at S T a) (derives_at (united F S) (united F T) a) rs (each_weaker (λ (r : Rule). is_sound_body r.body ≡ true) (λ r. list_any (derives_at S T a) (settled_rule F r) ≡ derives_at (united F S) (united F T) a r) (other-derived F S T a out) rs sound)
+    ∙ any-left F (derives_at S T a) (derives_at (united F S) (united F T) a) rs
+    (each_weaker (λ (r : Rule). is_sound_body r.body ≡ true)
+    (λ r. list_any (derives_at S T a) (settled_rule F r) ≡ derives_at (united F S) (united F T) a r) (other-derived F S T a out) rs sound)
     ∙ sym (has-step (united F S) (united F T) rs a)
 
 pub step-apart : (F S T : Atoms) (rs : List Rule) (a : ℕ) → has F a ≡ true → has (step (reduct S (flat_map (settled_rule F) rs)) T) a ≡ false
@@ -176,4 +181,6 @@ step-apart F S T rs a fact =
 
 pub all-violated : (F S : Atoms) (rs : List Rule) → HaveSoundBodies rs → list_any (is_violated S) (flat_map (settled_rule F) rs) ≡ list_any (is_violated (united F S)) rs
 all-violated F S rs sound =
-    any-left F (is_violated S) (is_violated (united F S)) rs (each_weaker (λ (r : Rule). is_sound_body r.body ≡ true) (λ r. list_any (is_violated S) (settled_rule F r) ≡ is_violated (united F S) r) (violated-left F S) rs sound)
+    any-left F (is_violated S) (is_violated (united F S)) rs
+    (each_weaker (λ (r : Rule). is_sound_body r.body ≡ true) (λ r. list_any (is_violated S) (settled_rule F r) ≡ is_violated (united F S) r)
+    (violated-left F S) rs sound)

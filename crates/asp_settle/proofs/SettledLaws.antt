@@ -98,8 +98,12 @@ all-consequences p w sound =
     ∙ common-constrained w p (answers (constrained p)) (answers-within (constrained p))
     ∙ results.all-consequences (constrained p) w (sound-first p sound)
 
-pub consequences-left : (p : Program) (w : Reasoning) (chosen : Atoms → Bool) → IsSound p → consequences_of w p (map (united (facts_of p)) (filter chosen (answers (left_of p)))) ≡ option_map (united (facts_of p)) (consequences_of w (left_of p) (filter chosen (answers (left_of p))))
+pub consequences-left : (p : Program) (w : Reasoning) (chosen : Atoms → Bool) → IsSound p →
+    consequences_of w p (map (united (facts_of p)) (filter chosen (answers (left_of p)))) ≡ option_map (united (facts_of p))
+    (consequences_of w (left_of p) (filter chosen (answers (left_of p))))
 consequences-left p w chosen sound =
     let c = constrained p in
-    common-constrained w p (map (united (facts_of p)) (filter chosen (answers (left_of p)))) (subst (AllByRecursion (HasAtoms c)) (sym (results.chosen-left c chosen (sound-first p sound))) (each-filter (HasAtoms c) (λ S. chosen (without (facts_of p) S)) (answers c) (answers-within c)))
+    common-constrained w p (map (united (facts_of p)) (filter chosen (answers (left_of p))))
+    (subst (AllByRecursion (HasAtoms c)) (sym (results.chosen-left c chosen (sound-first p sound)))
+    (each-filter (HasAtoms c) (λ S. chosen (without (facts_of p) S)) (answers c) (answers-within c)))
     ∙ results.consequences-left c w chosen (sound-first p sound)

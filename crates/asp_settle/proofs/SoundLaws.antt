@@ -31,7 +31,8 @@ all-filter p q [] h = refl
 all-filter p q (x ∷ xs) h = let parts = and_parts (p x) (list_all p xs) h in kept_all p (q x) x (filter q xs) parts.0 (all-filter p q xs parts.1)
 
 -- what every rule, or every output, leaves
-all-left : {X Y : Type 0} (p : X → Bool) (q : Y → Bool) (f : X → List Y) → ((x : X) → p x ≡ true → AllByRecursion (λ y. q y ≡ true) (f x)) → (xs : List X) → list_all p xs ≡ true → list_all q (flat_map f xs) ≡ true
+all-left : {X Y : Type 0} (p : X → Bool) (q : Y → Bool) (f : X → List Y) → ((x : X) → p x ≡ true → AllByRecursion (λ y. q y ≡ true) (f x)) →
+    (xs : List X) → list_all p xs ≡ true → list_all q (flat_map f xs) ≡ true
 all-left p q f h xs all =
     all_from q (flat_map f xs) (each-flat_map (λ y. q y ≡ true) f xs (each_weaker (λ x. p x ≡ true) (λ x. AllByRecursion (λ y. q y ≡ true) (f x)) h xs (each_passes p xs all)))
 
@@ -57,7 +58,9 @@ sound-rule F r e =
     let parts = and_parts (is_sound_head r.head) (is_sound_body r.body) e in
     each-flat_map (λ x. is_sound_rule x ≡ true) (λ h. map (λ b. record { head = h; body = b }) (settled_body F r.body)) (settled_head F r.head)
     (each_weaker (λ h. is_sound_head h ≡ true) (λ h. AllByRecursion (λ x. is_sound_rule x ≡ true) (map (λ b. record { head = h; body = b }) (settled_body F r.body))) (λ h sh.
-    each-map (λ x. is_sound_rule x ≡ true) (λ b. record { head = h; body = b }) (settled_body F r.body) (each_weaker (λ b. is_sound_body b ≡ true) (λ b. (is_sound_head h && is_sound_body b) ≡ true) (λ b sb. and_from (is_sound_head h) (is_sound_body b) sh sb) (settled_body F r.body) (sound-body F r.body parts.1)))
+    each-map (λ x. is_sound_rule x ≡ true) (λ b. record { head = h; body = b }) (settled_body F r.body)
+    (each_weaker (λ b. is_sound_body b ≡ true) (λ b. (is_sound_head h && is_sound_body b) ≡ true)
+    (λ b sb. and_from (is_sound_head h) (is_sound_body b) sh sb) (settled_body F r.body) (sound-body F r.body parts.1)))
     (settled_head F r.head) (sound-head F r.head parts.0))
 
 sound-output : (F : Atoms) (o : Output) → is_sound_output o ≡ true → AllByRecursion (λ x. is_sound_output x ≡ true) (settled_output F o)
@@ -104,7 +107,8 @@ few-head F (head.One a) = one_at_most (has F a) (head.One a)
 few-head F (head.Choice atoms) = omega arith
 few-head F head.Never = omega arith
 
-few-rules : (n : ℕ) (hs : List Head) (bs : List Body) → length hs ≤ 1 → IsFew weighted_count n bs → IsFew (λ (r : Rule). weighted_count r.body) n (flat_map (λ h. map (λ b. record { head = h; body = b }) bs) hs)
+few-rules : (n : ℕ) (hs : List Head) (bs : List Body) → length hs ≤ 1 → IsFew weighted_count n bs →
+    IsFew (λ (r : Rule). weighted_count r.body) n (flat_map (λ h. map (λ b. record { head = h; body = b }) bs) hs)
 few-rules n [] bs h few = (omega arith, omega arith)
 few-rules n (x ∷ []) [] h few = (omega arith, omega arith)
 few-rules n (x ∷ []) (b ∷ []) h few = (omega arith, omega (arith, few.1))
@@ -123,7 +127,8 @@ weighted-left F (r ∷ rs) =
 pub below-limit : (a b n : ℕ) → a ≤ b → leb b n ≡ true → leb a n ≡ true
 below-limit a b n le h = le-leb a n (omega (arith, leb-true b n h))
 
-pub five : (a b c d e a' c' d' e' : Bool) → (a ≡ true → a' ≡ true) → (c ≡ true → c' ≡ true) → (d ≡ true → d' ≡ true) → (e ≡ true → e' ≡ true) → (a && b && c && d && e) ≡ true → (a' && b && c' && d' && e') ≡ true
+pub five : (a b c d e a' c' d' e' : Bool) → (a ≡ true → a' ≡ true) → (c ≡ true → c' ≡ true) → (d ≡ true → d' ≡ true) → (e ≡ true → e' ≡ true) →
+    (a && b && c && d && e) ≡ true → (a' && b && c' && d' && e') ≡ true
 five a b c d e a' c' d' e' fa fc fd fe h =
     let p = and_parts (a && b && c && d) e h in
     let q = and_parts (a && b && c) d p.0 in

@@ -72,7 +72,8 @@ without-united F S up apart =
 sound_bodies : (p : Program) → IsSound p → HaveSoundBodies (rules_in_force p)
 sound_bodies p sound = recursion_from_All HasBody (rules_in_force p) (rules_in_force-bodies p sound)
 
-left-step : (F : Atoms) (p q : Program) → IsLeft F p q → (S T : Atoms) (a : ℕ) → has F a ≡ false → has (step (reduct S (rules_in_force q)) T) a ≡ has (step (reduct (united F S) (rules_in_force p)) (united F T)) a
+left-step : (F : Atoms) (p q : Program) → IsLeft F p q → (S T : Atoms) (a : ℕ) → has F a ≡ false →
+    has (step (reduct S (rules_in_force q)) T) a ≡ has (step (reduct (united F S) (rules_in_force p)) (united F T)) a
 left-step F p q l S T a out =
     ap (λ rs. has (step (reduct S rs) T) a) l.rules ∙ step-left F S T (rules_in_force p) a (sound_bodies p l.whole) out
 
@@ -130,7 +131,9 @@ same_test S T e = subst (λ U. same_set S U ≡ true) e (same_set-itself S)
 same_left : (F : Atoms) (p q : Program) → IsLeft F p q → (S : Atoms) → IsAscending S → IsApart F S → same_set (united F S) (least_model p (united F S)) ≡ same_set S (least_model q S)
 same_left F p q l S up apart =
     same_bools (same_set (united F S) (least_model p (united F S))) (same_set S (least_model q S))
-    (λ e. same_test S (least_model q S) (sym (without-united F S up apart) ∙ ap (without F) (same_text (united F S) (least_model p (united F S)) (sym e) ∙ least-left F p q l S) ∙ without-united F (least_model q S) (least_model-ascends q S) (least-apart F p q l S)))
+    (λ e. same_test S (least_model q S) (sym (without-united F S up apart)
+    ∙ ap (without F) (same_text (united F S) (least_model p (united F S)) (sym e) ∙ least-left F p q l S)
+    ∙ without-united F (least_model q S) (least_model-ascends q S) (least-apart F p q l S)))
     (λ e. same_test (united F S) (least_model p (united F S)) (ap (united F) (same_text S (least_model q S) (sym e)) ∙ sym (least-left F p q l S)))
 
 pub stable-left : (F : Atoms) (p q : Program) → IsLeft F p q → (S : Atoms) → IsAscending S → IsApart F S → is_stable p (united F S) ≡ is_stable q S
@@ -151,7 +154,8 @@ stable-whole F p q l S h =
 -- ---- lists of sets
 pub contains-map : (f : Atoms → Atoms) (Ss : List Atoms) (S : Atoms) → Contains Ss S → Contains (map f Ss) (f S)
 contains-map f Ss S h =
-    contains_from_test (map f Ss) (f S) (list_any-map (same_set (f S)) f Ss ∙ list_any-weaker (same_set S) (λ T. same_set (f S) (f T)) Ss (each_of (λ T. same_set S T ≡ true → same_set (f S) (f T) ≡ true) (λ T e.
+    contains_from_test (map f Ss) (f S) (list_any-map (same_set (f S)) f Ss
+    ∙ list_any-weaker (same_set S) (λ T. same_set (f S) (f T)) Ss (each_of (λ T. same_set S T ≡ true → same_set (f S) (f T) ≡ true) (λ T e.
     same_test (f S) (f T) (ap f (same_text S T (sym e)))) Ss) (test_from_contains Ss S h))
 
 pub map-contains : (f : Atoms → Atoms) (Ss : List Atoms) (X : Atoms) → Contains (map f Ss) X → (S : Atoms) × Contains Ss S × (X ≡ f S)
@@ -197,7 +201,9 @@ pub record HasAnswersOf (F : Atoms) (p q : Program) : Type 0 where
 
 pub answers-left : (F : Atoms) (p q : Program) → HasAnswersOf F p q → answers p ≡ map (united F) (answers q)
 answers-left F p q l =
-    same_from_members (answers p) (map (united F) (answers q)) (answers-rise p) (pairs-united F (answers q) (each-contained (IsApart F) (answers q) (λ S h. (stable-apart F p q l.is S ((answers-are q S).0 h).0).1)) (answers-rise q)) (λ X. (there X, back X))
+    same_from_members (answers p) (map (united F) (answers q)) (answers-rise p)
+    (pairs-united F (answers q) (each-contained (IsApart F) (answers q) (λ S h. (stable-apart F p q l.is S ((answers-are q S).0 h).0).1))
+    (answers-rise q)) (λ X. (there X, back X))
   where
     there : (X : Atoms) → Contains (answers p) X → Contains (map (united F) (answers q)) X
     there X h =

@@ -60,7 +60,8 @@ choice-stays F atoms h = ap (λ xs. head.Choice xs ∷ []) (filter-kept (λ a. n
 pub all-stays : (F : Atoms) (ls : List ℤ) → list_all (λ l. not (has F (atom_of l))) ls ≡ true → settled_body F (body.All ls) ≡ body.All ls ∷ []
 all-stays F ls h = ap (map (λ ks. body.All ks)) (literals-stay F ls h)
 
-pub weighted-stays : (F : Atoms) (bound : ℤ) (items : List (ℤ × ℤ)) → pos 0 ≤ℤ bound → list_all (λ i. not (has F (atom_of i.0))) items ≡ true → settled_body F (body.AtLeast bound items) ≡ body.AtLeast bound items ∷ []
+pub weighted-stays : (F : Atoms) (bound : ℤ) (items : List (ℤ × ℤ)) → pos 0 ≤ℤ bound → list_all (λ i. not (has F (atom_of i.0))) items ≡ true →
+    settled_body F (body.AtLeast bound items) ≡ body.AtLeast bound items ∷ []
 weighted-stays F bound items low h =
     ap (λ z. body.AtLeast (lowered bound z) (filter (λ i. not (has F (atom_of i.0))) items) ∷ []) (weight-none F items h)
     ∙ ap (λ z. body.AtLeast z (filter (λ i. not (has F (atom_of i.0))) items) ∷ []) (lowered-none bound low)

@@ -53,19 +53,27 @@ places_passed flags i xs lt e down = e ∙ sym (append-nil (places_from 0 (take 
 
 -- ---- flags
 set_at : (flags : List Bool) (a : ℕ) (b : Bool) → a < length flags → get_or (set flags a b) a false ≡ cond (eqb a a && ltb a (length flags)) b (get_or flags a false)
-set_at flags a b lt = get_or-set_same flags a b false lt ∙ sym (cond-true (eqb a a && ltb a (length flags)) b (get_or flags a false) (and_from (eqb a a) (ltb a (length flags)) (eq-eqb a a refl) (lt-ltb a (length flags) lt)))
+set_at flags a b lt = get_or-set_same flags a b false lt
+    ∙ sym (cond-true (eqb a a && ltb a (length flags)) b (get_or flags a false)
+    (and_from (eqb a a) (ltb a (length flags)) (eq-eqb a a refl) (lt-ltb a (length flags) lt)))
 
 set_none : (flags : List Bool) (a : ℕ) (b : Bool) → length flags ≤ a → get_or (set flags a b) a false ≡ cond (eqb a a && ltb a (length flags)) b (get_or flags a false)
-set_none flags a b le = ap (λ f. get_or f a false) (set_past flags a b le) ∙ sym (cond-false (eqb a a && ltb a (length flags)) b (get_or flags a false) (and_right (eqb a a) (ltb a (length flags)) (le-ltb a (length flags) le)))
+set_none flags a b le = ap (λ f. get_or f a false) (set_past flags a b le)
+    ∙ sym (cond-false (eqb a a && ltb a (length flags)) b (get_or flags a false)
+    (and_right (eqb a a) (ltb a (length flags)) (le-ltb a (length flags) le)))
 
 get_or-set : (flags : List Bool) (x a : ℕ) (b : Bool) → get_or (set flags x b) a false ≡ cond (eqb x a && ltb a (length flags)) b (get_or flags a false)
 get_or-set flags x a b = elim (cases_eq a x) [
   | inl same ↦ here same
-  | inr other ↦ get_or-set_other flags x a b false other ∙ sym (cond-false (eqb x a && ltb a (length flags)) b (get_or flags a false) (and_left (eqb x a) (ltb a (length flags)) (ne_eqb x a (λ e. other (sym e)))))
+  | inr other ↦ get_or-set_other flags x a b false other
+      ∙ sym (cond-false (eqb x a && ltb a (length flags)) b (get_or flags a false)
+      (and_left (eqb x a) (ltb a (length flags)) (ne_eqb x a (λ e. other (sym e)))))
 ]
   where
     here : a ≡ x → get_or (set flags x b) a false ≡ cond (eqb x a && ltb a (length flags)) b (get_or flags a false)
-    here e = ap (λ y. get_or (set flags y b) a false) (sym e) ∙ elim (cases_lt a (length flags)) [ inl lt ↦ set_at flags a b lt | inr le ↦ set_none flags a b le ] ∙ ap (λ y. cond (eqb y a && ltb a (length flags)) b (get_or flags a false)) e
+    here e = ap (λ y. get_or (set flags y b) a false) (sym e)
+        ∙ elim (cases_lt a (length flags)) [ inl lt ↦ set_at flags a b lt | inr le ↦ set_none flags a b le ]
+        ∙ ap (λ y. cond (eqb y a && ltb a (length flags)) b (get_or flags a false)) e
 
 -- ---- flags set one after the other
 pub length-flags : (up : Bool) (flags : List Bool) (xs : List ℕ) → length (with_flags up flags xs) ≡ length flags
@@ -126,7 +134,9 @@ table-is n r xs ys within =
     (places-ascend 0 (with_flags false (with_flags true (replicate n false) xs) ys)) (ascends-filter (λ a. nat_lt a r && not (has ys a)) (set_of xs) (IsAscending-set_of xs)) (λ a.
     has-table (with_flags false (with_flags true (replicate n false) xs) ys) a
     ∙ get_or-lowered (with_flags true (replicate n false) xs) ys a
-    ∙ ap (λ b. not (has ys a) && b) (get_or-raised (replicate n false) xs a ∙ ap (λ k. (has xs a && ltb a k) || get_or (replicate n false) a false) (length-replicate n false) ∙ ap (λ b. (has xs a && ltb a n) || b) (none_up n a))
+    ∙ ap (λ b. not (has ys a) && b) (get_or-raised (replicate n false) xs a
+    ∙ ap (λ k. (has xs a && ltb a k) || get_or (replicate n false) a false) (length-replicate n false)
+    ∙ ap (λ b. (has xs a && ltb a n) || b) (none_up n a))
     ∙ joined (has xs a) (nat_lt a n) (nat_lt a r) (has ys a) (within a)
     ∙ sym (has-filter (λ b. nat_lt b r && not (has ys b)) (set_of xs) a ∙ ap (λ b. (nat_lt a r && not (has ys a)) && b) (has-set_of xs a)))
   where

@@ -94,7 +94,8 @@ module _ {S : Type 0} where
       word : get_or (set s.words 0 n) 0 0 ≡ n
       word = get_or-set_same s.words 0 n 0 (omega (arith, r.one_word))
 
-  same_others : (s : State S View) (r : Numbered s) (id : ℕ) (v : View) → get_elem? s.views id ≡ some v → (j : ℕ) (u : View) → j ≢ id → get_elem? s.views j ≡ some u → Apart v.own u.own × Apart u.own v.own
+  same_others : (s : State S View) (r : Numbered s) (id : ℕ) (v : View) → get_elem? s.views id ≡ some v → (j : ℕ) (u : View) → j ≢ id →
+      get_elem? s.views j ≡ some u → Apart v.own u.own × Apart u.own v.own
   same_others s r id v at j u ne e = (r.apart id j v u (λ h. ne (sym h)) at e, r.apart j id u v ne e at)
 
   pub opens : Numbered {S = S} (opening (0 ∷ []) [] opened)
@@ -122,7 +123,8 @@ module _ {S : Type 0} where
     was = r.each id v at
 
     pub sees : Numbered (record { words = set s.words 0 now; homes = s.homes; views = set s.views id (seeing now v) })
-    sees = changed s r id v (seeing now v) now s.homes at (omega arith) r.few (record { seen = omega arith; own = within_more v.seen now v.own was.seen was.own; distinct = was.distinct }) (same_others s r id v at)
+    sees = changed s r id v (seeing now v) now s.homes at (omega arith) r.few
+        (record { seen = omega arith; own = within_more v.seen now v.own was.seen was.own; distinct = was.distinct }) (same_others s r id v at)
 
     pub stands : Numbered (record { words = set s.words 0 now; homes = s.homes; views = set s.views id v })
     stands = changed s r id v v now s.homes at (omega arith) r.few was (same_others s r id v at)
@@ -160,22 +162,31 @@ module _ {S : Type 0} where
     abbrev pub found : ℕ
     found = get_or s.words 0 0
 
-    raise_hit : found ≡ old → (w : View) × Numbered (record { words = set s.words 0 (old + 1); homes = s.homes; views = set s.views id w }) × raises (step slots 0 old (old + 1) maybe.none) me found (w, me.1)
+    raise_hit : found ≡ old → (w : View) × Numbered (record { words = set s.words 0 (old + 1); homes = s.homes; views = set s.views id w }) ×
+        raises (step slots 0 old (old + 1) maybe.none) me found (w, me.1)
     raise_hit is = (
       drawing found me.0,
       subst (λ (k : ℕ). Numbered (record { words = set s.words 0 (k + 1); homes = s.homes; views = set s.views id (drawing found me.0) })) is (draws s r id me.0 at (omega (arith, is, room))),
       (refl, (r.each id me.0 at).seen, r.few, (λ _. (refl, fresh_number s r id me.0 at)), (λ ne. absurd (ne is))),
     )
 
-    raise_miss : found ≢ old → (w : View) × Numbered (record { words = set s.words 0 found; homes = s.homes; views = set s.views id w }) × raises (step slots 0 old (old + 1) maybe.none) me found (w, me.1)
+    raise_miss : found ≢ old → (w : View) × Numbered (record { words = set s.words 0 found; homes = s.homes; views = set s.views id w }) ×
+        raises (step slots 0 old (old + 1) maybe.none) me found (w, me.1)
     raise_miss not = (
       seeing found me.0,
       sees s r id me.0 at,
       (refl, (r.each id me.0 at).seen, r.few, (λ is. absurd (not is)), (λ _. refl)),
     )
 
-    raised : (w : View) × Numbered (record { words = set s.words 0 (either (eqb found old) (old + 1) found); homes = s.homes; views = set s.views id w }) × raises (step slots 0 old (old + 1) maybe.none) me found (w, me.1)
-    raised = exchanged found old (old + 1) (λ n. (w : View) × Numbered (record { words = set s.words 0 n; homes = s.homes; views = set s.views id w }) × raises (step slots 0 old (old + 1) maybe.none) me found (w, me.1)) raise_hit raise_miss
+    raised : (w : View) × Numbered (record {
+      words = set s.words 0 (either (eqb found old) (old + 1) found);
+      homes = s.homes;
+      views =
+          set s.views id w;
+    }) × raises (step slots 0 old (old + 1) maybe.none) me found (w, me.1)
+    raised = exchanged found old (old + 1) (λ n. (w : View) ×
+        Numbered (record { words = set s.words 0 n; homes = s.homes; views = set s.views id w }) ×
+        raises (step slots 0 old (old + 1) maybe.none) me found (w, me.1)) raise_hit raise_miss
 
   pub raise_step : (slots id old : ℕ) (me : Me S View) → old < SLOT_COUNT → Allows Numbered slots id me 0 (λ n. either (eqb n old) (old + 1) n) (raises (step slots 0 old (old + 1) maybe.none) me)
   raise_step slots id old me room s r wide at small = let x = raised slots id old me room s r at in (x.0, keeps, tt, x.1, x.2)
@@ -184,7 +195,8 @@ module _ {S : Type 0} where
   split_step id v s r at = record {
     one_word = r.one_word;
     few = r.few;
-    each = λ j u e. ⊎_elim (each_old j u) (λ (t : fresh v ≡ u). subst (Member (get_or s.words 0 0)) t (record { seen = (r.each id v at).seen; own = tt; distinct = tt })) (at_snoc (set s.views id v) (fresh v) u j e);
+    each = λ j u e. ⊎_elim (each_old j u) (λ (t : fresh v ≡ u). subst (Member (get_or s.words 0 0)) t
+        (record { seen = (r.each id v at).seen; own = tt; distinct = tt })) (at_snoc (set s.views id v) (fresh v) u j e);
     apart = λ i j x y ne ei ej. ⊎_elim
         (λ (p : get_elem? (set s.views id v) i ≡ some x). ⊎_elim
         (λ (q : get_elem? (set s.views id v) j ≡ some y). r.apart i j x y ne (old i x p) (old j y q))
@@ -200,11 +212,14 @@ module _ {S : Type 0} where
       each_old : (j : ℕ) (u : View) → get_elem? (set s.views id v) j ≡ some u → Member (get_or s.words 0 0) u
       each_old j u e = r.each j u (old j u e)
 
-  same_words : (s : State S View) (vs : List View) → Numbered (record { words = set s.words 0 (get_or s.words 0 0); homes = s.homes; views = vs }) → Numbered (record { words = s.words; homes = s.homes; views = vs })
+  same_words : (s : State S View) (vs : List View) → Numbered (record { words = set s.words 0 (get_or s.words 0 0); homes = s.homes; views = vs }) →
+      Numbered (record { words = s.words; homes = s.homes; views = vs })
   same_words s vs r = subst (λ (ws : List ℕ). Numbered (record { words = ws; homes = s.homes; views = vs })) (set-get_or s.words 0 0) r
 
   pub join_step : (id other : ℕ) (v w : View) → Joins (Numbered {S = S}) id v other w (merged v w) opened
-  join_step id other v w s r at ne there' = subst (λ (vs : List View). Numbered (record { words = s.words; homes = s.homes; views = vs })) (sym (set_two s.views id other (merged v w) opened (λ e. ne (sym e)))) both
+  join_step id other v w s r at ne there' =
+      subst (λ (vs : List View). Numbered (record { words = s.words; homes = s.homes; views = vs }))
+      (sym (set_two s.views id other (merged v w) opened (λ e. ne (sym e)))) both
     where
       count : ℕ
       count = get_or s.words 0 0
@@ -216,7 +231,9 @@ module _ {S : Type 0} where
       none = record { words = s.words; homes = s.homes; views = set s.views other opened }
 
       first : Numbered none
-      first = same_words s (set s.views other opened) (changed s r other w opened count s.homes there (omega arith) r.few (record { seen = omega arith; own = tt; distinct = tt }) (λ j u n e. (tt, apart_nil u.own)))
+      first = same_words s (set s.views other opened)
+          (changed s r other w opened count s.homes there (omega arith) r.few (record { seen = omega arith; own = tt; distinct = tt })
+          (λ j u n e. (tt, apart_nil u.own)))
 
       here : get_elem? none.views id ≡ some v
       here = set_else s.views other id opened (λ e. ne (sym e)) ∙ at

@@ -38,25 +38,30 @@ still_negative : (l : ℤ) (ls : List ℤ) (read : Reads (List ℤ)) → both (l
 still_negative l ls (Ok x) = refl
 still_negative l ls (Err f) = refl
 
-negative_first : (l : ℤ) (others : Atoms → List ℕ → Reads (List ℤ)) (known : Atoms) (read : Reads (List ℤ)) → (before l read >>= λ x. both x.0 (others (with_atoms known (map atom_of x.0)) x.1)) ≡ before l (read >>= λ x. both x.0 (others (with_atoms (with_atom (atom_of l) known) (map atom_of x.0)) x.1))
+negative_first : (l : ℤ) (others : Atoms → List ℕ → Reads (List ℤ)) (known : Atoms) (read : Reads (List ℤ)) →
+    (before l read >>= λ x. both x.0 (others (with_atoms known (map atom_of x.0)) x.1)) ≡ before l
+    (read >>= λ x. both x.0 (others (with_atoms (with_atom (atom_of l) known) (map atom_of x.0)) x.1))
 negative_first l others known (Ok x) = still_negative l x.0 (others (with_atoms known (map atom_of (l ∷ x.0))) x.1)
 negative_first l others known (Err f) = refl
 
-first_positive : (n : ℕ) (known : Atoms) (line : List ℕ) (a : ℕ) (after : List ℕ) → atom_at known line ≡ Ok (a, after) → signed_at (suc n) 0 known line ≡ before (literal_of false a) (signed_at n 0 (with_atom a known) after)
+first_positive : (n : ℕ) (known : Atoms) (line : List ℕ) (a : ℕ) (after : List ℕ) → atom_at known line ≡ Ok (a, after) →
+    signed_at (suc n) 0 known line ≡ before (literal_of false a) (signed_at n 0 (with_atom a known) after)
 unfolding signed_at many_at literal_at
 first_positive n known line a after h =
     let all : suc n - 0 ≡ suc n = omega arith in
     let others : n - 0 ≡ n = omega arith in
     rw (all, h, others) (all_positive (many_at atom_of (literal_at false) n (with_atom a known) after) (literal_of false a))
 
-first_negative : (n k : ℕ) (known : Atoms) (line : List ℕ) (a : ℕ) (after : List ℕ) → atom_at known line ≡ Ok (a, after) → signed_at (suc n) (suc k) known line ≡ before (literal_of true a) (signed_at n k (with_atom (atom_of (literal_of true a)) known) after)
+first_negative : (n k : ℕ) (known : Atoms) (line : List ℕ) (a : ℕ) (after : List ℕ) → atom_at known line ≡ Ok (a, after) →
+    signed_at (suc n) (suc k) known line ≡ before (literal_of true a) (signed_at n k (with_atom (atom_of (literal_of true a)) known) after)
 unfolding signed_at many_at literal_at
 first_negative n k known line a after h =
     let fewer : suc n - suc k ≡ n - k = omega arith in
     rw (fewer, h) (negative_first (literal_of true a) (many_at atom_of (literal_at false) (n - k)) known (many_at atom_of (literal_at true) k (with_atom (atom_of (literal_of true a)) known) after))
 
 -- the first of n + 1, of which k are negated
-first_of_more : (n k : ℕ) (known : Atoms) (line : List ℕ) (a : ℕ) (after : List ℕ) → atom_at known line ≡ Ok (a, after) → signed_at (suc n) k known line ≡ before (literal_of (nat_lt 0 k) a) (signed_at n (k - 1) (with_atom a known) after)
+first_of_more : (n k : ℕ) (known : Atoms) (line : List ℕ) (a : ℕ) (after : List ℕ) → atom_at known line ≡ Ok (a, after) →
+    signed_at (suc n) k known line ≡ before (literal_of (nat_lt 0 k) a) (signed_at n (k - 1) (with_atom a known) after)
 first_of_more n zero known line a after h = first_positive n known line a after h
 first_of_more n (suc k) known line a after h =
     let one_less : suc k - 1 ≡ k = omega arith in
@@ -77,7 +82,9 @@ goes_on front n k i known line a after total lt h so_far =
     let more : n - i ≡ suc (n - (i + 1)) = omega arith in
     let fewer : (k - i) - 1 ≡ k - (i + 1) = omega arith in
     let sign : nat_lt 0 (k - i) ≡ nat_lt i k = grind (arith, nat_tests) in
-    let first : signed_at (n - i) (k - i) known line ≡ before (literal_of (nat_lt i k) a) (signed_at (n - (i + 1)) (k - (i + 1)) (with_atom a known) after) = rw (more, ← sign, ← fewer) (first_of_more (n - (i + 1)) (k - i) known line a after h) in
+    let first : signed_at (n - i) (k - i) known line ≡ before (literal_of (nat_lt i k) a)
+    (signed_at (n - (i + 1)) (k - (i + 1)) (with_atom a known) after) =
+    rw (more, ← sign, ← fewer) (first_of_more (n - (i + 1)) (k - i) known line a after h) in
     sym (ap (with_front front) first ∙ regroup front (literal_of (nat_lt i k) a) (signed_at (n - (i + 1)) (k - (i + 1)) (with_atom a known) after)) ∙ so_far
 
 pub ends : (e : LineError) (front : List ℤ) (n k i : ℕ) (known : Atoms) (line : List ℕ) (total : Reads (List ℤ)) → i < n → Fails e (atom_at known line)
@@ -88,7 +95,8 @@ ends (errors.Fault b) front n k i known line total lt h so_far =
     let none : signed_at (n - i) (k - i) known line ≡ Err b = rw more (no_first (n - (i + 1)) (k - i) known line b h) in
     sym so_far ∙ ap (with_front front) none
 
-pub is_done : (front : List ℤ) (n k i : ℕ) (known : Atoms) (line : List ℕ) (total : Reads (List ℤ)) → n ≤ i → k ≤ n → with_front front (signed_at (n - i) (k - i) known line) ≡ total → total ≡ Ok (front, line)
+pub is_done : (front : List ℤ) (n k i : ℕ) (known : Atoms) (line : List ℕ) (total : Reads (List ℤ)) → n ≤ i → k ≤ n →
+    with_front front (signed_at (n - i) (k - i) known line) ≡ total → total ≡ Ok (front, line)
 unfolding signed_at many_at
 is_done front n k i known line total le fits so_far =
     let no_more : n - i ≡ 0 = omega arith in

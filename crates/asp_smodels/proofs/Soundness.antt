@@ -44,10 +44,11 @@ record One_more (used atom : ℕ) : Type 0 where
 
 one_more-sound : (used : ℕ) (known : Atoms) (line : List ℕ) (x : ℕ × List ℕ) → one_more_at used known line ≡ Ok x → One_more used x.0
 unfolding one_more_at
-one_more-sound used known line x e = (elim (nat_lt used most_counted) as (λ v. nat_lt used most_counted ≡ v → (if v then atom_at known line else Err (broken fault.Counts line)) ≡ Ok x → One_more used x.0) [
-  | true ↦ λ t h. record { sound = atom-sound known line x h; fits = omega (arith, ltb-true used most_counted t) }
-  | false ↦ λ f h. absurd cc
-]) refl e
+one_more-sound used known line x e = (elim (nat_lt used most_counted) as
+    (λ v. nat_lt used most_counted ≡ v → (if v then atom_at known line else Err (broken fault.Counts line)) ≡ Ok x → One_more used x.0) [
+      | true ↦ λ t h. record { sound = atom-sound known line x h; fits = omega (arith, ltb-true used most_counted t) }
+      | false ↦ λ f h. absurd cc
+    ]) refl e
 
 heads-fit : (used : ℕ) (line : List ℕ) (x : ℕ × List ℕ) → heads_at used line ≡ Ok x → used + x.0 ≤ most_counted
 unfolding heads_at
@@ -166,8 +167,11 @@ minimize priority items = record { priority = priority; items = items }
 normal_is : (used a : ℕ) (ls : List ℤ) (y : Rule) → rule (One a) (All ls) ≡ y → is_atom a ≡ true → Listed is_literal (used + 1) ls → Part is_sound_rule rule_size used y
 normal_is used a ls y e atom l = part is_sound_rule rule_size used (rule (One a) (All ls)) y e (and_from (is_atom a) (list_all is_literal ls) atom l.sound) (omega (arith, l.fits))
 
-weight_is_sound : (used a : ℕ) (bound : ℤ) (items : List (ℤ × ℤ)) (y : Rule) → rule (One a) (AtLeast bound items) ≡ y → is_atom a ≡ true → list_all is_weighted items ≡ true → used + 1 + length items ≤ most_counted → Part is_sound_rule rule_size used y
-weight_is_sound used a bound items y e atom sound fits = part is_sound_rule rule_size used (rule (One a) (AtLeast bound items)) y e (and_from (is_atom a) (list_all is_weighted items) atom sound) (omega (arith, fits))
+weight_is_sound : (used a : ℕ) (bound : ℤ) (items : List (ℤ × ℤ)) (y : Rule) → rule (One a) (AtLeast bound items) ≡ y → is_atom a ≡ true →
+    list_all is_weighted items ≡ true → used + 1 + length items ≤ most_counted → Part is_sound_rule rule_size used y
+weight_is_sound used a bound items y e atom sound fits =
+    part is_sound_rule rule_size used (rule (One a) (AtLeast bound items)) y e (and_from (is_atom a) (list_all is_weighted items) atom sound)
+    (omega (arith, fits))
 
 basic-sound : (used : ℕ) (known : Atoms) (line : List ℕ) (x : Rule × List ℕ) → basic_at used known line ≡ Ok x → Part is_sound_rule rule_size used x.0
 unfolding basic_at
@@ -180,9 +184,12 @@ basic-sound used known line x e =
 cardinality-sound : (used : ℕ) (known : Atoms) (line : List ℕ) (x : Rule × List ℕ) → cardinality_at used known line ≡ Ok x → Part is_sound_rule rule_size used x.0
 unfolding cardinality_at
 cardinality-sound used known line x e =
-    let s = step (one_more_at used known line) (λ a. count_at (used + 1) a.1 >>= λ n. negated_at n.0 n.1 >>= λ k. weight_at k.1 >>= λ b. signed_at n.0 k.0 (with_atom a.0 known) b.1 >>= λ ls. ok (rule (One a.0) (AtLeast b.0 (with_weight_1 ls.0)), ls.1)) x e in
+    let s = step (one_more_at used known line) (λ a. count_at (used + 1) a.1 >>= λ n. negated_at n.0 n.1 >>= λ k. weight_at k.1 >>= λ b. signed_at n.0
+    k.0 (with_atom a.0 known) b.1 >>= λ ls. ok (rule (One a.0) (AtLeast b.0 (with_weight_1 ls.0)), ls.1)) x e in
     let a = s.value.0 in
-    let t = step (count_at (used + 1) s.value.1) (λ n. negated_at n.0 n.1 >>= λ k. weight_at k.1 >>= λ b. signed_at n.0 k.0 (with_atom a known) b.1 >>= λ ls. ok (rule (One a) (AtLeast b.0 (with_weight_1 ls.0)), ls.1)) x s.goes in
+    let t = step (count_at (used + 1) s.value.1)
+    (λ n. negated_at n.0 n.1 >>= λ k. weight_at k.1 >>= λ b. signed_at n.0 k.0 (with_atom a known) b.1 >>= λ ls. ok
+    (rule (One a) (AtLeast b.0 (with_weight_1 ls.0)), ls.1)) x s.goes in
     let n = t.value.0 in
     let u = step (negated_at n t.value.1) (λ k. weight_at k.1 >>= λ b. signed_at n k.0 (with_atom a known) b.1 >>= λ ls. ok (rule (One a) (AtLeast b.0 (with_weight_1 ls.0)), ls.1)) x t.goes in
     let k = u.value.0 in
@@ -190,13 +197,16 @@ cardinality-sound used known line x e =
     let w = step (signed_at n k (with_atom a known) v.value.1) (λ ls. ok (rule (One a) (AtLeast v.value.0 (with_weight_1 ls.0)), ls.1)) x v.goes in
     let l = signed-sound n k (with_atom a known) v.value.1 w.value (negated-range n t.value.1 u.value u.is) w.is in
     let i = weights_1 w.value.0 l.sound in
-    weight_is_sound used a v.value.0 (with_weight_1 w.value.0) x.0 (first_is (rule (One a) (AtLeast v.value.0 (with_weight_1 w.value.0))) w.value.1 x w.goes) (one_more-sound used known line s.value s.is).sound i.sound
+    weight_is_sound used a v.value.0 (with_weight_1 w.value.0) x.0
+    (first_is (rule (One a) (AtLeast v.value.0 (with_weight_1 w.value.0))) w.value.1 x w.goes) (one_more-sound used known line s.value s.is).sound
+    i.sound
     (omega (arith, i.counted, l.counted, count_is (used + 1) s.value.1 t.value t.is))
 
 choice-sound : (used : ℕ) (known : Atoms) (line : List ℕ) (x : Rule × List ℕ) → choice_at used known line ≡ Ok x → Part is_sound_rule rule_size used x.0
 unfolding choice_at
 choice-sound used known line x e =
-    let s = step (heads_at used line) (λ m. many_at (λ a. a) atom_at m.0 known m.1 >>= λ hs. literals_at (used + m.0) (with_atoms known hs.0) hs.1 >>= λ ls. ok (rule (Choice hs.0) (All ls.0), ls.1)) x e in
+    let s = step (heads_at used line) (λ m. many_at (λ a. a) atom_at m.0 known m.1 >>= λ hs. literals_at (used + m.0) (with_atoms known hs.0) hs.1 >>=
+    λ ls. ok (rule (Choice hs.0) (All ls.0), ls.1)) x e in
     let m = s.value.0 in
     let t = step (many_at (λ a. a) atom_at m known s.value.1) (λ hs. literals_at (used + m) (with_atoms known hs.0) hs.1 >>= λ ls. ok (rule (Choice hs.0) (All ls.0), ls.1)) x s.goes in
     let u = step (literals_at (used + m) (with_atoms known t.value.0) t.value.1) (λ ls. ok (rule (Choice t.value.0) (All ls.0), ls.1)) x t.goes in
@@ -264,7 +274,8 @@ module _ (t number used : ℕ) (known : Atoms) (line rest : List ℕ) where
       (λ e5. choose (IsFit used s) (t == 5) (weight_rule_at used known rest >>= alone >>= λ r. ok (say.Rule r)) from6 s e5
       (stated is_sound_rule rule_size say.Rule used (weight_rule_at used known rest) s (weight_rule-sound used known rest) (λ x. refl) (λ x. refl))
       (λ e6. choose (IsFit used s) (t == 6) (if nat_le 1000 number then Err (broken fault.Priorities line) else minimized) from8 s e6
-      (λ m. stated is_sound_minimize (λ m. length m.items) say.Minimize used (minimize_at number used known rest) s (minimize-sound number used known rest) (λ x. refl) (λ x. refl) (unless (nat_le 1000 number) _ minimized s m).1)
+      (λ m. stated is_sound_minimize (λ m. length m.items) say.Minimize used (minimize_at number used known rest) s
+      (minimize-sound number used known rest) (λ x. refl) (λ x. refl) (unless (nat_le 1000 number) _ minimized s m).1)
       (none_of (t == 8) _ _ s)))
 
   of_type-sound : (s : Statement) → used ≤ most_counted → of_type t number used known line rest ≡ Ok s → IsFit used s
@@ -295,7 +306,8 @@ symbol-sound used known line o e =
     let s = step (one_more_at used known line) (λ a. name_of a.1 >>= λ name. ok (output name (pos a.0 ∷ []))) o e in
     let t = step (name_of s.value.1) (λ name. ok (output name (pos s.value.0 ∷ []))) o s.goes in
     let a = one_more-sound used known line s.value s.is in
-    part is_sound_output (λ o. length o.condition) used (output t.value (pos s.value.0 ∷ [])) o (ok_is (output t.value (pos s.value.0 ∷ [])) o t.goes) (one_literal (pos s.value.0) a.sound) (omega (arith, a.fits))
+    part is_sound_output (λ o. length o.condition) used (output t.value (pos s.value.0 ∷ [])) o (ok_is (output t.value (pos s.value.0 ∷ [])) o t.goes)
+    (one_literal (pos s.value.0) a.sound) (omega (arith, a.fits))
 
 symbol_said : (used : ℕ) (known : Atoms) (line : List ℕ) (s : Statement) → (symbol_at used known line >>= λ o. ok (say.Output o)) ≡ Ok s → IsFit used s
 symbol_said used known line s e =
@@ -306,7 +318,8 @@ symbol_said used known line s e =
 symbol_line-sound : (used : ℕ) (known : Atoms) (line : List ℕ) (s : Statement) → used ≤ most_counted → symbol_line used known line ≡ Ok s → IsFit used s
 unfolding symbol_line
 symbol_line-sound used known line s room e =
-    choose (IsFit used s) (is_end line) (alone (say.End, after_field line)) (symbol_at used known line >>= λ o. ok (say.Output o)) s e (end_is used (after_field line) s room) (symbol_said used known line s)
+    choose (IsFit used s) (is_end line) (alone (say.End, after_field line)) (symbol_at used known line >>= λ o. ok (say.Output o)) s e
+    (end_is used (after_field line) s room) (symbol_said used known line s)
 
 word_line-sound : (word : List ℕ) (used : ℕ) (line : List ℕ) (s : Statement) → used ≤ most_counted → word_line word line ≡ Ok s → IsFit used s
 unfolding word_line
@@ -320,7 +333,8 @@ atom_alone used known line a e =
     let t = step (ended s.value.1) (λ _. ok s.value.0) a s.goes in
     rw (ok_is s.value.0 a t.goes) at (one_more-sound used known line s.value s.is)
 
-assumed_said : (negated : Bool) (used : ℕ) (known : Atoms) (line : List ℕ) (s : Statement) → (one_more_at used known line >>= alone >>= λ a. ok (say.Assume (literal_of negated a ∷ []))) ≡ Ok s → IsFit used s
+assumed_said : (negated : Bool) (used : ℕ) (known : Atoms) (line : List ℕ) (s : Statement) →
+    (one_more_at used known line >>= alone >>= λ a. ok (say.Assume (literal_of negated a ∷ []))) ≡ Ok s → IsFit used s
 assumed_said negated used known line s e =
     let t = step (one_more_at used known line >>= alone) (λ a. ok (say.Assume (literal_of negated a ∷ []))) s e in
     let a = atom_alone used known line t.value t.is in
@@ -356,16 +370,24 @@ abbrev seen_as : Stage → Program → Atoms → Seen
 seen_as stage program known = record { stage = stage; program = program; known = known }
 
 filled-sound : (seen : Seen) (line : List ℕ) (next : Seen) (n : ℕ) → AreSound seen.program n
-    → (line_of seen.stage (length seen.program.minimize) (program_size seen.program) seen.known line >>= λ s. ok (seen_as (stage_after seen.stage s) (adds seen.program s) (with_atoms seen.known (statement_atoms s)))) ≡ Ok next → AreSound next.program (suc n)
+    → (line_of seen.stage (length seen.program.minimize) (program_size seen.program) seen.known line >>= λ s. ok
+    (seen_as (stage_after seen.stage s) (adds seen.program s) (with_atoms seen.known (statement_atoms s)))) ≡ Ok next →
+    AreSound next.program (suc n)
 filled-sound seen line next n h e =
-    let t = step (line_of seen.stage (length seen.program.minimize) (program_size seen.program) seen.known line) (λ s. ok (seen_as (stage_after seen.stage s) (adds seen.program s) (with_atoms seen.known (statement_atoms s)))) next e in
+    let t = step (line_of seen.stage (length seen.program.minimize) (program_size seen.program) seen.known line)
+    (λ s. ok (seen_as (stage_after seen.stage s) (adds seen.program s) (with_atoms seen.known (statement_atoms s)))) next e in
     let k = line-sound seen.stage (length seen.program.minimize) (program_size seen.program) seen.known line t.value h.size t.is in
-    let is : adds seen.program t.value ≡ next.program = ap (λ (s : Seen). s.program) (ok_is (seen_as (stage_after seen.stage t.value) (adds seen.program t.value) (with_atoms seen.known (statement_atoms t.value))) next t.goes) in
+    let is : adds seen.program t.value ≡ next.program =
+    ap (λ (s : Seen). s.program)
+    (ok_is (seen_as (stage_after seen.stage t.value) (adds seen.program t.value) (with_atoms seen.known (statement_atoms t.value))) next t.goes)
+    in
     rw is at (adds-sound seen.program t.value n h k)
 
 judge-sound : (seen : Seen) (line : List ℕ) (next : Seen) (n : ℕ) → AreSound seen.program n → judge_line seen line ≡ Ok next → AreSound next.program (suc n)
 judge-sound seen line next n h e =
-    choose (AreSound next.program (suc n)) (length (unblank line) == 0) (ok seen) (line_of seen.stage (length seen.program.minimize) (program_size seen.program) seen.known line >>= λ s. ok (seen_as (stage_after seen.stage s) (adds seen.program s) (with_atoms seen.known (statement_atoms s)))) next e
+    choose (AreSound next.program (suc n)) (length (unblank line) == 0) (ok seen)
+    (line_of seen.stage (length seen.program.minimize) (program_size seen.program) seen.known line >>= λ s. ok
+    (seen_as (stage_after seen.stage s) (adds seen.program s) (with_atoms seen.known (statement_atoms s)))) next e
     (λ k. more_lines seen.program next.program n (ap (λ (s : Seen). s.program) (ok_is seen next k)) h)
     (filled-sound seen line next n h)
 

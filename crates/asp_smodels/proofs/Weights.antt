@@ -18,7 +18,8 @@ pub goes_on : (front : List (ℤ × ℤ)) (ls : List ℤ) (i : ℕ) (d : ℤ) (l
     → with_front front (weights_at (drop i ls) line) ≡ total → with_front (front ++ (get_or ls i d, w) ∷ []) (weights_at (drop (i + 1) ls) after) ≡ total
 unfolding weights_at
 goes_on front ls i d line w after total lt h so_far =
-    let step : with_front front (weights_at (drop i ls) line) ≡ with_front (front ++ (get_or ls i d, w) ∷ []) (weights_at (drop (i + 1) ls) after) = rw (drop_more ls i d lt, h) (regroup front (get_or ls i d, w) (weights_at (drop (i + 1) ls) after)) in
+    let step : with_front front (weights_at (drop i ls) line) ≡ with_front (front ++ (get_or ls i d, w) ∷ []) (weights_at (drop (i + 1) ls) after) =
+    rw (drop_more ls i d lt, h) (regroup front (get_or ls i d, w) (weights_at (drop (i + 1) ls) after)) in
     sym step ∙ so_far
 
 pub ends : (e : LineError) (front : List (ℤ × ℤ)) (ls : List ℤ) (i : ℕ) (d : ℤ) (line : List ℕ) (total : Reads (List (ℤ × ℤ))) → i < length ls → Fails e (weight_at line)
@@ -29,7 +30,8 @@ ends (errors.Fault b) front ls i d line total lt h so_far =
     let step : with_front front (weights_at (drop i ls) line) ≡ Err b = rw (drop_more ls i d lt, h) refl in
     sym so_far ∙ step
 
-pub is_done : (front : List (ℤ × ℤ)) (ls : List ℤ) (i : ℕ) (line : List ℕ) (total : Reads (List (ℤ × ℤ))) → length ls ≤ i → with_front front (weights_at (drop i ls) line) ≡ total → total ≡ Ok (front, line)
+pub is_done : (front : List (ℤ × ℤ)) (ls : List ℤ) (i : ℕ) (line : List ℕ) (total : Reads (List (ℤ × ℤ))) → length ls ≤ i →
+    with_front front (weights_at (drop i ls) line) ≡ total → total ≡ Ok (front, line)
 unfolding weights_at
 is_done front ls i line total le so_far =
     let step : with_front front (weights_at (drop i ls) line) ≡ Ok (front, line) = rw (drop_all i ls le) (ap (λ (xs : List (ℤ × ℤ)). Ok (xs, line)) (append-nil front)) in
@@ -39,7 +41,8 @@ abbrev pub atoms : List (ℤ × ℤ) → List ℕ
 atoms items = map (λ (item : ℤ × ℤ). atom_of item.0) items
 
 -- the atoms of one more
-pub atoms_more : (items more : List (ℤ × ℤ)) (ls : List ℤ) (i : ℕ) (d w : ℤ) → i < length ls → more ≡ items ++ (get_or ls i d, w) ∷ [] → atoms items ≡ map atom_of (take i ls) → atoms more ≡ map atom_of (take (i + 1) ls)
+pub atoms_more : (items more : List (ℤ × ℤ)) (ls : List ℤ) (i : ℕ) (d w : ℤ) → i < length ls → more ≡ items ++ (get_or ls i d, w) ∷ [] →
+    atoms items ≡ map atom_of (take i ls) → atoms more ≡ map atom_of (take (i + 1) ls)
 atoms_more items more ls i d w lt e so_far =
     ap atoms e ∙ map_push (λ (item : ℤ × ℤ). atom_of item.0) items (get_or ls i d, w) ∙ ap (λ (xs : List ℕ). xs ++ atom_of (get_or ls i d) ∷ []) so_far ∙ sym (map_more atom_of ls i d lt)
 

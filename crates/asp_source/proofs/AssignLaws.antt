@@ -40,7 +40,8 @@ gone_at p t a s d is gone e =
     (let v = is.number in omega (arith, e, v))
 
 -- a literal comes to hold
-pub assigned : (p : Program) (c : Parts) (x : List (Option Bool)) (ranks s : List ℕ) (q : List Bool) (t : List ℕ) (r : List Bool) (l : Literal) → IsSound p → l.var < length x → value_of x l.var ≡ None → Loses s q t r →
+pub assigned : (p : Program) (c : Parts) (x : List (Option Bool)) (ranks s : List ℕ) (q : List Bool) (t : List ℕ) (r : List Bool) (l : Literal) →
+    IsSound p → l.var < length x → value_of x l.var ≡ None → Loses s q t r →
     All (IsGoneAt p t) (bodies_with p (complement l)) →
     (l.var ≤ length (atoms_of p) → All (IsGoneBy p t) (occurrences_of p (complement l))) →
     ArePointers p c x s ranks q [] → ArePointers p c (set x l.var (Some l.truth)) t ranks r []
@@ -54,7 +55,8 @@ assigned p c x ranks s q t r l sound lt none loses false_body lighter_body h = r
       let is = source_is p a (source_of p t a) sup in
       excused_back p x (set x l.var (Some l.truth)) U (form_of p (source_of p t a)) (source_weighted p a (source_of p t a) sound sup)
       (λ f. own a is.0 is.1 f)
-      (subst (λ (d : Body). AllByRecursion (λ (i : ℤ × ℤ). is_false p (set x l.var (Some l.truth)) i.0 ≡ true → is_false p x i.0 ≡ true) (form_items d)) (sym is.1.form) (items a is.0 is.1 is.0 refl)) e)
+      (subst (λ (d : Body). AllByRecursion (λ (i : ℤ × ℤ). is_false p (set x l.var (Some l.truth)) i.0 ≡ true → is_false p x i.0 ≡ true)
+      (form_items d)) (sym is.1.form) (items a is.0 is.1 is.0 refl)) e)
       (ranked_less p c x ranks (is_marked []) s t less h.ranked);
   sought = λ v at z cyclic alive. elim (loses.less v) [
     | inl e ↦ elim (h.sought v at (sym e ∙ z) cyclic (false_from (holds_in (set x l.var (Some l.truth)) (F v)) (holds_in x (F v)) (kept_on x l (F v) none) alive)) [
@@ -71,7 +73,9 @@ assigned p c x ranks s q t r l sound lt none loses false_body lighter_body h = r
     supported : AreSupports p t
     supported = supports_less p s t (less_of s q t r loses) h.supports
 
-    own : (a : ℕ) (d : Body) → IsSource p a (source_of p t a) d → holds_in (set x l.var (Some l.truth)) (complement (literal_of_form p (form_of p (source_of p t a)))) ≡ true → holds_in x (complement (literal_of_form p (form_of p (source_of p t a)))) ≡ true
+    own : (a : ℕ) (d : Body) → IsSource p a (source_of p t a) d →
+        holds_in (set x l.var (Some l.truth)) (complement (literal_of_form p (form_of p (source_of p t a)))) ≡ true →
+        holds_in x (complement (literal_of_form p (form_of p (source_of p t a)))) ≡ true
     own a d is f = elim (newly x l (complement (literal_of_form p (form_of p (source_of p t a)))) lt f) [
       | inl before ↦ before
       | inr same ↦
@@ -82,7 +86,10 @@ assigned p c x ranks s q t r l sound lt none loses false_body lighter_body h = r
           absurd (gone_at p t a (source_of p t a) d is gone refl)
     ]
 
-    each : (a : ℕ) (d : Body) → IsSource p a (source_of p t a) d → (bound : ℤ) (all : List (ℤ × ℤ)) → d ≡ body.AtLeast bound all → (is : List (ℤ × ℤ)) → AllByRecursion (λ (i : ℤ × ℤ). has_literal (map (λ j. literal_of p j.0) all) (literal_of p i.0) ≡ true) is → AllByRecursion (λ (i : ℤ × ℤ). has (atoms_of p) (atom_of i.0) ≡ true) is → AllByRecursion (λ (i : ℤ × ℤ). is_false p (set x l.var (Some l.truth)) i.0 ≡ true → is_false p x i.0 ≡ true) is
+    each : (a : ℕ) (d : Body) → IsSource p a (source_of p t a) d → (bound : ℤ) (all : List (ℤ × ℤ)) → d ≡ body.AtLeast bound all →
+        (is : List (ℤ × ℤ)) → AllByRecursion (λ (i : ℤ × ℤ). has_literal (map (λ j. literal_of p j.0) all) (literal_of p i.0) ≡ true) is →
+        AllByRecursion (λ (i : ℤ × ℤ). has (atoms_of p) (atom_of i.0) ≡ true) is →
+        AllByRecursion (λ (i : ℤ × ℤ). is_false p (set x l.var (Some l.truth)) i.0 ≡ true → is_false p x i.0 ≡ true) is
     each a d source bound all form [] listed atoms = tt
     each a d source bound all form (i ∷ is) listed atoms = (
       λ f. elim (newly x l (complement (literal_of p i.0)) lt f) [
@@ -92,14 +99,16 @@ assigned p c x ranks s q t r l sound lt none loses false_body lighter_body h = r
             let at : l.var ≡ (literal_of p i.0).var = ap (λ (k : Literal). k.var) (sym same) in
             let here : complement l ≡ literal_of p i.0 = ap complement (sym same) ∙ twice (literal_of p i.0) in
             let gone = each_occurrence p (form_literals p) (λ j. is_some (bound_of (nth_body p j)) ≡ true → AreGone p t j) (literal_of p i.0) d (bodies_of p)
-            (subst (λ (k : Literal). AllByRecursion (IsGoneBy p t) (occurrences_of p k)) here (by_recursion (IsGoneBy p t) (occurrences_of p (complement l)) (lighter_body (omega (arith, at, stands)))))
+            (subst (λ (k : Literal). AllByRecursion (IsGoneBy p t) (occurrences_of p k)) here
+            (by_recursion (IsGoneBy p t) (occurrences_of p (complement l)) (lighter_body (omega (arith, at, stands)))))
             source.listed (ap (λ b. has_literal (form_literals p b) (literal_of p i.0)) form ∙ listed.0) in
             absurd (gone_at p t a (source_of p t a) d source (gone (ap (λ b. is_some (bound_of b)) (at_form d (bodies_of p) (body.All []) source.listed ∙ form))) refl)
       ],
       each a d source bound all form is listed.1 atoms.1,
     )
 
-    items : (a : ℕ) (d : Body) → IsSource p a (source_of p t a) d → (e : Body) → d ≡ e → AllByRecursion (λ (i : ℤ × ℤ). is_false p (set x l.var (Some l.truth)) i.0 ≡ true → is_false p x i.0 ≡ true) (form_items e)
+    items : (a : ℕ) (d : Body) → IsSource p a (source_of p t a) d → (e : Body) → d ≡ e →
+        AllByRecursion (λ (i : ℤ × ℤ). is_false p (set x l.var (Some l.truth)) i.0 ≡ true → is_false p x i.0 ≡ true) (form_items e)
     items a d is (body.All ls) form = tt
     items a d is (body.AtLeast bound all) form = each a d is bound all form all (each_listed p all) (subst (BodyStands (atoms_of p)) form is.stands)
 
@@ -121,7 +130,9 @@ regain_keeps p c s q l k e = cases l.truth (leb l.var (length (atoms_of p)))
     cases false false = e
 
 -- an atom without source that was false is queued
-regain_marks : (p : Program) (c : Parts) (x : List (Option Bool)) (s : List ℕ) (q : List Bool) (l : Literal) (v : ℕ) → length q ≡ length (atoms_of p) → holds_in x l ≡ true → IsAtomVar p v → get_or s v 0 ≡ 0 → get_or c.trivial (get_or c.numbers v 0) false ≡ false → holds_in x (F v) ≡ true → holds_in (set x l.var None) (F v) ≡ false → is_marked (regain p c s q l) (v - 1) ≡ true
+regain_marks : (p : Program) (c : Parts) (x : List (Option Bool)) (s : List ℕ) (q : List Bool) (l : Literal) (v : ℕ) →
+    length q ≡ length (atoms_of p) → holds_in x l ≡ true → IsAtomVar p v → get_or s v 0 ≡ 0 → get_or c.trivial (get_or c.numbers v 0) false ≡ false →
+    holds_in x (F v) ≡ true → holds_in (set x l.var None) (F v) ≡ false → is_marked (regain p c s q l) (v - 1) ≡ true
 regain_marks p c x s q l v size holds at none cyclic was now = cases (eqb v l.var) refl
   where
     within : (n k : ℕ) → k ≤ n → leb k n ≡ true
@@ -144,7 +155,8 @@ regain_marks p c x s q l v size holds at none cyclic was now = cases (eqb v l.va
         ∙ ap (λ t. is_marked (cond t q (set q (v - 1) true)) (v - 1)) cyclic
         ∙ get_or-set_same q (v - 1) true false (let a = at.0 in let b = at.1 in omega (arith, a, b, size))
 
-pub undone : (p : Program) (c : Parts) (x : List (Option Bool)) (ranks s : List ℕ) (q r : List Bool) (l : Literal) → IsSound p → holds_in x l ≡ true → r ≡ regain p c s q l → length r ≡ length q → ArePointers p c x s ranks q [] → ArePointers p c (set x l.var None) s ranks r []
+pub undone : (p : Program) (c : Parts) (x : List (Option Bool)) (ranks s : List ℕ) (q r : List Bool) (l : Literal) → IsSound p → holds_in x l ≡ true →
+    r ≡ regain p c s q l → length r ≡ length q → ArePointers p c x s ranks q [] → ArePointers p c (set x l.var None) s ranks r []
 undone p c x ranks s q r l sound holds is room h = record {
   size = h.size;
   rank_room = h.rank_room;
@@ -160,7 +172,8 @@ undone p c x ranks s q r l sound holds is room h = record {
     all_less [] = tt
     all_less (i ∷ is) = (unset_less x l.var (complement (literal_of p i.0)), all_less is)
 
-    cases : (v : ℕ) → IsAtomVar p v → get_or s v 0 ≡ 0 → get_or c.trivial (get_or c.numbers v 0) false ≡ false → holds_in (set x l.var None) (F v) ≡ false → (t : Bool) → t ≡ holds_in x (F v) → (is_marked r (v - 1) ≡ true) ⊎ (is_marked [] v ≡ true)
+    cases : (v : ℕ) → IsAtomVar p v → get_or s v 0 ≡ 0 → get_or c.trivial (get_or c.numbers v 0) false ≡ false →
+        holds_in (set x l.var None) (F v) ≡ false → (t : Bool) → t ≡ holds_in x (F v) → (is_marked r (v - 1) ≡ true) ⊎ (is_marked [] v ≡ true)
     cases v at z cyclic alive true e = inl (ap (λ (m : List Bool). is_marked m (v - 1)) is ∙ regain_marks p c x s q l v h.room holds at z cyclic (sym e) alive)
     cases v at z cyclic alive false e = elim (h.sought v at z cyclic (sym e)) [
       | inl f ↦ inl (ap (λ (m : List Bool). is_marked m (v - 1)) is ∙ regain_keeps p c s q l (v - 1) f)

@@ -67,7 +67,9 @@ needs_normal p x q (body.All ls) e stand = along ls stand
         ap (λ b. b || list_any (lit_inside q) (map (literal_of p) ls)) (inside_link p q l h.0)
         ∙ ap (λ b. is_inside (shown p q) l || b) (along ls h.1)
 
-outside_link : (p : Program) (x : List (Option Bool)) (q : ℕ → Bool) (items : List (ℤ × ℤ)) → AllByRecursion (λ i. has (atoms_of p) (atom_of i.0) ≡ true) items → weigh (lit_outside x q) (map (λ i. literal_of p i.0) items) (map (λ i. i.1) items) ≡ outside_weight p x (shown p q) items
+outside_link : (p : Program) (x : List (Option Bool)) (q : ℕ → Bool) (items : List (ℤ × ℤ)) →
+    AllByRecursion (λ i. has (atoms_of p) (atom_of i.0) ≡ true) items →
+    weigh (lit_outside x q) (map (λ i. literal_of p i.0) items) (map (λ i. i.1) items) ≡ outside_weight p x (shown p q) items
 outside_link p x q [] stand = refl
 outside_link p x q (i ∷ items) stand =
     ap (λ b. cond (not b && not (is_false p x i.0)) i.1 (pos 0) +ℤ weigh (lit_outside x q) (map (λ i. literal_of p i.0) items) (map (λ i. i.1) items)) (inside_link p q i.0 stand.0)
@@ -84,7 +86,8 @@ le_not_lt : (b w : ℤ) → int_le b w ≡ not (int_lt w b)
 le_not_lt b w = grind (arith, ints)
 
 -- a weight body
-pub needs_weighted : (p : Program) (x : List (Option Bool)) (q : ℕ → Bool) (b : Body) (c : ℤ) → bound_of b ≡ Some c → Stands (atoms_of p) b → int_le c (weigh (lit_outside x q) (form_literals p b) (form_weights b)) ≡ not (needs p x (shown p q) b)
+pub needs_weighted : (p : Program) (x : List (Option Bool)) (q : ℕ → Bool) (b : Body) (c : ℤ) → bound_of b ≡ Some c → Stands (atoms_of p) b →
+    int_le c (weigh (lit_outside x q) (form_literals p b) (form_weights b)) ≡ not (needs p x (shown p q) b)
 needs_weighted p x q (body.All ls) c e stand = cc e
 needs_weighted p x q (body.AtLeast bound items) c e stand =
     let same : bound ≡ c = cc e in

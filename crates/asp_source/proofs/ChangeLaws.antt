@@ -49,7 +49,8 @@ head_listed p r a m head =
     ∙ m (λ s. has (f s) a) (ap (λ t. has (cond t (head_atoms r.head) []) a) (body_eq-itself (normal r.body)) ∙ head))
 
 -- ---- where less is false, less is excused
-open_more : (p : Program) (x y : List (Option Bool)) (U : Atoms) (items : List (ℤ × ℤ)) → AreItems items → AllByRecursion (λ (i : ℤ × ℤ). is_false p y i.0 ≡ true → is_false p x i.0 ≡ true) items → outside_weight p x U items ≤ℤ outside_weight p y U items
+open_more : (p : Program) (x y : List (Option Bool)) (U : Atoms) (items : List (ℤ × ℤ)) → AreItems items →
+    AllByRecursion (λ (i : ℤ × ℤ). is_false p y i.0 ≡ true → is_false p x i.0 ≡ true) items → outside_weight p x U items ≤ℤ outside_weight p y U items
 open_more p x y U [] h less = omega (arith, ints)
 open_more p x y U (i ∷ items) h less =
     let a = one (is_false p x i.0) (is_false p y i.0) (is_inside U i.0) less.0 in
@@ -64,7 +65,10 @@ open_more p x y U (i ∷ items) h less =
     one false false true s = omega (arith, ints)
     one false false false s = omega (arith, ints)
 
-pub excused_back : (p : Program) (x y : List (Option Bool)) (U : Atoms) (b : Body) → AreItems (form_items b) → (holds_in y (complement (literal_of_form p b)) ≡ true → holds_in x (complement (literal_of_form p b)) ≡ true) → AllByRecursion (λ (i : ℤ × ℤ). is_false p y i.0 ≡ true → is_false p x i.0 ≡ true) (form_items b) → is_excused p y U b ≡ true → is_excused p x U b ≡ true
+pub excused_back : (p : Program) (x y : List (Option Bool)) (U : Atoms) (b : Body) → AreItems (form_items b) →
+    (holds_in y (complement (literal_of_form p b)) ≡ true → holds_in x (complement (literal_of_form p b)) ≡ true) →
+    AllByRecursion (λ (i : ℤ × ℤ). is_false p y i.0 ≡ true → is_false p x i.0 ≡ true) (form_items b) → is_excused p y U b ≡ true →
+    is_excused p x U b ≡ true
 excused_back p x y U b weighted f g e = elim (either (holds_in y (complement (literal_of_form p b))) (needs p y U b) e) [
   | inl h ↦ or_left (holds_in x (complement (literal_of_form p b))) (needs p x U b) (f h)
   | inr h ↦ or_right (holds_in x (complement (literal_of_form p b))) (needs p x U b) (needs_back b weighted g h)
@@ -124,7 +128,8 @@ unset_less x v m e = along x v m.var e
     along (o ∷ x) (suc v) (suc w) e = along x v w e
 
 -- a component of an unfounded set isn't trivial
-pub cyclic_of : (p : Program) (c : Parts) (x : List (Option Bool)) (U : Atoms) (a : ℕ) → AreComponents p c → IsUnfoundedLoop p x U → has U a ≡ true → get_or c.trivial (component_of p c a) false ≡ false
+pub cyclic_of : (p : Program) (c : Parts) (x : List (Option Bool)) (U : Atoms) (a : ℕ) → AreComponents p c → IsUnfoundedLoop p x U → has U a ≡ true →
+    get_or c.trivial (component_of p c a) false ≡ false
 cyclic_of p c x U a are loop member = cases (get_or c.trivial (component_of p c a) false) refl
   where
     cases : (b : Bool) → b ≡ get_or c.trivial (component_of p c a) false → get_or c.trivial (component_of p c a) false ≡ false
@@ -150,7 +155,8 @@ twice l = same_as (complement (complement l)) l refl (turned l.truth)
     turned false = refl
 
 -- ---- what the calls ask for
-pub var_component : (p : Program) (c : Parts) (v : ℕ) → AreComponents p c → IsAtomVar p v → (v < length c.numbers) × (get_or c.numbers v 0 < length c.trivial) × (get_or c.numbers v 0 < length c.members)
+pub var_component : (p : Program) (c : Parts) (v : ℕ) → AreComponents p c → IsAtomVar p v → (v < length c.numbers) ×
+    (get_or c.numbers v 0 < length c.trivial) × (get_or c.numbers v 0 < length c.members)
 var_component p c v are is =
     let small = is.1 in
     let size = are.numbered in
@@ -158,11 +164,20 @@ var_component p c v are is =
     let within : get_or c.numbers v 0 < length c.members = subst (λ (w : ℕ). get_or c.numbers w 0 < length c.members) (var_at p v is) (are.within (nth_atom p (v - 1)) (atom_stands p v is)) in
     (omega (arith, small, size), omega (arith, within, counted), within)
 
-places_within : (p : Program) (row : Body → List Literal) (m : Literal) (bs : List Body) → AllByRecursion (λ b. list_any (body_eq b) (bodies_of p) ≡ true) bs → AllByRecursion (λ (o : Occurrence). o.body < length (bodies_of p)) (map (λ (d : Body). record { body = place_of (body_eq d) (bodies_of p); place = place_of (λ k. literal_eq k m) (row d) }) (filter (λ d. has_literal (row d) m) bs))
+places_within : (p : Program) (row : Body → List Literal) (m : Literal) (bs : List Body) →
+    AllByRecursion (λ b. list_any (body_eq b) (bodies_of p) ≡ true) bs →
+    AllByRecursion (λ (o : Occurrence). o.body < length (bodies_of p))
+    (map (λ (d : Body). record { body = place_of (body_eq d) (bodies_of p); place = place_of (λ k. literal_eq k m) (row d) })
+    (filter (λ d. has_literal (row d) m) bs))
 places_within p row m [] h = tt
 places_within p row m (d ∷ bs) h = cases (has_literal (row d) m) (places_within p row m bs h.1)
   where
-    cases : (t : Bool) → AllByRecursion (λ (o : Occurrence). o.body < length (bodies_of p)) (map (λ (d : Body). record { body = place_of (body_eq d) (bodies_of p); place = place_of (λ k. literal_eq k m) (row d) }) (filter (λ d. has_literal (row d) m) bs)) → AllByRecursion (λ (o : Occurrence). o.body < length (bodies_of p)) (map (λ (d : Body). record { body = place_of (body_eq d) (bodies_of p); place = place_of (λ k. literal_eq k m) (row d) }) (cond t (d ∷ filter (λ d. has_literal (row d) m) bs) (filter (λ d. has_literal (row d) m) bs)))
+    cases : (t : Bool) → AllByRecursion (λ (o : Occurrence). o.body < length (bodies_of p))
+        (map (λ (d : Body). record { body = place_of (body_eq d) (bodies_of p); place = place_of (λ k. literal_eq k m) (row d) })
+        (filter (λ d. has_literal (row d) m) bs)) →
+        AllByRecursion (λ (o : Occurrence). o.body < length (bodies_of p))
+        (map (λ (d : Body). record { body = place_of (body_eq d) (bodies_of p); place = place_of (λ k. literal_eq k m) (row d) })
+        (cond t (d ∷ filter (λ d. has_literal (row d) m) bs) (filter (λ d. has_literal (row d) m) bs)))
     cases true rest = (place_of-within (body_eq d) (bodies_of p) h.0, rest)
     cases false rest = rest
 

@@ -33,7 +33,8 @@ use Rattle.asp_source.proofs.ChangeLaws.{set_marked}
 use Rattle.asp_source.proofs.WithinLaws.{excused_within}
 use Rattle.asp_source.proofs.PointerLaws.{IsLess, false_from, source_weighted, support_at, source_is, support_positive, supports_less, supports_set, firm_fewer, shown_parts, shown_from, shown_more, above_parts, above_from, above_more, ranked_less, ranked_fewer, ranked_set}
 
-pub gathers_then : (x : List (Option Bool)) (s : List ℕ) (l w : List Bool) (t : List ℕ) (m y : List Bool) (u : List ℕ) (n z : List Bool) → Gathers x s l w t m y → Gathers x t m y u n z → Gathers x s l w u n z
+pub gathers_then : (x : List (Option Bool)) (s : List ℕ) (l w : List Bool) (t : List ℕ) (m y : List Bool) (u : List ℕ) (n z : List Bool) →
+    Gathers x s l w t m y → Gathers x t m y u n z → Gathers x s l w u n z
 gathers_then x s l w t m y u n z h k = record {
   size = k.size ∙ h.size;
   marks = k.marks ∙ h.marks;
@@ -123,7 +124,8 @@ done_joined : (x : List (Option Bool)) (l w : List Bool) (busy v u : ℕ) → v 
 done_joined x l w busy v u lt = cases (stays x l v)
   where
     by_var : (t : Bool) → t ≡ eqb u v → is_done (set l v true) (set w (v - 1) true) busy u ≡ true → is_done l w busy u ≡ true
-    by_var true q e = absurd (false≢true (sym (done_parts (set l v true) (set w (v - 1) true) busy u e).1 ∙ (ap (λ i. is_marked (set w (v - 1) true) (i - 1)) (eqb-true u v (sym q)) ∙ get_or-set_same w (v - 1) true false lt)))
+    by_var true q e = absurd (false≢true (sym (done_parts (set l v true) (set w (v - 1) true) busy u e).1
+        ∙ (ap (λ i. is_marked (set w (v - 1) true) (i - 1)) (eqb-true u v (sym q)) ∙ get_or-set_same w (v - 1) true false lt)))
     by_var false q e =
         let parts = done_parts (set l v true) (set w (v - 1) true) busy u e in
         done_from l w busy u (sym (get_or-set_other l v u true false (λ i. false≢true (q ∙ eq-eqb u v i))) ∙ parts.0) (unmarked w (v - 1) (u - 1) parts.1) parts.2
@@ -132,7 +134,9 @@ done_joined x l w busy v u lt = cases (stays x l v)
     cases true e = e
     cases false e = by_var (eqb u v) refl e
 
-pub gather_one : (p : Program) (c : Parts) (x : List (Option Bool)) (k : ℕ) (ranks : List ℕ) (busy : ℕ) (s : List ℕ) (l w j : List Bool) (t : List ℕ) (v : ℕ) → IsSound p → IsAtomVar p v → get_or c.numbers v 0 ≡ k → Drops s t v → IsGathering p c x k ranks busy s l w j → IsGathering p c x k ranks busy t (join_loose x l v) (join_places x l w v) (join_places x l j v)
+pub gather_one : (p : Program) (c : Parts) (x : List (Option Bool)) (k : ℕ) (ranks : List ℕ) (busy : ℕ) (s : List ℕ) (l w j : List Bool) (t : List ℕ)
+    (v : ℕ) → IsSound p → IsAtomVar p v → get_or c.numbers v 0 ≡ k → Drops s t v → IsGathering p c x k ranks busy s l w j →
+    IsGathering p c x k ranks busy t (join_loose x l v) (join_places x l w v) (join_places x l j v)
 gather_one p c x k ranks busy s l w j t v sound is at drops h = cases (stays x l v) refl
   where
     kept : AreRanked p c x ranks (is_done l w busy) t
@@ -187,10 +191,12 @@ gather_one p c x k ranks busy s l w j t v sound is at drops h = cases (stays x l
 abbrev one_if : Bool → ℕ
 one_if b = cond b 1 0
 
-pub gathers_one : (x : List (Option Bool)) (s : List ℕ) (l w : List Bool) (t : List ℕ) (v : ℕ) → v < length l → v - 1 < length w → Drops s t v → Gathers x s l w t (join_loose x l v) (join_places x l w v)
+pub gathers_one : (x : List (Option Bool)) (s : List ℕ) (l w : List Bool) (t : List ℕ) (v : ℕ) → v < length l → v - 1 < length w → Drops s t v →
+    Gathers x s l w t (join_loose x l v) (join_places x l w v)
 gathers_one x s l w t v lt within drops = cases (stays x l v) refl
   where
-    left : (n : List Bool) → (holds_in x (F v) ≡ false → is_marked n v ≡ true) → (u : ℕ) → get_or t u 0 ≡ 0 → holds_in x (F u) ≡ false → (b : Bool) → b ≡ eqb u v → (get_or s u 0 ≡ 0) ⊎ (is_marked n u ≡ true)
+    left : (n : List Bool) → (holds_in x (F v) ≡ false → is_marked n v ≡ true) → (u : ℕ) → get_or t u 0 ≡ 0 → holds_in x (F u) ≡ false → (b : Bool) →
+        b ≡ eqb u v → (get_or s u 0 ≡ 0) ⊎ (is_marked n u ≡ true)
     left n here u z o true q =
         let e : u ≡ v = eqb-true u v (sym q) in
         inr (ap (is_marked n) e ∙ here (ap (λ w. holds_in x (F w)) (sym e) ∙ o))
@@ -220,32 +226,50 @@ gathers_one x s l w t v lt within drops = cases (stays x l v) refl
         }
 
 -- ---- nothing rests on the atom any more
-pub each_occurrence : (p : Program) (row : Body → List Literal) (P : ℕ → Type 0) (m : Literal) (d : Body) (bs : List Body) → AllByRecursion (λ (o : Occurrence). P o.body) (map (λ (e : Body). record { body = place_of (body_eq e) (bodies_of p); place = place_of (λ k. literal_eq k m) (row e) }) (filter (λ e. has_literal (row e) m) bs)) → list_any (body_eq d) bs ≡ true → has_literal (row d) m ≡ true → P (place_of (body_eq d) (bodies_of p))
+pub each_occurrence : (p : Program) (row : Body → List Literal) (P : ℕ → Type 0) (m : Literal) (d : Body) (bs : List Body) →
+    AllByRecursion (λ (o : Occurrence). P o.body) (map
+    (λ (e : Body). record { body = place_of (body_eq e) (bodies_of p); place = place_of (λ k. literal_eq k m) (row e) })
+    (filter (λ e. has_literal (row e) m) bs)) → list_any (body_eq d) bs ≡ true → has_literal (row d) m ≡ true →
+    P (place_of (body_eq d) (bodies_of p))
 each_occurrence p row P m d [] h listed inside = absurd (false≢true listed)
 each_occurrence p row P m d (e ∷ bs) h listed inside = cases (has_literal (row e) m) refl h (either (body_eq d e) (list_any (body_eq d) bs) listed) (λ g i. each_occurrence p row P m d bs g i inside)
   where
-    cases : (t : Bool) → t ≡ has_literal (row e) m → AllByRecursion (λ (o : Occurrence). P o.body) (map (λ (e : Body). record { body = place_of (body_eq e) (bodies_of p); place = place_of (λ k. literal_eq k m) (row e) }) (cond t (e ∷ filter (λ e. has_literal (row e) m) bs) (filter (λ e. has_literal (row e) m) bs))) → (body_eq d e ≡ true) ⊎ (list_any (body_eq d) bs ≡ true) → (AllByRecursion (λ (o : Occurrence). P o.body) (map (λ (e : Body). record { body = place_of (body_eq e) (bodies_of p); place = place_of (λ k. literal_eq k m) (row e) }) (filter (λ e. has_literal (row e) m) bs)) → list_any (body_eq d) bs ≡ true → P (place_of (body_eq d) (bodies_of p))) → P (place_of (body_eq d) (bodies_of p))
+    cases : (t : Bool) → t ≡ has_literal (row e) m →
+        AllByRecursion (λ (o : Occurrence). P o.body) (map
+        (λ (e : Body). record { body = place_of (body_eq e) (bodies_of p); place = place_of (λ k. literal_eq k m) (row e) })
+        (cond t (e ∷ filter (λ e. has_literal (row e) m) bs) (filter (λ e. has_literal (row e) m) bs))) → (body_eq d e ≡ true) ⊎
+        (list_any (body_eq d) bs ≡ true) → (AllByRecursion (λ (o : Occurrence). P o.body)
+        (map (λ (e : Body). record { body = place_of (body_eq e) (bodies_of p); place = place_of (λ k. literal_eq k m) (row e) })
+        (filter (λ e. has_literal (row e) m) bs)) → list_any (body_eq d) bs ≡ true → P (place_of (body_eq d) (bodies_of p))) →
+        P (place_of (body_eq d) (bodies_of p))
     cases true q h (inl i) later = subst (λ (b : Body). P (place_of (body_eq b) (bodies_of p))) (sym (same_body d e i)) h.0
     cases true q h (inr i) later = later h.1 i
     cases false q h (inl i) later = absurd (false≢true (q ∙ (ap (λ b. has_literal (row b) m) (sym (same_body d e i)) ∙ inside)))
     cases false q h (inr i) later = later h i
 
 -- the body that is a source stands where its head is listed
-source_released : (p : Program) (c : Parts) (x : List (Option Bool)) (k : ℕ) (ranks s : List ℕ) (l w : List Bool) (v a : ℕ) → AreSupports p s → Stands p a → source_of p s a ≢ 0 → has_literal (form_literals p (form_of p (source_of p s a))) (T v) ≡ true → All (λ (o : Occurrence). AreReleased p c x k ranks s l w o.body) (occurrences_of p (T v)) → IsReleased p c x k ranks s l w (source_of p s a) (var_of_atom p a)
+source_released : (p : Program) (c : Parts) (x : List (Option Bool)) (k : ℕ) (ranks s : List ℕ) (l w : List Bool) (v a : ℕ) → AreSupports p s →
+    Stands p a → source_of p s a ≢ 0 → has_literal (form_literals p (form_of p (source_of p s a))) (T v) ≡ true →
+    All (λ (o : Occurrence). AreReleased p c x k ranks s l w o.body) (occurrences_of p (T v)) →
+    IsReleased p c x k ranks s l w (source_of p s a) (var_of_atom p a)
 source_released p c x k ranks s l w v a supported stands nz inside all =
     let b : ℕ = source_of p s a in
     let source = source_is p a b (support_at p s a supported stands nz) in
     let d : Body = source.0 in
     let there : has_literal (form_literals p d) (T v) ≡ true = ap (λ e. has_literal (form_literals p e) (T v)) (sym source.1.form) ∙ inside in
-    let released = each_occurrence p (form_literals p) (λ j. AreReleased p c x k ranks s l w j) (T v) d (bodies_of p) (by_recursion (λ (o : Occurrence). AreReleased p c x k ranks s l w o.body) (occurrences_of p (T v)) all) source.1.listed there in
+    let released = each_occurrence p (form_literals p) (λ j. AreReleased p c x k ranks s l w j) (T v) d (bodies_of p)
+    (by_recursion (λ (o : Occurrence). AreReleased p c x k ranks s l w o.body) (occurrences_of p (T v)) all) source.1.listed there in
     let head : has (heads_of p (nth_body p (place_of (body_eq d) (bodies_of p)))) (var_of_atom p a) ≡ true =
     ap (λ e. has (heads_of p e) (var_of_atom p a)) (at_form d (bodies_of p) (body.All []) source.1.listed) ∙ source.1.head in
     let at : length (atoms_of p) + 1 + place_of (body_eq d) (bodies_of p) ≡ b = let e = source.1.number in omega (arith, e) in
     subst (λ (n : ℕ). IsReleased p c x k ranks s l w n (var_of_atom p a)) at
-    (at_member (IsReleased p c x k ranks s l w (length (atoms_of p) + 1 + place_of (body_eq d) (bodies_of p))) (heads_of p (nth_body p (place_of (body_eq d) (bodies_of p)))) (var_of_atom p a) released head)
+    (at_member (IsReleased p c x k ranks s l w (length (atoms_of p) + 1 + place_of (body_eq d) (bodies_of p)))
+    (heads_of p (nth_body p (place_of (body_eq d) (bodies_of p)))) (var_of_atom p a) released head)
 
 -- where what rests on an atom was released the atom is done
-pub ranked_released : (p : Program) (c : Parts) (x : List (Option Bool)) (k : ℕ) (ranks s : List ℕ) (l w : List Bool) (v : ℕ) → IsSound p → AreSupports p s → AreCandidates p c x k s l → AreRanked p c x ranks (is_done l w v) s → All (λ (o : Occurrence). AreReleased p c x k ranks s l w o.body) (occurrences_of p (T v)) → AreRanked p c x ranks (is_done l w 0) s
+pub ranked_released : (p : Program) (c : Parts) (x : List (Option Bool)) (k : ℕ) (ranks s : List ℕ) (l w : List Bool) (v : ℕ) → IsSound p →
+    AreSupports p s → AreCandidates p c x k s l → AreRanked p c x ranks (is_done l w v) s →
+    All (λ (o : Occurrence). AreReleased p c x k ranks s l w o.body) (occurrences_of p (T v)) → AreRanked p c x ranks (is_done l w 0) s
 ranked_released p c x k ranks s l w v sound supported candidates g all a stands nz = at_component (eqb (get_or c.numbers (var_of_atom p a) 0) k) refl
   where
     b : ℕ
@@ -283,7 +307,9 @@ ranked_released p c x k ranks s l w v sound supported candidates g all a stands 
         (excused_within p x (above p c ranks (is_done l w 0) a) (above p c ranks (is_done l w v) a) (form_of p b)
         (λ u there e.
         let parts = shown_parts p (is_above c ranks (is_done l w 0) K R) u e in
-        shown_from p (is_above c ranks (is_done l w v) K R) u (other (var_of_atom p u) (λ i. false≢true (q ∙ (ap (λ n. has_literal (form_literals p (form_of p b)) (T n)) (sym i) ∙ there))) parts.0) parts.1)
+        shown_from p (is_above c ranks (is_done l w v) K R) u
+        (other (var_of_atom p u) (λ i. false≢true (q ∙ (ap (λ n. has_literal (form_literals p (form_of p b)) (T n)) (sym i) ∙ there))) parts.0)
+        parts.1)
         (source_weighted p a b sound support)) (g a stands nz)
 
     at_component : (t : Bool) → t ≡ eqb K k → is_excused p x (above p c ranks (is_done l w 0) a) (form_of p b) ≡ false
@@ -294,7 +320,8 @@ ranked_released p c x k ranks s l w v sound supported candidates g all a stands 
         (above_more c ranks (is_done l w 0) (is_done l w v) K R (outside (λ e. false≢true (q ∙ eq-eqb K k e))))) (g a stands nz)
 
 -- ---- which candidate is looked at
-pub looked_at : (p : Program) (c : Parts) (x : List (Option Bool)) (k : ℕ) (ranks s : List ℕ) (l w j less : List Bool) (n : ℕ) → IsSound p → less ≡ set w n false → IsGathering p c x k ranks 0 s l w j → IsGathering p c x k ranks (n + 1) s l less j
+pub looked_at : (p : Program) (c : Parts) (x : List (Option Bool)) (k : ℕ) (ranks s : List ℕ) (l w j less : List Bool) (n : ℕ) → IsSound p →
+    less ≡ set w n false → IsGathering p c x k ranks 0 s l w j → IsGathering p c x k ranks (n + 1) s l less j
 looked_at p c x k ranks s l w j less n sound is h = record {
   setting = h.setting;
   size = h.size;
@@ -305,12 +332,16 @@ looked_at p c x k ranks s l w j less n sound is h = record {
   ranked = ranked_fewer p c x ranks (is_done l w 0) (is_done l less (n + 1)) s sound h.supports (λ u e.
       let parts = done_parts l less (n + 1) u e in
       let at = h.candidates.atoms u parts.0 in
-      done_from l w 0 u parts.0 (sym (get_or-set_other w n (u - 1) false false (λ i. parts.2 (let some_ = at.0 in omega (arith, i, some_)))) ∙ (ap (λ (y : List Bool). is_marked y (u - 1)) (sym is) ∙ parts.1)) (λ z. let some_ = at.0 in absurd (omega (arith, z, some_)))) h.ranked;
+      done_from l w 0 u parts.0 (sym (get_or-set_other w n (u - 1) false false (λ i. parts.2 (let some_ = at.0 in omega (arith, i, some_))))
+      ∙ (ap (λ (y : List Bool). is_marked y (u - 1)) (sym is) ∙ parts.1)) (λ z. let some_ = at.0 in absurd (omega (arith, z, some_))))
+      h.ranked;
   candidates = h.candidates;
   listed = h.listed;
 }
 
-pub looked_through : (p : Program) (c : Parts) (x : List (Option Bool)) (k : ℕ) (ranks : List ℕ) (v : ℕ) (s : List ℕ) (l w j : List Bool) → IsSound p → All (λ (o : Occurrence). AreReleased p c x k ranks s l w o.body) (occurrences_of p (T v)) → IsGathering p c x k ranks v s l w j → IsGathering p c x k ranks 0 s l w j
+pub looked_through : (p : Program) (c : Parts) (x : List (Option Bool)) (k : ℕ) (ranks : List ℕ) (v : ℕ) (s : List ℕ) (l w j : List Bool) →
+    IsSound p → All (λ (o : Occurrence). AreReleased p c x k ranks s l w o.body) (occurrences_of p (T v)) → IsGathering p c x k ranks v s l w j →
+    IsGathering p c x k ranks 0 s l w j
 looked_through p c x k ranks v s l w j sound all h = record {
   setting = h.setting;
   size = h.size;
@@ -324,7 +355,9 @@ looked_through p c x k ranks v s l w j sound all h = record {
 }
 
 -- ---- an atom gets a source again
-pub gather_seated : (p : Program) (c : Parts) (x : List (Option Bool)) (k : ℕ) (ranks : List ℕ) (busy : ℕ) (s : List ℕ) (l w j : List Bool) (t : List ℕ) (v : ℕ) → IsSound p → IsAtomVar p v → get_or c.numbers v 0 ≡ k → is_marked l v ≡ false → IsReseated p c x k ranks l v s t → IsGathering p c x k ranks busy s l w j → IsGathering p c x k ranks busy t l w j
+pub gather_seated : (p : Program) (c : Parts) (x : List (Option Bool)) (k : ℕ) (ranks : List ℕ) (busy : ℕ) (s : List ℕ) (l w j : List Bool)
+    (t : List ℕ) (v : ℕ) → IsSound p → IsAtomVar p v → get_or c.numbers v 0 ≡ k → is_marked l v ≡ false → IsReseated p c x k ranks l v s t →
+    IsGathering p c x k ranks busy s l w j → IsGathering p c x k ranks busy t l w j
 gather_seated p c x k ranks busy s l w j t v sound is at bare seat h =
     subst (λ (u : List ℕ). IsGathering p c x k ranks busy u l w j) (sym seat.is) (record {
       setting = h.setting;
@@ -334,7 +367,8 @@ gather_seated p c x k ranks busy s l w j t v sound is at bare seat h =
       joins = h.joins;
       supports = supports_set p s v seat.body lt seat.by.support h.supports;
       ranked = ranked_set p c x ranks (is_done l w busy) s v seat.body lt
-          (firm_fewer p x (shown p (is_above c ranks (is_done l w busy) (get_or c.numbers v 0) (get_or ranks v 0))) (shown p (is_above c ranks (is_marked l) k (get_or ranks v 0))) (nth_atom p (v - 1)) seat.body sound seat.by.support
+          (firm_fewer p x (shown p (is_above c ranks (is_done l w busy) (get_or c.numbers v 0) (get_or ranks v 0)))
+          (shown p (is_above c ranks (is_marked l) k (get_or ranks v 0))) (nth_atom p (v - 1)) seat.body sound seat.by.support
           (shown_more p (is_above c ranks (is_done l w busy) (get_or c.numbers v 0) (get_or ranks v 0)) (is_above c ranks (is_marked l) k (get_or ranks v 0)) (λ u e.
           let parts = above_parts c ranks (is_done l w busy) (get_or c.numbers v 0) (get_or ranks v 0) u e in
           above_from c ranks (is_marked l) k (get_or ranks v 0) u (parts.0 ∙ at) (elim parts.1 [
@@ -354,7 +388,8 @@ gather_seated p c x k ranks busy s l w j t v sound is at bare seat h =
     lt : v < length s
     lt = let small = is.1 in let size = h.size in omega (arith, small, size)
 
-pub gathers_seated : (p : Program) (c : Parts) (x : List (Option Bool)) (k : ℕ) (ranks s : List ℕ) (l w : List Bool) (t : List ℕ) (v : ℕ) → v < length s → IsReseated p c x k ranks l v s t → Gathers x s l w t l w
+pub gathers_seated : (p : Program) (c : Parts) (x : List (Option Bool)) (k : ℕ) (ranks s : List ℕ) (l w : List Bool) (t : List ℕ) (v : ℕ) →
+    v < length s → IsReseated p c x k ranks l v s t → Gathers x s l w t l w
 gathers_seated p c x k ranks s l w t v lt seat = record {
   size = ap length seat.is ∙ length-set s v seat.body;
   marks = refl;
@@ -371,14 +406,18 @@ gathers_seated p c x k ranks s l w t v lt seat = record {
     by_var u z false q = sym (get_or-set_other s v u seat.body 0 (λ i. false≢true (q ∙ eq-eqb u v i))) ∙ (ap (λ (n : List ℕ). get_or n u 0) (sym seat.is) ∙ z)
 
 -- it is founded by it from outside of all that is done
-pub seated_clear : (p : Program) (c : Parts) (x : List (Option Bool)) (k : ℕ) (ranks s : List ℕ) (l w : List Bool) (t : List ℕ) (v : ℕ) → IsSound p → v < length s → IsReseated p c x k ranks l v s t → (b : ℕ) → IsReleased p c x k ranks t l w b v
+pub seated_clear : (p : Program) (c : Parts) (x : List (Option Bool)) (k : ℕ) (ranks s : List ℕ) (l w : List Bool) (t : List ℕ) (v : ℕ) → IsSound p →
+    v < length s → IsReseated p c x k ranks l v s t → (b : ℕ) → IsReleased p c x k ranks t l w b v
 seated_clear p c x k ranks s l w t v sound lt seat b at e =
     let same : seat.body ≡ b = sym (get_or-set_same s v seat.body 0 lt) ∙ (ap (λ (n : List ℕ). get_or n v 0) (sym seat.is) ∙ e) in
     subst (λ (n : ℕ). IsClear p c x k ranks l w n v) same
-    (firm_fewer p x (shown p (is_above c ranks (is_done l w 0) k (get_or ranks v 0))) (shown p (is_above c ranks (is_marked l) k (get_or ranks v 0))) (nth_atom p (v - 1)) seat.body sound seat.by.support
-    (shown_more p (is_above c ranks (is_done l w 0) k (get_or ranks v 0)) (is_above c ranks (is_marked l) k (get_or ranks v 0)) (above_more c ranks (is_done l w 0) (is_marked l) k (get_or ranks v 0) (λ u there m. (done_parts l w 0 u m).0))) seat.by.firm)
+    (firm_fewer p x (shown p (is_above c ranks (is_done l w 0) k (get_or ranks v 0))) (shown p (is_above c ranks (is_marked l) k (get_or ranks v 0)))
+    (nth_atom p (v - 1)) seat.body sound seat.by.support
+    (shown_more p (is_above c ranks (is_done l w 0) k (get_or ranks v 0)) (is_above c ranks (is_marked l) k (get_or ranks v 0))
+    (above_more c ranks (is_done l w 0) (is_marked l) k (get_or ranks v 0) (λ u there m. (done_parts l w 0 u m).0))) seat.by.firm)
 
-pub keeps_seated : (p : Program) (c : Parts) (x : List (Option Bool)) (k : ℕ) (ranks s : List ℕ) (l w : List Bool) (t : List ℕ) (v : ℕ) → IsSound p → v < length s → IsReseated p c x k ranks l v s t → Keeps p c x k ranks s l w t l w
+pub keeps_seated : (p : Program) (c : Parts) (x : List (Option Bool)) (k : ℕ) (ranks s : List ℕ) (l w : List Bool) (t : List ℕ) (v : ℕ) → IsSound p →
+    v < length s → IsReseated p c x k ranks l v s t → Keeps p c x k ranks s l w t l w
 keeps_seated p c x k ranks s l w t v sound lt seat b u positive is h = by_var (eqb u v) refl
   where
     by_var : (i : Bool) → i ≡ eqb u v → IsReleased p c x k ranks t l w b u
@@ -389,19 +428,24 @@ keeps_seated p c x k ranks s l w t v sound lt seat b u positive is h = by_var (e
 pub keeps_same : (p : Program) (c : Parts) (x : List (Option Bool)) (k : ℕ) (ranks s : List ℕ) (l w : List Bool) → Keeps p c x k ranks s l w s l w
 keeps_same p c x k ranks s l w b u positive is h = h
 
-pub keeps_then : (p : Program) (c : Parts) (x : List (Option Bool)) (k : ℕ) (ranks s : List ℕ) (l w : List Bool) (t : List ℕ) (m y : List Bool) (u : List ℕ) (n z : List Bool) → Keeps p c x k ranks s l w t m y → Keeps p c x k ranks t m y u n z → Keeps p c x k ranks s l w u n z
+pub keeps_then : (p : Program) (c : Parts) (x : List (Option Bool)) (k : ℕ) (ranks s : List ℕ) (l w : List Bool) (t : List ℕ) (m y : List Bool)
+    (u : List ℕ) (n z : List Bool) → Keeps p c x k ranks s l w t m y → Keeps p c x k ranks t m y u n z → Keeps p c x k ranks s l w u n z
 keeps_then p c x k ranks s l w t m y u n z g h b v positive is e = h b v positive is (g b v positive is e)
 
 -- an atom loses its source, and joins
-pub keeps_joined : (p : Program) (c : Parts) (x : List (Option Bool)) (k : ℕ) (ranks s : List ℕ) (l w : List Bool) (t : List ℕ) (v : ℕ) → IsSound p → AreSupports p s → v - 1 < length w → Drops s t v → Keeps p c x k ranks s l w t (join_loose x l v) (join_places x l w v)
+pub keeps_joined : (p : Program) (c : Parts) (x : List (Option Bool)) (k : ℕ) (ranks s : List ℕ) (l w : List Bool) (t : List ℕ) (v : ℕ) → IsSound p →
+    AreSupports p s → v - 1 < length w → Drops s t v → Keeps p c x k ranks s l w t (join_loose x l v) (join_places x l w v)
 keeps_joined p c x k ranks s l w t v sound supported lt drops b u positive is h at e = by_var (eqb u v) refl
   where
     by_var : (i : Bool) → i ≡ eqb u v → IsClear p c x k ranks (join_loose x l v) (join_places x l w v) b u
     by_var true q = absurd (let none = sym (ap (λ n. get_or t n 0) (eqb-true u v (sym q)) ∙ drops.none) ∙ e in omega (arith, none, positive))
     by_var false q =
         let was : get_or s u 0 ≡ b = sym (drops.others u (λ i. false≢true (q ∙ eq-eqb u v i))) ∙ e in
-        let support : has (supports p (nth_atom p (u - 1))) b ≡ true = ap (has (supports p (nth_atom p (u - 1)))) (sym was) ∙ supported u is (λ z. let zero_ = sym was ∙ z in absurd (omega (arith, zero_, positive))) in
-        firm_fewer p x (shown p (is_above c ranks (is_done (join_loose x l v) (join_places x l w v) 0) k (get_or ranks u 0))) (shown p (is_above c ranks (is_done l w 0) k (get_or ranks u 0))) (nth_atom p (u - 1)) b sound support
+        let support : has (supports p (nth_atom p (u - 1))) b ≡ true =
+        ap (has (supports p (nth_atom p (u - 1)))) (sym was)
+        ∙ supported u is (λ z. let zero_ = sym was ∙ z in absurd (omega (arith, zero_, positive))) in
+        firm_fewer p x (shown p (is_above c ranks (is_done (join_loose x l v) (join_places x l w v) 0) k (get_or ranks u 0)))
+        (shown p (is_above c ranks (is_done l w 0) k (get_or ranks u 0))) (nth_atom p (u - 1)) b sound support
         (shown_more p (is_above c ranks (is_done (join_loose x l v) (join_places x l w v) 0) k (get_or ranks u 0)) (is_above c ranks (is_done l w 0) k (get_or ranks u 0))
         (above_more c ranks (is_done (join_loose x l v) (join_places x l w v) 0) (is_done l w 0) k (get_or ranks u 0) (λ i there m. done_joined x l w 0 v i lt m))) (h at was)
 
@@ -418,7 +462,8 @@ pub bare_clear : (p : Program) (c : Parts) (x : List (Option Bool)) (k : ℕ) (r
 bare_clear p c x k ranks s l w v none b positive at e = absurd (let zero_ = sym none ∙ e in omega (arith, zero_, positive))
 
 -- ---- an atom loses its source before it is admitted
-pub gather_dropped : (p : Program) (c : Parts) (x : List (Option Bool)) (k : ℕ) (ranks : List ℕ) (busy : ℕ) (s : List ℕ) (l w j : List Bool) (t : List ℕ) (v : ℕ) → Drops s t v → IsGathering p c x k ranks busy s l w j → IsGathering p c x k ranks busy t l w j
+pub gather_dropped : (p : Program) (c : Parts) (x : List (Option Bool)) (k : ℕ) (ranks : List ℕ) (busy : ℕ) (s : List ℕ) (l w j : List Bool)
+    (t : List ℕ) (v : ℕ) → Drops s t v → IsGathering p c x k ranks busy s l w j → IsGathering p c x k ranks busy t l w j
 gather_dropped p c x k ranks busy s l w j t v drops h = record {
   setting = h.setting;
   size = drops.size ∙ h.size;
@@ -431,7 +476,8 @@ gather_dropped p c x k ranks busy s l w j t v drops h = record {
   listed = h.listed;
 }
 
-pub gathers_admitted : (x : List (Option Bool)) (s : List ℕ) (l w : List Bool) (t : List ℕ) (v : ℕ) (u : List ℕ) (n z : List Bool) → Drops s t v → Gathers x t l w u n z → (get_or u v 0 ≡ 0 → holds_in x (F v) ≡ false → is_marked n v ≡ true) → Gathers x s l w u n z
+pub gathers_admitted : (x : List (Option Bool)) (s : List ℕ) (l w : List Bool) (t : List ℕ) (v : ℕ) (u : List ℕ) (n z : List Bool) → Drops s t v →
+    Gathers x t l w u n z → (get_or u v 0 ≡ 0 → holds_in x (F v) ≡ false → is_marked n v ≡ true) → Gathers x s l w u n z
 gathers_admitted x s l w t v u n z drops h admitted = record {
   size = h.size ∙ drops.size;
   marks = h.marks;
@@ -451,18 +497,22 @@ gathers_admitted x s l w t v u n z drops h admitted = record {
     ]
 
 -- ---- what the calls say
-pub gathered_as : (p : Program) (c : Parts) (x : List (Option Bool)) (k : ℕ) (ranks : List ℕ) (busy : ℕ) (s : List ℕ) (l w j : List Bool) (t : List ℕ) (m y z : List Bool) (v : ℕ) → IsSound p → m ≡ join_loose x l v → y ≡ join_places x l w v → z ≡ join_places x l j v → IsAtomVar p v → get_or c.numbers v 0 ≡ k → Drops s t v → IsGathering p c x k ranks busy s l w j → IsGathering p c x k ranks busy t m y z
+pub gathered_as : (p : Program) (c : Parts) (x : List (Option Bool)) (k : ℕ) (ranks : List ℕ) (busy : ℕ) (s : List ℕ) (l w j : List Bool) (t : List ℕ)
+    (m y z : List Bool) (v : ℕ) → IsSound p → m ≡ join_loose x l v → y ≡ join_places x l w v → z ≡ join_places x l j v → IsAtomVar p v →
+    get_or c.numbers v 0 ≡ k → Drops s t v → IsGathering p c x k ranks busy s l w j → IsGathering p c x k ranks busy t m y z
 gathered_as p c x k ranks busy s l w j t m y z v sound a b d is at drops h =
     subst (λ (n : List Bool). IsGathering p c x k ranks busy t n y z) (sym a)
     (subst (λ (n : List Bool). IsGathering p c x k ranks busy t (join_loose x l v) n z) (sym b)
     (subst (λ (n : List Bool). IsGathering p c x k ranks busy t (join_loose x l v) (join_places x l w v) n) (sym d) (gather_one p c x k ranks busy s l w j t v sound is at drops h)))
 
-pub gathers_as : (x : List (Option Bool)) (s : List ℕ) (l w : List Bool) (t : List ℕ) (m y : List Bool) (v : ℕ) → m ≡ join_loose x l v → y ≡ join_places x l w v → v < length l → v - 1 < length w → Drops s t v → Gathers x s l w t m y
+pub gathers_as : (x : List (Option Bool)) (s : List ℕ) (l w : List Bool) (t : List ℕ) (m y : List Bool) (v : ℕ) → m ≡ join_loose x l v →
+    y ≡ join_places x l w v → v < length l → v - 1 < length w → Drops s t v → Gathers x s l w t m y
 gathers_as x s l w t m y v a b lt within drops =
     subst (λ (n : List Bool). Gathers x s l w t n y) (sym a)
     (subst (λ (n : List Bool). Gathers x s l w t (join_loose x l v) n) (sym b) (gathers_one x s l w t v lt within drops))
 
-pub keeps_as : (p : Program) (c : Parts) (x : List (Option Bool)) (k : ℕ) (ranks s : List ℕ) (l w : List Bool) (m y : List Bool) (v : ℕ) → IsSound p → AreSupports p s → m ≡ join_loose x l v → y ≡ join_places x l w v → v - 1 < length w → get_or s v 0 ≡ 0 → Keeps p c x k ranks s l w s m y
+pub keeps_as : (p : Program) (c : Parts) (x : List (Option Bool)) (k : ℕ) (ranks s : List ℕ) (l w : List Bool) (m y : List Bool) (v : ℕ) → IsSound p →
+    AreSupports p s → m ≡ join_loose x l v → y ≡ join_places x l w v → v - 1 < length w → get_or s v 0 ≡ 0 → Keeps p c x k ranks s l w s m y
 keeps_as p c x k ranks s l w m y v sound supported a b lt none =
     subst (λ (n : List Bool). Keeps p c x k ranks s l w s n y) (sym a)
     (subst (λ (n : List Bool). Keeps p c x k ranks s l w s (join_loose x l v) n) (sym b) (keeps_joined p c x k ranks s l w s v sound supported lt (drops_none s v none)))
@@ -471,11 +521,15 @@ pub drops_lost : (s t : List ℕ) (v body : ℕ) (r : Bool) → t ≡ cond (eqb 
 drops_lost s t v body r is lost was = subst (λ (u : List ℕ). Drops s u v) (sym (is ∙ ap (λ b. cond b (set s v 0) s) (sym lost ∙ was))) (drops_one s v)
 
 -- ---- one body, or one head more
-pub released_keeps : (p : Program) (c : Parts) (x : List (Option Bool)) (k : ℕ) (ranks s : List ℕ) (l w : List Bool) (t : List ℕ) (m y : List Bool) (j : ℕ) → Keeps p c x k ranks s l w t m y → AreReleased p c x k ranks s l w j → AreReleased p c x k ranks t m y j
+pub released_keeps : (p : Program) (c : Parts) (x : List (Option Bool)) (k : ℕ) (ranks s : List ℕ) (l w : List Bool) (t : List ℕ) (m y : List Bool)
+    (j : ℕ) → Keeps p c x k ranks s l w t m y → AreReleased p c x k ranks s l w j → AreReleased p c x k ranks t m y j
 released_keeps p c x k ranks s l w t m y j keeps h i d lt =
     keeps (length (atoms_of p) + 1 + j) (get_or (heads_of p (nth_body p j)) i d) (omega arith) (all_of (IsAtomVar p) (heads_of p (nth_body p j)) (head_vars p (nth_body p j)) i d lt) (h i d lt)
 
-pub head_more : (p : Program) (c : Parts) (x : List (Option Bool)) (k : ℕ) (ranks s : List ℕ) (l w : List Bool) (t : List ℕ) (m y : List Bool) (vs : List ℕ) (n b v : ℕ) → 0 < b → All (IsAtomVar p) vs → Keeps p c x k ranks s l w t m y → ((i d : ℕ) → i < n → i < length vs → IsReleased p c x k ranks s l w b (get_or vs i d)) → IsReleased p c x k ranks t m y b v → ((d : ℕ) → n < length vs → get_or vs n d ≡ v) → (i d : ℕ) → i < n + 1 → i < length vs → IsReleased p c x k ranks t m y b (get_or vs i d)
+pub head_more : (p : Program) (c : Parts) (x : List (Option Bool)) (k : ℕ) (ranks s : List ℕ) (l w : List Bool) (t : List ℕ) (m y : List Bool)
+    (vs : List ℕ) (n b v : ℕ) → 0 < b → All (IsAtomVar p) vs → Keeps p c x k ranks s l w t m y →
+    ((i d : ℕ) → i < n → i < length vs → IsReleased p c x k ranks s l w b (get_or vs i d)) → IsReleased p c x k ranks t m y b v →
+    ((d : ℕ) → n < length vs → get_or vs n d ≡ v) → (i d : ℕ) → i < n + 1 → i < length vs → IsReleased p c x k ranks t m y b (get_or vs i d)
 head_more p c x k ranks s l w t m y vs n b v positive vars keeps before here at i d lt within = cases (eqb i n) refl
   where
     cases : (r : Bool) → r ≡ eqb i n → IsReleased p c x k ranks t m y b (get_or vs i d)
@@ -484,7 +538,11 @@ head_more p c x k ranks s l w t m y vs n b v positive vars keeps before here at 
         subst (λ (u : ℕ). IsReleased p c x k ranks t m y b u) (sym (ap (λ m. get_or vs m d) same ∙ at d (omega (arith, same, within)))) here
     cases false q = keeps b (get_or vs i d) positive (vars i d within) (before i d (let ne : i ≢ n = (λ a. false≢true (q ∙ eq-eqb i n a)) in omega (arith, lt, ne)) within)
 
-pub released_more : (p : Program) (c : Parts) (x : List (Option Bool)) (k : ℕ) (ranks s : List ℕ) (l w : List Bool) (t : List ℕ) (m y : List Bool) (os : List Occurrence) (n b : ℕ) → Keeps p c x k ranks s l w t m y → ((i : ℕ) (d : Occurrence) → i < n → i < length os → AreReleased p c x k ranks s l w (get_or os i d).body) → AreReleased p c x k ranks t m y b → ((d : Occurrence) → n < length os → (get_or os n d).body ≡ b) → (i : ℕ) (d : Occurrence) → i < n + 1 → i < length os → AreReleased p c x k ranks t m y (get_or os i d).body
+pub released_more : (p : Program) (c : Parts) (x : List (Option Bool)) (k : ℕ) (ranks s : List ℕ) (l w : List Bool) (t : List ℕ) (m y : List Bool)
+    (os : List Occurrence) (n b : ℕ) → Keeps p c x k ranks s l w t m y →
+    ((i : ℕ) (d : Occurrence) → i < n → i < length os → AreReleased p c x k ranks s l w (get_or os i d).body) → AreReleased p c x k ranks t m y b →
+    ((d : Occurrence) → n < length os → (get_or os n d).body ≡ b) → (i : ℕ) (d : Occurrence) → i < n + 1 → i < length os →
+    AreReleased p c x k ranks t m y (get_or os i d).body
 released_more p c x k ranks s l w t m y os n b keeps before here at i d lt within = cases (eqb i n) refl
   where
     cases : (r : Bool) → r ≡ eqb i n → AreReleased p c x k ranks t m y (get_or os i d).body
@@ -497,11 +555,14 @@ pub gathers_same : (x : List (Option Bool)) (s : List ℕ) (l w : List Bool) →
 gathers_same x s l w = record { size = refl; marks = refl; room = refl; more = λ v e. e; left = λ v z o. inl z; paid = omega arith }
 
 -- ---- an atom is admitted
-pub steps_same : (p : Program) (c : Parts) (x : List (Option Bool)) (k : ℕ) (ranks : List ℕ) (busy : ℕ) (s : List ℕ) (l w j : List Bool) (t : List ℕ) → t ≡ s → IsGathering p c x k ranks busy s l w j → Steps p c x k ranks busy s l w t l w j
+pub steps_same : (p : Program) (c : Parts) (x : List (Option Bool)) (k : ℕ) (ranks : List ℕ) (busy : ℕ) (s : List ℕ) (l w j : List Bool) (t : List ℕ)
+    → t ≡ s → IsGathering p c x k ranks busy s l w j → Steps p c x k ranks busy s l w t l w j
 steps_same p c x k ranks busy s l w j t same h =
     subst (λ (u : List ℕ). Steps p c x k ranks busy s l w u l w j) (sym same) (record { gathering = h; gathers = gathers_same x s l w; keeps = keeps_same p c x k ranks s l w })
 
-pub steps_then : (p : Program) (c : Parts) (x : List (Option Bool)) (k : ℕ) (ranks : List ℕ) (busy : ℕ) (s : List ℕ) (l w : List Bool) (t : List ℕ) (m y g : List Bool) (u : List ℕ) (n z i : List Bool) → Steps p c x k ranks busy s l w t m y g → Steps p c x k ranks busy t m y u n z i → Steps p c x k ranks busy s l w u n z i
+pub steps_then : (p : Program) (c : Parts) (x : List (Option Bool)) (k : ℕ) (ranks : List ℕ) (busy : ℕ) (s : List ℕ) (l w : List Bool) (t : List ℕ)
+    (m y g : List Bool) (u : List ℕ) (n z i : List Bool) → Steps p c x k ranks busy s l w t m y g → Steps p c x k ranks busy t m y u n z i →
+    Steps p c x k ranks busy s l w u n z i
 steps_then p c x k ranks busy s l w t m y g u n z i a b = record {
   gathering = b.gathering;
   gathers = gathers_then x s l w t m y u n z a.gathers b.gathers;
@@ -509,7 +570,9 @@ steps_then p c x k ranks busy s l w t m y g u n z i a b = record {
 }
 
 -- it was a candidate already, or is false
-pub admits_none : (p : Program) (c : Parts) (x : List (Option Bool)) (k : ℕ) (ranks : List ℕ) (busy v : ℕ) (s : List ℕ) (l w j : List Bool) → get_or s v 0 ≡ 0 → (holds_in x (F v) ≡ false → is_marked l v ≡ true) → IsGathering p c x k ranks busy s l w j → Admits p c x k ranks busy v s l w s l w j
+pub admits_none : (p : Program) (c : Parts) (x : List (Option Bool)) (k : ℕ) (ranks : List ℕ) (busy v : ℕ) (s : List ℕ) (l w j : List Bool) →
+    get_or s v 0 ≡ 0 → (holds_in x (F v) ≡ false → is_marked l v ≡ true) → IsGathering p c x k ranks busy s l w j →
+    Admits p c x k ranks busy v s l w s l w j
 admits_none p c x k ranks busy v s l w j none admitted h = record {
   steps = steps_same p c x k ranks busy s l w j s refl h;
   clear = bare_clear p c x k ranks s l w v none;
@@ -517,7 +580,9 @@ admits_none p c x k ranks busy v s l w j none admitted h = record {
 }
 
 -- it has a source again
-pub admits_seated : (p : Program) (c : Parts) (x : List (Option Bool)) (k : ℕ) (ranks : List ℕ) (busy v : ℕ) (s : List ℕ) (l w j : List Bool) (t : List ℕ) → IsSound p → IsAtomVar p v → get_or c.numbers v 0 ≡ k → is_marked l v ≡ false → IsReseated p c x k ranks l v s t → IsGathering p c x k ranks busy s l w j → Admits p c x k ranks busy v s l w t l w j
+pub admits_seated : (p : Program) (c : Parts) (x : List (Option Bool)) (k : ℕ) (ranks : List ℕ) (busy v : ℕ) (s : List ℕ) (l w j : List Bool)
+    (t : List ℕ) → IsSound p → IsAtomVar p v → get_or c.numbers v 0 ≡ k → is_marked l v ≡ false → IsReseated p c x k ranks l v s t →
+    IsGathering p c x k ranks busy s l w j → Admits p c x k ranks busy v s l w t l w j
 admits_seated p c x k ranks busy v s l w j t sound is at bare seat h = record {
   steps = record {
     gathering = gather_seated p c x k ranks busy s l w j t v sound is at bare seat h;
@@ -532,7 +597,10 @@ admits_seated p c x k ranks busy v s l w j t sound is at bare seat h = record {
     lt = let small = is.1 in let size = h.size in omega (arith, small, size)
 
 -- it joins
-pub admits_joined : (p : Program) (c : Parts) (x : List (Option Bool)) (k : ℕ) (ranks : List ℕ) (busy v : ℕ) (s : List ℕ) (l w j : List Bool) (t : List ℕ) (m y z : List Bool) → IsSound p → IsAtomVar p v → get_or c.numbers v 0 ≡ k → get_or s v 0 ≡ 0 → is_marked l v ≡ false → t ≡ s → m ≡ join_loose x l v → y ≡ join_places x l w v → z ≡ join_places x l j v → IsGathering p c x k ranks busy s l w j → Admits p c x k ranks busy v s l w t m y z
+pub admits_joined : (p : Program) (c : Parts) (x : List (Option Bool)) (k : ℕ) (ranks : List ℕ) (busy v : ℕ) (s : List ℕ) (l w j : List Bool)
+    (t : List ℕ) (m y z : List Bool) → IsSound p → IsAtomVar p v → get_or c.numbers v 0 ≡ k → get_or s v 0 ≡ 0 → is_marked l v ≡ false → t ≡ s →
+    m ≡ join_loose x l v → y ≡ join_places x l w v → z ≡ join_places x l j v → IsGathering p c x k ranks busy s l w j →
+    Admits p c x k ranks busy v s l w t m y z
 admits_joined p c x k ranks busy v s l w j t m y z sound is at none bare same a b d h =
     subst (λ (u : List ℕ). Admits p c x k ranks busy v s l w u m y z) (sym same) (record {
       steps = record {
@@ -557,7 +625,8 @@ admits_joined p c x k ranks busy v s l w j t m y z sound is at none bare same a 
         ∙ get_or-set_same l v true false lt
 
 -- an atom that wasn't the body's head loses nothing
-pub not_lost : (p : Program) (c : Parts) (x : List (Option Bool)) (k : ℕ) (ranks s : List ℕ) (l w : List Bool) (t : List ℕ) (v body : ℕ) (r : Bool) → t ≡ s → r ≡ eqb (get_or s v 0) body → r ≡ false → IsReleased p c x k ranks t l w body v
+pub not_lost : (p : Program) (c : Parts) (x : List (Option Bool)) (k : ℕ) (ranks s : List ℕ) (l w : List Bool) (t : List ℕ) (v body : ℕ) (r : Bool) →
+    t ≡ s → r ≡ eqb (get_or s v 0) body → r ≡ false → IsReleased p c x k ranks t l w body v
 not_lost p c x k ranks s l w t v body r same lost was at e =
     absurd (false≢true (sym was ∙ (lost ∙ eq-eqb (get_or s v 0) body (ap (λ (n : List ℕ). get_or n v 0) (sym same) ∙ e))))
 
@@ -565,7 +634,8 @@ pub same_lost : (s t : List ℕ) (v body : ℕ) (r : Bool) → t ≡ cond (eqb (
 same_lost s t v body r is lost was = is ∙ ap (λ b. cond b (set s v 0) s) (sym lost ∙ was)
 
 -- an atom that loses its source, and is admitted
-pub steps_lost : (p : Program) (c : Parts) (x : List (Option Bool)) (k : ℕ) (ranks : List ℕ) (busy v : ℕ) (s : List ℕ) (l w : List Bool) (t u : List ℕ) (n z i : List Bool) → Drops s t v → Admits p c x k ranks busy v t l w u n z i → Steps p c x k ranks busy s l w u n z i
+pub steps_lost : (p : Program) (c : Parts) (x : List (Option Bool)) (k : ℕ) (ranks : List ℕ) (busy v : ℕ) (s : List ℕ) (l w : List Bool)
+    (t u : List ℕ) (n z i : List Bool) → Drops s t v → Admits p c x k ranks busy v t l w u n z i → Steps p c x k ranks busy s l w u n z i
 steps_lost p c x k ranks busy v s l w t u n z i drops h = record {
   gathering = h.steps.gathering;
   gathers = gathers_admitted x s l w t v u n z drops h.steps.gathers h.admitted;

@@ -66,12 +66,15 @@ fixpoint_not false false (inr e) = absurd (false≢true e)
 wanted : (x : List (Option Bool)) (v : ℕ) (rest : List Literal) → holds_in x (F v) ≡ false → list_all (holds_in x) rest ≡ true → is_at_fixpoint x (T v ∷ rest) ≡ false
 wanted x v rest e hold = fixpoint_not (is_violated x (T v ∷ rest)) (is_unit x (T v ∷ rest)) (elim (true_or_open v (value_of x v) e) [
   | inl holds ↦ inl (and_from (holds_in x (T v)) (list_all (holds_in x) rest) holds hold)
-  | inr open_ ↦ inr (or_left (is_open x (T v) && list_all (λ k. literal_eq k (T v) || holds_in x k) (T v ∷ rest)) (list_any (λ l. is_open x l && list_all (λ k. literal_eq k l || holds_in x k) (T v ∷ rest)) rest)
+  | inr open_ ↦ inr (or_left (is_open x (T v) && list_all (λ k. literal_eq k (T v) || holds_in x k) (T v ∷ rest))
+      (list_any (λ l. is_open x l && list_all (λ k. literal_eq k l || holds_in x k) (T v ∷ rest)) rest)
       (and_from (is_open x (T v)) (list_all (λ k. literal_eq k (T v) || holds_in x k) (T v ∷ rest)) open_
-      (and_from (literal_eq (T v) (T v) || holds_in x (T v)) (list_all (λ k. literal_eq k (T v) || holds_in x k) rest) (or_left (literal_eq (T v) (T v)) (holds_in x (T v)) (literal_eq-itself (T v))) (weaker x (T v) rest hold))))
+      (and_from (literal_eq (T v) (T v) || holds_in x (T v)) (list_all (λ k. literal_eq k (T v) || holds_in x k) rest)
+      (or_left (literal_eq (T v) (T v)) (holds_in x (T v)) (literal_eq-itself (T v))) (weaker x (T v) rest hold))))
 ])
 
-pub given : (t : Told) (U : Atoms) (a : ℕ) (n : Nogood) → length t.values ≡ var_count t.program + 1 → value_of t.values 0 ≡ None → IsFound t.program t.values U a → IsLoopNogood t.program t.values U a n → IsGiven t n
+pub given : (t : Told) (U : Atoms) (a : ℕ) (n : Nogood) → length t.values ≡ var_count t.program + 1 → value_of t.values 0 ≡ None →
+    IsFound t.program t.values U a → IsLoopNogood t.program t.values U a n → IsGiven t n
 given t U a n size first found shape = record {
   values = t.values;
   set = U;
@@ -82,13 +85,20 @@ given t U a n size first found shape = record {
   base = shape.pure;
   entailed = shape.entailed;
   within = subst (λ (ls : List Literal). All (λ (l : Literal). IsVar (var_count t.program) l.var) ls) (sym shape.literals)
-      (All-from_recursion (λ (l : Literal). IsVar (var_count t.program) l.var) (T (var_of_atom t.program a) ∷ shape.rest)
-      ((let some_ : 0 < var_of_atom t.program a = omega arith in some_, let low = atom_small t.program a (found.loop.stand a found.member) in omega (arith, low)), all_within t.values (var_count t.program) shape.rest size first shape.hold));
+      (All-from_recursion (λ (l : Literal). IsVar (var_count t.program) l.var) (T (var_of_atom t.program a) ∷ shape.rest) (
+        (
+          let some_ : 0 < var_of_atom t.program a = omega arith in some_,
+          let low = atom_small t.program a (found.loop.stand a found.member) in
+              omega (arith, low),
+        ),
+        all_within t.values (var_count t.program) shape.rest size first shape.hold,
+      ));
   wanted = ap (is_at_fixpoint t.values) shape.literals ∙ wanted t.values (var_of_atom t.program a) shape.rest (found.loop.not_false a found.member) shape.hold;
 }
 
 -- ---- another atom of a set that was found
-pub remembered : (t : Told) (U : Atoms) (a : ℕ) (n : Nogood) → IsFound t.program t.values U a → IsLoopNogood t.program t.values U a n → (reason : List Literal) → reason ≡ drop 1 n.lits → IsRemembered t.program U reason
+pub remembered : (t : Told) (U : Atoms) (a : ℕ) (n : Nogood) → IsFound t.program t.values U a → IsLoopNogood t.program t.values U a n →
+    (reason : List Literal) → reason ≡ drop 1 n.lits → IsRemembered t.program U reason
 remembered t U a n found shape reason is = record {
   values = t.values;
   atom = a;
@@ -98,12 +108,15 @@ remembered t U a n found shape reason is = record {
   rest = sym (is ∙ ap (drop 1) shape.literals);
 }
 
-pub again_given : (t : Told) (U : Atoms) (reason : List Literal) (n : Nogood) → IsSound t.program → All (λ (l : Literal). IsVar (var_count t.program) l.var) reason → ((a : ℕ) → has U a ≡ true → IsRemembered t.program U reason) → IsAgain t.program t.values U reason n → IsGiven t n
+pub again_given : (t : Told) (U : Atoms) (reason : List Literal) (n : Nogood) → IsSound t.program →
+    All (λ (l : Literal). IsVar (var_count t.program) l.var) reason → ((a : ℕ) → has U a ≡ true → IsRemembered t.program U reason) →
+    IsAgain t.program t.values U reason n → IsGiven t n
 again_given t U reason n sound within kept again =
     let p : Program = t.program in
     let h = kept again.atom again.member in
     let entailed : Entailed p n.lits = subst (λ (ls : List Literal). Entailed p ls) (sym again.lits)
-    (loop_entailed p U again.atom h.shape.bodies reason sound again.member (h.loop.stand again.atom again.member) h.shape.are_supports (subst (λ (ls : List Literal). AreParts p U h.shape.bodies ls) h.rest h.shape.parts)) in
+    (loop_entailed p U again.atom h.shape.bodies reason sound again.member (h.loop.stand again.atom again.member) h.shape.are_supports
+    (subst (λ (ls : List Literal). AreParts p U h.shape.bodies ls) h.rest h.shape.parts)) in
     record {
       values = h.values;
       set = U;
@@ -124,6 +137,10 @@ again_given t U reason n sound within kept again =
       base = again.base;
       entailed = entailed;
       within = subst (λ (ls : List Literal). All (λ (l : Literal). IsVar (var_count p) l.var) ls) (sym again.lits)
-          (All-cons (λ (l : Literal). IsVar (var_count p) l.var) (T (var_of_atom p again.atom)) reason (let some_ : 0 < var_of_atom p again.atom = omega arith in some_, let low = atom_small p again.atom (h.loop.stand again.atom again.member) in omega (arith, low)) within);
+          (All-cons (λ (l : Literal). IsVar (var_count p) l.var) (T (var_of_atom p again.atom)) reason (
+            let some_ : 0 < var_of_atom p again.atom = omega arith in some_,
+            let low =
+                atom_small p again.atom (h.loop.stand again.atom again.member) in omega (arith, low),
+          ) within);
       wanted = ap (is_at_fixpoint t.values) again.lits ∙ wanted t.values (var_of_atom p again.atom) reason again.not_false again.hold;
     }

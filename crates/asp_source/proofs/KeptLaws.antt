@@ -50,7 +50,9 @@ first_kept : (x : List (Option Bool)) (v : ℕ) (t : Option Bool) → 0 < v → 
 first_kept x v t some_ e = get_or-set_other x v 0 t None (λ z. omega (arith, some_, z)) ∙ e
 
 -- where no atom has a source it is enough that each is queued, unless it is alone
-bare_pointers : (p : Program) (c : Parts) (x : List (Option Bool)) (s ranks : List ℕ) (q : List Bool) → length s ≡ length (atoms_of p) + 1 → length ranks ≡ length (atoms_of p) + 1 → length q ≡ length (atoms_of p) → AreBare s → ((v : ℕ) → IsAtomVar p v → get_or c.trivial (get_or c.numbers v 0) false ≡ false → is_marked q (v - 1) ≡ true) → ArePointers p c x s ranks q []
+bare_pointers : (p : Program) (c : Parts) (x : List (Option Bool)) (s ranks : List ℕ) (q : List Bool) → length s ≡ length (atoms_of p) + 1 →
+    length ranks ≡ length (atoms_of p) + 1 → length q ≡ length (atoms_of p) → AreBare s →
+    ((v : ℕ) → IsAtomVar p v → get_or c.trivial (get_or c.numbers v 0) false ≡ false → is_marked q (v - 1) ≡ true) → ArePointers p c x s ranks q []
 bare_pointers p c x s ranks q size ranked room bare queued = record {
   size = size;
   rank_room = ranked;
@@ -61,12 +63,18 @@ bare_pointers p c x s ranks q size ranked room bare queued = record {
 }
 
 -- all begins anew
-pub pointers_anew : (p : Program) (c : Parts) (x : List (Option Bool)) (s ranks : List ℕ) (q : List Bool) → s ≡ replicate (length (atoms_of p) + 1) 0 → length ranks ≡ length (atoms_of p) + 1 → length q ≡ length (atoms_of p) → AreMarked c (length (atoms_of p)) q → ArePointers p c x s ranks q []
+pub pointers_anew : (p : Program) (c : Parts) (x : List (Option Bool)) (s ranks : List ℕ) (q : List Bool) →
+    s ≡ replicate (length (atoms_of p) + 1) 0 → length ranks ≡ length (atoms_of p) + 1 → length q ≡ length (atoms_of p) →
+    AreMarked c (length (atoms_of p)) q → ArePointers p c x s ranks q []
 pointers_anew p c x s ranks q is ranked size marked =
-    bare_pointers p c x s ranks q (let none : ℕ = 0 in ap length is ∙ length-replicate (length (atoms_of p) + 1) none) ranked size (subst AreBare (sym is) (zero_at (length (atoms_of p) + 1))) (λ v at cyclic. marked v at.0 at.1 cyclic)
+    bare_pointers p c x s ranks q (let none : ℕ = 0 in ap length is ∙ length-replicate (length (atoms_of p) + 1) none) ranked size
+    (subst AreBare (sym is) (zero_at (length (atoms_of p) + 1))) (λ v at cyclic. marked v at.0 at.1 cyclic)
 
 -- ---- a literal comes to hold
-pub kept_by : (p : Program) (c : Parts) (x y : List (Option Bool)) (s ranks : List ℕ) (q : List Bool) (t : List ℕ) (r : List Bool) (tight weighted : Bool) (loose waiting joined : List Bool) (rest : Rest) (l : Literal) → IsSound p → IsKept p c x s ranks q tight weighted loose waiting joined rest → tight ≡ false → IsVar (var_count p) l.var → value_of x l.var ≡ None → y ≡ set x l.var (Some l.truth) → Loses s q t r →
+pub kept_by : (p : Program) (c : Parts) (x y : List (Option Bool)) (s ranks : List ℕ) (q : List Bool) (t : List ℕ) (r : List Bool)
+    (tight weighted : Bool) (loose waiting joined : List Bool) (rest : Rest) (l : Literal) → IsSound p →
+    IsKept p c x s ranks q tight weighted loose waiting joined rest → tight ≡ false → IsVar (var_count p) l.var → value_of x l.var ≡ None →
+    y ≡ set x l.var (Some l.truth) → Loses s q t r →
     All (IsGoneAt p t) (bodies_with p (complement l)) →
     (l.var ≤ length (atoms_of p) → All (IsGoneBy p t) (occurrences_of p (complement l))) →
     IsKept p c y t ranks r tight weighted loose waiting joined rest
@@ -88,13 +96,16 @@ kept_by p c x y s ranks q t r tight weighted loose waiting joined rest l sound h
     })
 
 -- in a tight program no atom has a source, whatever value a variable gets or loses
-pub kept_tight : (p : Program) (c : Parts) (x y : List (Option Bool)) (s ranks : List ℕ) (q : List Bool) (tight weighted : Bool) (loose waiting joined : List Bool) (rest : Rest) (w : ℕ) (o : Option Bool) → IsKept p c x s ranks q tight weighted loose waiting joined rest → tight ≡ true → IsVar (var_count p) w → y ≡ set x w o → IsKept p c y s ranks q tight weighted loose waiting joined rest
+pub kept_tight : (p : Program) (c : Parts) (x y : List (Option Bool)) (s ranks : List ℕ) (q : List Bool) (tight weighted : Bool)
+    (loose waiting joined : List Bool) (rest : Rest) (w : ℕ) (o : Option Bool) → IsKept p c x s ranks q tight weighted loose waiting joined rest →
+    tight ≡ true → IsVar (var_count p) w → y ≡ set x w o → IsKept p c y s ranks q tight weighted loose waiting joined rest
 kept_tight p c x y s ranks q tight weighted loose waiting joined rest w o h is_tight is told =
     subst (λ (z : List (Option Bool)). IsKept p c z s ranks q tight weighted loose waiting joined rest) (sym told) (record {
       components = h.components;
       sized = length-set x w o ∙ h.sized;
       first = first_kept x w o is.0 h.first;
-      pointers = bare_pointers p c (set x w o) s ranks q h.pointers.size h.pointers.rank_room h.pointers.room (h.none is_tight) (λ v at cyclic. absurd (false≢true (sym cyclic ∙ h.trivial is_tight v at)));
+      pointers = bare_pointers p c (set x w o) s ranks q h.pointers.size h.pointers.rank_room h.pointers.room (h.none is_tight)
+          (λ v at cyclic. absurd (false≢true (sym cyclic ∙ h.trivial is_tight v at)));
       marks = h.marks;
       blank = h.blank;
       room = h.room;
@@ -107,7 +118,9 @@ kept_tight p c x y s ranks q tight weighted loose waiting joined rest w o h is_t
     })
 
 -- the same sources, read in another way
-pub kept_as : (p : Program) (c : Parts) (x : List (Option Bool)) (s t ranks : List ℕ) (q : List Bool) (tight weighted : Bool) (loose waiting joined : List Bool) (rest : Rest) → t ≡ s → IsKept p c x s ranks q tight weighted loose waiting joined rest → IsKept p c x t ranks q tight weighted loose waiting joined rest
+pub kept_as : (p : Program) (c : Parts) (x : List (Option Bool)) (s t ranks : List ℕ) (q : List Bool) (tight weighted : Bool)
+    (loose waiting joined : List Bool) (rest : Rest) → t ≡ s → IsKept p c x s ranks q tight weighted loose waiting joined rest →
+    IsKept p c x t ranks q tight weighted loose waiting joined rest
 kept_as p c x s t ranks q tight weighted loose waiting joined rest same h = subst (λ (u : List ℕ). IsKept p c x u ranks q tight weighted loose waiting joined rest) (sym same) h
 
 -- ---- a literal that held is taken back
@@ -127,7 +140,10 @@ regain-length p c s q l = cases l.truth (leb l.var (length (atoms_of p)))
     cases false true = seek-length c s q l.var
     cases false false = refl
 
-pub kept_back : (p : Program) (c : Parts) (x y : List (Option Bool)) (s ranks : List ℕ) (q r : List Bool) (tight weighted : Bool) (loose waiting joined : List Bool) (rest : Rest) (l : Literal) → IsSound p → IsKept p c x s ranks q tight weighted loose waiting joined rest → IsVar (var_count p) l.var → holds_in x l ≡ true → y ≡ set x l.var None → r ≡ regain p c s q l → IsKept p c y s ranks r tight weighted loose waiting joined rest
+pub kept_back : (p : Program) (c : Parts) (x y : List (Option Bool)) (s ranks : List ℕ) (q r : List Bool) (tight weighted : Bool)
+    (loose waiting joined : List Bool) (rest : Rest) (l : Literal) → IsSound p → IsKept p c x s ranks q tight weighted loose waiting joined rest →
+    IsVar (var_count p) l.var → holds_in x l ≡ true → y ≡ set x l.var None → r ≡ regain p c s q l →
+    IsKept p c y s ranks r tight weighted loose waiting joined rest
 kept_back p c x y s ranks q r tight weighted loose waiting joined rest l sound h is holds told regained =
     subst (λ (z : List (Option Bool)). IsKept p c z s ranks r tight weighted loose waiting joined rest) (sym told) (record {
       components = h.components;
@@ -146,7 +162,13 @@ kept_back p c x y s ranks q r tight weighted loose waiting joined rest l sound h
     })
 
 -- ---- the start
-pub kept_first : (p : Program) (c : Parts) (x : List (Option Bool)) (s ranks : List ℕ) (q : List Bool) (tight weighted : Bool) (loose waiting joined : List Bool) (rest : Rest) → AreComponents p c → x ≡ replicate (var_count p + 1) None → s ≡ replicate (length (atoms_of p) + 1) 0 → length ranks ≡ length (atoms_of p) + 1 → length q ≡ length (atoms_of p) → AreMarked c (length (atoms_of p)) q → (tight ≡ true → (k : ℕ) → is_marked q k ≡ false) → (weighted ≡ false → AreNormal p (length (bodies_of p))) → loose ≡ replicate (length (atoms_of p) + 1) false → waiting ≡ replicate (length (atoms_of p)) false → joined ≡ replicate (length (atoms_of p)) false → rest ≡ record { set = []; reason = [] } → IsKept p c x s ranks q tight weighted loose waiting joined rest
+pub kept_first : (p : Program) (c : Parts) (x : List (Option Bool)) (s ranks : List ℕ) (q : List Bool) (tight weighted : Bool)
+    (loose waiting joined : List Bool) (rest : Rest) → AreComponents p c → x ≡ replicate (var_count p + 1) None →
+    s ≡ replicate (length (atoms_of p) + 1) 0 → length ranks ≡ length (atoms_of p) + 1 → length q ≡ length (atoms_of p) →
+    AreMarked c (length (atoms_of p)) q → (tight ≡ true → (k : ℕ) → is_marked q k ≡ false) → (weighted ≡ false → AreNormal p (length (bodies_of p))) →
+    loose ≡ replicate (length (atoms_of p) + 1) false → waiting ≡ replicate (length (atoms_of p)) false →
+    joined ≡ replicate (length (atoms_of p)) false → rest ≡ record { set = []; reason = [] } →
+    IsKept p c x s ranks q tight weighted loose waiting joined rest
 kept_first p c x s ranks q tight weighted loose waiting joined rest are is bare ranked whole marked empty normal blank free seated nothing = record {
   components = are;
   sized = ap length is ∙ length-replicate (var_count p + 1) None;
@@ -172,7 +194,10 @@ kept_first p c x s ranks q tight weighted loose waiting joined rest are is bare 
 
 -- ---- what is looked for
 -- another set that was found
-pub kept_rest : (p : Program) (c : Parts) (x : List (Option Bool)) (s ranks : List ℕ) (q : List Bool) (tight weighted : Bool) (loose waiting joined : List Bool) (rest new : Rest) → IsKept p c x s ranks q tight weighted loose waiting joined rest → ((a : ℕ) → has new.set a ≡ true → IsRemembered p new.set new.reason) → All (λ (l : Literal). IsVar (var_count p) l.var) new.reason → IsKept p c x s ranks q tight weighted loose waiting joined new
+pub kept_rest : (p : Program) (c : Parts) (x : List (Option Bool)) (s ranks : List ℕ) (q : List Bool) (tight weighted : Bool)
+    (loose waiting joined : List Bool) (rest new : Rest) → IsKept p c x s ranks q tight weighted loose waiting joined rest →
+    ((a : ℕ) → has new.set a ≡ true → IsRemembered p new.set new.reason) → All (λ (l : Literal). IsVar (var_count p) l.var) new.reason →
+    IsKept p c x s ranks q tight weighted loose waiting joined new
 kept_rest p c x s ranks q tight weighted loose waiting joined rest new h found within = record {
   components = h.components;
   sized = h.sized;
@@ -190,7 +215,11 @@ kept_rest p c x s ranks q tight weighted loose waiting joined rest new h found w
 }
 
 -- other pointers, where no atom is a candidate
-pub kept_searched : (p : Program) (c : Parts) (x : List (Option Bool)) (s ranks : List ℕ) (q : List Bool) (tight weighted : Bool) (loose waiting joined : List Bool) (rest : Rest) (t o : List ℕ) (r m y z : List Bool) → IsKept p c x s ranks q tight weighted loose waiting joined rest → tight ≡ false → ArePointers p c x t o r [] → length m ≡ length (atoms_of p) + 1 → AreBlank m → length y ≡ length waiting → length z ≡ length joined → IsKept p c x t o r tight weighted m y z rest
+pub kept_searched : (p : Program) (c : Parts) (x : List (Option Bool)) (s ranks : List ℕ) (q : List Bool) (tight weighted : Bool)
+    (loose waiting joined : List Bool) (rest : Rest) (t o : List ℕ) (r m y z : List Bool) →
+    IsKept p c x s ranks q tight weighted loose waiting joined rest → tight ≡ false → ArePointers p c x t o r [] →
+    length m ≡ length (atoms_of p) + 1 → AreBlank m → length y ≡ length waiting → length z ≡ length joined →
+    IsKept p c x t o r tight weighted m y z rest
 kept_searched p c x s ranks q tight weighted loose waiting joined rest t o r m y z h not_tight pointers marks blank room seats = record {
   components = h.components;
   sized = h.sized;
@@ -208,17 +237,24 @@ kept_searched p c x s ranks q tight weighted loose waiting joined rest t o r m y
 }
 
 -- one that was found just now
-pub kept_found : (p : Program) (c : Parts) (x : List (Option Bool)) (s ranks : List ℕ) (q : List Bool) (tight weighted : Bool) (loose waiting joined : List Bool) (rest : Rest) (U : Atoms) (a : ℕ) (n : Nogood) (new : Rest) → IsKept p c x s ranks q tight weighted loose waiting joined rest → IsFound p x U a → IsLoopNogood p x U a n → new ≡ record { set = U; reason = drop 1 n.lits } → IsKept p c x s ranks q tight weighted loose waiting joined new
+pub kept_found : (p : Program) (c : Parts) (x : List (Option Bool)) (s ranks : List ℕ) (q : List Bool) (tight weighted : Bool)
+    (loose waiting joined : List Bool) (rest : Rest) (U : Atoms) (a : ℕ) (n : Nogood) (new : Rest) →
+    IsKept p c x s ranks q tight weighted loose waiting joined rest → IsFound p x U a → IsLoopNogood p x U a n →
+    new ≡ record { set = U; reason = drop 1 n.lits } → IsKept p c x s ranks q tight weighted loose waiting joined new
 kept_found p c x s ranks q tight weighted loose waiting joined rest U a n new h found shape is =
     let t : Told = record { program = p; values = x } in
     let P : Literal → Type 0 = λ (l : Literal). IsVar (var_count p) l.var in
     let within : All P n.lits = (given t U a n h.sized h.first found shape).within in
-    let left : All P (drop 1 n.lits) = subst (λ (ls : List Literal). All P (drop 1 ls)) (sym shape.literals) (All-tail P (T (var_of_atom p a)) shape.rest (subst (λ (ls : List Literal). All P ls) shape.literals within)) in
+    let left : All P (drop 1 n.lits) =
+    subst (λ (ls : List Literal). All P (drop 1 ls)) (sym shape.literals)
+    (All-tail P (T (var_of_atom p a)) shape.rest (subst (λ (ls : List Literal). All P ls) shape.literals within)) in
     subst (λ (r : Rest). IsKept p c x s ranks q tight weighted loose waiting joined r) (sym is)
     (kept_rest p c x s ranks q tight weighted loose waiting joined rest (record { set = U; reason = drop 1 n.lits }) h (λ b m. remembered t U a n found shape (drop 1 n.lits) refl) left)
 
 -- a tight program has no unfounded set
-pub tight_none : (p : Program) (c : Parts) (x : List (Option Bool)) (s ranks : List ℕ) (q : List Bool) (tight weighted : Bool) (loose waiting joined : List Bool) (rest : Rest) → IsKept p c x s ranks q tight weighted loose waiting joined rest → tight ≡ true → (U : Atoms) → IsUnfoundedLoop p x U → ⊥
+pub tight_none : (p : Program) (c : Parts) (x : List (Option Bool)) (s ranks : List ℕ) (q : List Bool) (tight weighted : Bool)
+    (loose waiting joined : List Bool) (rest : Rest) → IsKept p c x s ranks q tight weighted loose waiting joined rest → tight ≡ true → (U : Atoms) →
+    IsUnfoundedLoop p x U → ⊥
 tight_none p c x s ranks q tight weighted loose waiting joined rest h is_tight U loop =
     let a = some_member p x U loop.unfounded in
     false≢true (sym (cyclic_of p c x U a.0 h.components loop a.1) ∙ h.trivial is_tight (var_of_atom p a.0) (atom_var p a.0 (loop.stand a.0 a.1)))

@@ -40,7 +40,8 @@ pub record IsLeftAt (p : Program) (c : Parts) (x : List (Option Bool)) (k : ℕ)
   pub var : var_of_atom p a ≡ place + 1
   pub marked : is_marked l (place + 1) ≡ true
 
-place_left : (p : Program) (c : Parts) (x : List (Option Bool)) (k : ℕ) (s : List ℕ) (l : List Bool) (places : List ℕ) (i : ℕ) → AreCandidates p c x k s l → has places i ≡ true → is_marked l (i + 1) ≡ true → IsLeftAt p c x k l places (nth_atom p i)
+place_left : (p : Program) (c : Parts) (x : List (Option Bool)) (k : ℕ) (s : List ℕ) (l : List Bool) (places : List ℕ) (i : ℕ) →
+    AreCandidates p c x k s l → has places i ≡ true → is_marked l (i + 1) ≡ true → IsLeftAt p c x k l places (nth_atom p i)
 place_left p c x k s l places i h there marked =
     let is = h.atoms (i + 1) marked in
     let same : var_of_atom p (nth_atom p i) ≡ i + 1 = ap (λ n. var_of_atom p (nth_atom p n)) (omega arith) ∙ var_at p (i + 1) is in
@@ -58,9 +59,12 @@ to_atoms : (p : Program) (l : List Bool) (places : List ℕ) (i : ℕ) → has p
 to_atoms p l places i there marked =
     list_any-flat_map (λ b. eqb b (nth_atom p i)) (λ k. atom_if p l (k + 1)) places
     ∙ any_of (λ k. has (atom_if p l (k + 1)) (nth_atom p i)) places i there
-    (ap (λ t. has (cond t (nth_atom p (i + 1 - 1) ∷ []) []) (nth_atom p i)) marked ∙ or_left (eqb (nth_atom p (i + 1 - 1)) (nth_atom p i)) false (eq-eqb (nth_atom p (i + 1 - 1)) (nth_atom p i) (ap (nth_atom p) (omega arith))))
+    (ap (λ t. has (cond t (nth_atom p (i + 1 - 1) ∷ []) []) (nth_atom p i)) marked
+    ∙ or_left (eqb (nth_atom p (i + 1 - 1)) (nth_atom p i)) false
+    (eq-eqb (nth_atom p (i + 1 - 1)) (nth_atom p i) (ap (nth_atom p) (omega arith))))
 
-atom_left : (p : Program) (c : Parts) (x : List (Option Bool)) (k : ℕ) (s : List ℕ) (l : List Bool) (places : List ℕ) (a : ℕ) → AreCandidates p c x k s l → has (atoms_at p l places) a ≡ true → IsLeftAt p c x k l places a
+atom_left : (p : Program) (c : Parts) (x : List (Option Bool)) (k : ℕ) (s : List ℕ) (l : List Bool) (places : List ℕ) (a : ℕ) →
+    AreCandidates p c x k s l → has (atoms_at p l places) a ≡ true → IsLeftAt p c x k l places a
 atom_left p c x k s l places a h e =
     let found = some (λ i. has places i ≡ true) (λ i. has (atom_if p l (i + 1)) a) places (members places) (sym (list_any-flat_map (λ b. eqb b a) (λ k. atom_if p l (k + 1)) places) ∙ e) in
     cases found.0 found.1 (is_marked l (found.0 + 1)) refl found.2
@@ -75,10 +79,15 @@ atom_left p c x k s l places a h e =
         subst (λ (b : ℕ). IsLeftAt p c x k l places b) (ap (nth_atom p) (omega arith) ∙ is) (place_left p c x k s l places i h there (sym q))
     cases i there false q f = absurd (false≢true (ap (λ t. has (cond t (nth_atom p (i + 1 - 1) ∷ []) []) a) q ∙ f))
 
-left_excused : (p : Program) (c : Parts) (x : List (Option Bool)) (k : ℕ) (s : List ℕ) (l : List Bool) (places : List ℕ) (r : Rule) (a : ℕ) → IsSound p → AreCandidates p c x k s l → ((v : ℕ) → is_marked l v ≡ true → has places (v - 1) ≡ true) → AreStuck p x l places → IsLeftAt p c x k l places a → Among (rules_in_force p) r → has (head_atoms r.head) a ≡ true → is_excused p x (atoms_at p l places) (normal r.body) ≡ true
+left_excused : (p : Program) (c : Parts) (x : List (Option Bool)) (k : ℕ) (s : List ℕ) (l : List Bool) (places : List ℕ) (r : Rule) (a : ℕ) →
+    IsSound p → AreCandidates p c x k s l → ((v : ℕ) → is_marked l v ≡ true → has places (v - 1) ≡ true) → AreStuck p x l places →
+    IsLeftAt p c x k l places a → Among (rules_in_force p) r → has (head_atoms r.head) a ≡ true →
+    is_excused p x (atoms_at p l places) (normal r.body) ≡ true
 left_excused p c x k s l places r a sound h listed stuck left m head =
     let v : ℕ = left.place + 1 in
-    let unfounded : is_founded p x (shown p (is_marked l)) (nth_atom p (v - 1)) ≡ false = and_false (is_marked l v) (is_founded p x (shown p (is_marked l)) (nth_atom p (v - 1))) (at_member (λ i. is_dropped p x l (i + 1) ≡ false) places left.place stuck left.there) left.marked in
+    let unfounded : is_founded p x (shown p (is_marked l)) (nth_atom p (v - 1)) ≡ false =
+    and_false (is_marked l v) (is_founded p x (shown p (is_marked l)) (nth_atom p (v - 1)))
+    (at_member (λ i. is_dropped p x l (i + 1) ≡ false) places left.place stuck left.there) left.marked in
     let none : is_founded p x (shown p (is_marked l)) a ≡ false = ap (is_founded p x (shown p (is_marked l))) (sym (atom_of_var p a v left.stands left.var)) ∙ unfounded in
     let b : Body = normal r.body in
     let test : Body → Bool = λ d. list_any (λ (s : Rule). has (head_atoms s.head) a && body_eq (normal s.body) d) (rules_in_force p) in
@@ -86,7 +95,9 @@ left_excused p c x k s l places r a sound h listed stuck left m head =
     let passes : test b ≡ true = m (λ s. has (head_atoms s.head) a && body_eq (normal s.body) b) (and_from (has (head_atoms r.head) a) (body_eq b b) head (body_eq-itself b)) in
     let supported : has (supports p a) (number_of_form p b) ≡ true = form_in p test b (bodies_of p) known passes in
     let excused : is_excused p x (shown p (is_marked l)) b ≡ true =
-    ap (is_excused p x (shown p (is_marked l))) (sym (form_at-number p b known)) ∙ not_false_true (is_excused p x (shown p (is_marked l)) (form_of p (number_of_form p b))) (none_of (λ w. not (is_excused p x (shown p (is_marked l)) (form_of p w))) (supports p a) (number_of_form p b) none supported) in
+    ap (is_excused p x (shown p (is_marked l))) (sym (form_at-number p b known))
+    ∙ not_false_true (is_excused p x (shown p (is_marked l)) (form_of p (number_of_form p b)))
+    (none_of (λ w. not (is_excused p x (shown p (is_marked l)) (form_of p w))) (supports p a) (number_of_form p b) none supported) in
     excused_more p x (shown p (is_marked l)) (atoms_at p l places) b within (form_weighted p r sound m) excused
   where
     within : IsSubset (shown p (is_marked l)) (atoms_at p l places)
@@ -96,7 +107,9 @@ left_excused p c x k s l places r a sound h listed stuck left m head =
         subst (λ (w : ℕ). has (atoms_at p l places) w ≡ true) (atom_of_var p d (var_of_atom p d) parts.1 refl)
         (to_atoms p l places (var_of_atom p d - 1) (listed (var_of_atom p d) parts.0) (ap (is_marked l) (omega (arith, some_)) ∙ parts.0))
 
-pub left_found : (p : Program) (c : Parts) (x : List (Option Bool)) (k : ℕ) (s : List ℕ) (l : List Bool) (places : List ℕ) (v : ℕ) → IsSound p → AreComponents p c → get_or c.trivial k false ≡ false → AreCandidates p c x k s l → ((u : ℕ) → is_marked l u ≡ true → has places (u - 1) ≡ true) → AreStuck p x l places → is_marked l v ≡ true → IsFound p x (atoms_at p l places) (nth_atom p (v - 1))
+pub left_found : (p : Program) (c : Parts) (x : List (Option Bool)) (k : ℕ) (s : List ℕ) (l : List Bool) (places : List ℕ) (v : ℕ) → IsSound p →
+    AreComponents p c → get_or c.trivial k false ≡ false → AreCandidates p c x k s l → ((u : ℕ) → is_marked l u ≡ true → has places (u - 1) ≡ true) →
+    AreStuck p x l places → is_marked l v ≡ true → IsFound p x (atoms_at p l places) (nth_atom p (v - 1))
 left_found p c x k s l places v sound are cyclic h listed stuck marked =
     let left : (a : ℕ) → has (atoms_at p l places) a ≡ true → IsLeftAt p c x k l places a = λ a e. atom_left p c x k s l places a h e in
     let some_ = (h.atoms v marked).0 in

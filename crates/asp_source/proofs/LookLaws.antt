@@ -78,10 +78,13 @@ each_weaker P Q f [] h = tt
 each_weaker P Q f (x ∷ xs) h = (f x h.0, each_weaker P Q f xs h.1)
 
 -- a set is unfounded if each rule for one of its atoms is excused
-pub unfounded_from : (p : Program) (x : List (Option Bool)) (U : Atoms) (a : ℕ) → has U a ≡ true → ((r : Rule) (b : ℕ) → Among (rules_in_force p) r → has (head_atoms r.head) b ≡ true → has U b ≡ true → is_excused p x U (normal r.body) ≡ true) → is_unfounded p x U ≡ true
+pub unfounded_from : (p : Program) (x : List (Option Bool)) (U : Atoms) (a : ℕ) → has U a ≡ true →
+    ((r : Rule) (b : ℕ) → Among (rules_in_force p) r → has (head_atoms r.head) b ≡ true → has U b ≡ true → is_excused p x U (normal r.body) ≡ true) →
+    is_unfounded p x U ≡ true
 unfounded_from p x U a member each =
     and_from (ltb 0 (length U)) (list_all (rule_excused p x U) (rules_in_force p)) (nonempty U a member)
-    (all_pass (rule_excused p x U) (rules_in_force p) (each_weaker (Among (rules_in_force p)) (λ r. rule_excused p x U r ≡ true) (λ r m. cases r m (list_any (has U) (head_atoms r.head)) refl) (rules_in_force p) (each_among (rules_in_force p))))
+    (all_pass (rule_excused p x U) (rules_in_force p) (each_weaker (Among (rules_in_force p)) (λ r. rule_excused p x U r ≡ true)
+    (λ r m. cases r m (list_any (has U) (head_atoms r.head)) refl) (rules_in_force p) (each_among (rules_in_force p))))
   where
     cases : (r : Rule) → Among (rules_in_force p) r → (t : Bool) → t ≡ list_any (has U) (head_atoms r.head) → rule_excused p x U r ≡ true
     cases r m false q = ap (λ t. not t || is_excused p x U (normal r.body)) (sym q)

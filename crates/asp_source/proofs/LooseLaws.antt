@@ -85,7 +85,8 @@ or_then : (a b : Bool) → a ≡ true → (not a || b) ≡ true → b ≡ true
 or_then true b e f = f
 or_then false b e f = absurd (false≢true e)
 
-pub rule_is_excused : (p : Program) (x : List (Option Bool)) (U : Atoms) (r : Rule) (a : ℕ) → is_unfounded p x U ≡ true → Among (rules_in_force p) r → has (head_atoms r.head) a ≡ true → has U a ≡ true → is_excused p x U (normal r.body) ≡ true
+pub rule_is_excused : (p : Program) (x : List (Option Bool)) (U : Atoms) (r : Rule) (a : ℕ) → is_unfounded p x U ≡ true → Among (rules_in_force p) r →
+    has (head_atoms r.head) a ≡ true → has U a ≡ true → is_excused p x U (normal r.body) ≡ true
 rule_is_excused p x U r a unfounded m head member =
     or_then (list_any (has U) (head_atoms r.head)) (is_excused p x U (normal r.body)) (any_of (has U) (head_atoms r.head) a head member)
     (all_among (rule_excused p x U) (rules_in_force p) r (and_parts (ltb 0 (length U)) (list_all (rule_excused p x U) (rules_in_force p)) unfounded).1 m)

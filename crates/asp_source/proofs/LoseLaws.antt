@@ -42,7 +42,9 @@ pub item_at : {X : Type 0} (xs ys : List X) (i : ℕ) (d e : X) → xs ≡ ys �
 item_at xs ys i d e is lt = sym (ap (λ zs. get_or zs i d) is) ∙ get_or-any xs i d e (omega (arith, ap length is, lt))
 
 -- one head more
-pub gone_more : (s t : List ℕ) (vs : List ℕ) (n body v : ℕ) → IsLess s t → 0 < body → ((i d : ℕ) → i < n → i < length vs → IsGone s body (get_or vs i d)) → IsGone t body v → ((d : ℕ) → n < length vs → get_or vs n d ≡ v) → (i d : ℕ) → i < n + 1 → i < length vs → IsGone t body (get_or vs i d)
+pub gone_more : (s t : List ℕ) (vs : List ℕ) (n body v : ℕ) → IsLess s t → 0 < body →
+    ((i d : ℕ) → i < n → i < length vs → IsGone s body (get_or vs i d)) → IsGone t body v → ((d : ℕ) → n < length vs → get_or vs n d ≡ v) →
+    (i d : ℕ) → i < n + 1 → i < length vs → IsGone t body (get_or vs i d)
 gone_more s t vs n body v less some_ before here at i d lt within = cases (eqb i n) refl
   where
     cases : (r : Bool) → r ≡ eqb i n → IsGone t body (get_or vs i d)
@@ -60,7 +62,9 @@ pub each_gone_less : (p : Program) (s t : List ℕ) (os : List Occurrence) → I
 each_gone_less p s t os less gone i o lt = are_gone_less p s t (get_or os i o).body less (gone i o lt)
 
 -- one body more
-pub body_more : (p : Program) (s t : List ℕ) (os : List Occurrence) (n : ℕ) (o : Occurrence) → IsLess s t → ((i : ℕ) (d : Occurrence) → i < n → i < length os → IsGoneAt p s (get_or os i d)) → AreGone p t o.body → ((d : Occurrence) → n < length os → get_or os n d ≡ o) → (i : ℕ) (d : Occurrence) → i < n + 1 → i < length os → IsGoneAt p t (get_or os i d)
+pub body_more : (p : Program) (s t : List ℕ) (os : List Occurrence) (n : ℕ) (o : Occurrence) → IsLess s t →
+    ((i : ℕ) (d : Occurrence) → i < n → i < length os → IsGoneAt p s (get_or os i d)) → AreGone p t o.body →
+    ((d : Occurrence) → n < length os → get_or os n d ≡ o) → (i : ℕ) (d : Occurrence) → i < n + 1 → i < length os → IsGoneAt p t (get_or os i d)
 body_more p s t os n o less before here at i d lt within =
     below_more (λ k. (d : Occurrence) → k < length os → IsGoneAt p t (get_or os k d)) n
     (λ k low d inside. are_gone_less p s t (get_or os k d).body less (before k d low inside))

@@ -107,7 +107,8 @@ supports_set p s v b lt by h w at nz = supported (eqb w v) refl
         ap (has (supports p (nth_atom p (w - 1)))) same ∙ h w at (λ z. nz (same ∙ z))
 
 -- ---- what a source is excused for
-pub firm_fewer : (p : Program) (x : List (Option Bool)) (U V : Atoms) (a s : ℕ) → IsSound p → has (supports p a) s ≡ true → IsSubset U V → is_excused p x V (form_of p s) ≡ false → is_excused p x U (form_of p s) ≡ false
+pub firm_fewer : (p : Program) (x : List (Option Bool)) (U V : Atoms) (a s : ℕ) → IsSound p → has (supports p a) s ≡ true → IsSubset U V →
+    is_excused p x V (form_of p s) ≡ false → is_excused p x U (form_of p s) ≡ false
 firm_fewer p x U V a s sound supported sub e =
     false_from (is_excused p x V (form_of p s)) (is_excused p x U (form_of p s)) (excused_more p x U V (form_of p s) sub (source_weighted p a s sound supported)) e
 
@@ -141,7 +142,8 @@ above_from c ranks q k rank v at h =
     to_leb : (a b : ℕ) → a ≤ b → leb a b ≡ true
     to_leb a b h = grind (arith, nat_tests)
 
-pub above_more : (c : Parts) (ranks : List ℕ) (q r : ℕ → Bool) (k rank : ℕ) → ((v : ℕ) → get_or c.numbers v 0 ≡ k → q v ≡ true → r v ≡ true) → (v : ℕ) → is_above c ranks q k rank v ≡ true → is_above c ranks r k rank v ≡ true
+pub above_more : (c : Parts) (ranks : List ℕ) (q r : ℕ → Bool) (k rank : ℕ) → ((v : ℕ) → get_or c.numbers v 0 ≡ k → q v ≡ true → r v ≡ true) →
+    (v : ℕ) → is_above c ranks q k rank v ≡ true → is_above c ranks r k rank v ≡ true
 above_more c ranks q r k rank h v e =
     let parts = above_parts c ranks q k rank v e in
     above_from c ranks r k rank v parts.0 (elim parts.1 [
@@ -155,11 +157,15 @@ ranked_less p c x ranks q old new less g a stands nz =
     let e = kept_source old new (var_of_atom p a) less nz in
     ap (λ s. is_excused p x (above p c ranks q a) (form_of p s)) e ∙ g a stands (λ z. nz (e ∙ z))
 
-pub ranked_values : (p : Program) (c : Parts) (x y : List (Option Bool)) (ranks : List ℕ) (q : ℕ → Bool) (sources : List ℕ) → ((U : Atoms) (a : ℕ) → Stands p a → source_of p sources a ≢ 0 → is_excused p y U (form_of p (source_of p sources a)) ≡ true → is_excused p x U (form_of p (source_of p sources a)) ≡ true) → AreRanked p c x ranks q sources → AreRanked p c y ranks q sources
+pub ranked_values : (p : Program) (c : Parts) (x y : List (Option Bool)) (ranks : List ℕ) (q : ℕ → Bool) (sources : List ℕ) →
+    ((U : Atoms) (a : ℕ) → Stands p a → source_of p sources a ≢ 0 → is_excused p y U (form_of p (source_of p sources a)) ≡ true →
+    is_excused p x U (form_of p (source_of p sources a)) ≡ true) → AreRanked p c x ranks q sources → AreRanked p c y ranks q sources
 ranked_values p c x y ranks q sources back g a stands nz =
-    false_from (is_excused p x (above p c ranks q a) (form_of p (source_of p sources a))) (is_excused p y (above p c ranks q a) (form_of p (source_of p sources a))) (back (above p c ranks q a) a stands nz) (g a stands nz)
+    false_from (is_excused p x (above p c ranks q a) (form_of p (source_of p sources a)))
+    (is_excused p y (above p c ranks q a) (form_of p (source_of p sources a))) (back (above p c ranks q a) a stands nz) (g a stands nz)
 
-pub ranked_fewer : (p : Program) (c : Parts) (x : List (Option Bool)) (ranks : List ℕ) (q r : ℕ → Bool) (sources : List ℕ) → IsSound p → AreSupports p sources → ((v : ℕ) → r v ≡ true → q v ≡ true) → AreRanked p c x ranks q sources → AreRanked p c x ranks r sources
+pub ranked_fewer : (p : Program) (c : Parts) (x : List (Option Bool)) (ranks : List ℕ) (q r : ℕ → Bool) (sources : List ℕ) → IsSound p →
+    AreSupports p sources → ((v : ℕ) → r v ≡ true → q v ≡ true) → AreRanked p c x ranks q sources → AreRanked p c x ranks r sources
 ranked_fewer p c x ranks q r sources sound supported h g a stands nz =
     let k : ℕ = get_or c.numbers (var_of_atom p a) 0 in
     let rank : ℕ = get_or ranks (var_of_atom p a) 0 in
@@ -168,7 +174,9 @@ ranked_fewer p c x ranks q r sources sound supported h g a stands nz =
 
 -- ---- an atom gets a source
 -- from below
-pub ranked_set : (p : Program) (c : Parts) (x : List (Option Bool)) (ranks : List ℕ) (q : ℕ → Bool) (sources : List ℕ) (v b : ℕ) → v < length sources → is_excused p x (shown p (is_above c ranks q (get_or c.numbers v 0) (get_or ranks v 0))) (form_of p b) ≡ false → AreRanked p c x ranks q sources → AreRanked p c x ranks q (set sources v b)
+pub ranked_set : (p : Program) (c : Parts) (x : List (Option Bool)) (ranks : List ℕ) (q : ℕ → Bool) (sources : List ℕ) (v b : ℕ) →
+    v < length sources → is_excused p x (shown p (is_above c ranks q (get_or c.numbers v 0) (get_or ranks v 0))) (form_of p b) ≡ false →
+    AreRanked p c x ranks q sources → AreRanked p c x ranks q (set sources v b)
 ranked_set p c x ranks q sources v b lt firm g a stands nz = cases (eqb (var_of_atom p a) v) refl
   where
     cases : (t : Bool) → t ≡ eqb (var_of_atom p a) v → is_excused p x (above p c ranks q a) (form_of p (source_of p (set sources v b) a)) ≡ false
@@ -181,7 +189,10 @@ ranked_set p c x ranks q sources v b lt firm g a stands nz = cases (eqb (var_of_
         ap (λ s. is_excused p x (above p c ranks q a) (form_of p s)) same ∙ g a stands (λ z. nz (same ∙ z))
 
 -- from outside of the candidates, above all others
-pub ranked_raised : (p : Program) (c : Parts) (x : List (Option Bool)) (ranks : List ℕ) (clock : ℕ) (loose : List Bool) (sources : List ℕ) (v b : ℕ) → IsSound p → v < length sources → v < length ranks → IsRanking ranks clock → is_marked loose v ≡ true → IsFoundBy p x (is_marked loose) v b → AreSupports p sources → AreRanked p c x ranks (is_marked loose) sources → AreRanked p c x (set ranks v clock) (is_marked (set loose v false)) (set sources v b)
+pub ranked_raised : (p : Program) (c : Parts) (x : List (Option Bool)) (ranks : List ℕ) (clock : ℕ) (loose : List Bool) (sources : List ℕ) (v b : ℕ) →
+    IsSound p → v < length sources → v < length ranks → IsRanking ranks clock → is_marked loose v ≡ true → IsFoundBy p x (is_marked loose) v b →
+    AreSupports p sources → AreRanked p c x ranks (is_marked loose) sources →
+    AreRanked p c x (set ranks v clock) (is_marked (set loose v false)) (set sources v b)
 ranked_raised p c x ranks clock loose sources v b sound lt within ranking marked by supported g a stands nz = cases (eqb (var_of_atom p a) v) refl
   where
     new : List ℕ
@@ -232,7 +243,8 @@ ranked_raised p c x ranks clock loose sources v b sound lt within ranking marked
         let was : source_of p sources a ≢ 0 = λ z. nz (same ∙ z) in
         ap (λ s. is_excused p x (above p c new left a) (form_of p s)) same
         ∙ firm_fewer p x (above p c new left a) (above p c ranks (is_marked loose) a) a (source_of p sources a) sound (support_at p sources a supported stands was)
-        (shown_more p (is_above c new left k rank) (is_above c ranks (is_marked loose) k (get_or ranks (var_of_atom p a) 0)) (was_above (get_or-set_other ranks v (var_of_atom p a) clock 0 ne))) (g a stands was)
+        (shown_more p (is_above c new left k rank) (is_above c ranks (is_marked loose) k (get_or ranks (var_of_atom p a) 0))
+        (was_above (get_or-set_other ranks v (var_of_atom p a) clock 0 ne))) (g a stands was)
 
 -- ---- where no atom is queued
 -- one of the lowest rank, among one more
@@ -273,7 +285,9 @@ lowest f (u ∷ []) a e = (
 )
 lowest f (u ∷ w ∷ W) a e = lower f u (w ∷ W) (lowest f (w ∷ W) w (or_left (eqb w w) (has W w) (eq-eqb w w refl)))
 
-pub none_unfounded : (p : Program) (c : Parts) (x : List (Option Bool)) (sources ranks : List ℕ) (queue : List Bool) → IsSound p → AreComponents p c → AreSupports p sources → AreRanked p c x ranks (is_marked []) sources → AreSought p c x sources queue [] → ((k : ℕ) → is_marked queue k ≡ false) → (U : Atoms) → IsUnfoundedLoop p x U → ⊥
+pub none_unfounded : (p : Program) (c : Parts) (x : List (Option Bool)) (sources ranks : List ℕ) (queue : List Bool) → IsSound p → AreComponents p c →
+    AreSupports p sources → AreRanked p c x ranks (is_marked []) sources → AreSought p c x sources queue [] → ((k : ℕ) → is_marked queue k ≡ false) →
+    (U : Atoms) → IsUnfoundedLoop p x U → ⊥
 none_unfounded p c x sources ranks queue sound are supported g sought empty U loop =
     let first = some_member p x U loop.unfounded in
     let sourced : (a : ℕ) → has U a ≡ true → source_of p sources a ≢ 0 = λ a m z.
@@ -285,7 +299,9 @@ none_unfounded p c x sources ranks queue sound are supported g sought empty U lo
     let b : ℕ = low.0 in
     let q : ℕ → Bool = is_above c ranks (is_marked []) (get_or c.numbers (var_of_atom p b) 0) (get_or ranks (var_of_atom p b) 0) in
     let sub : IsSubset U (shown p q) = λ a m.
-    shown_from p q a (above_from c ranks (is_marked []) (get_or c.numbers (var_of_atom p b) 0) (get_or ranks (var_of_atom p b) 0) (var_of_atom p a) ((are.same a b (loop.stand a m) (loop.stand b low.1)).1 (loop.joined a b m low.1)) (inr (low.2 a m))) (loop.stand a m) in
+    shown_from p q a (above_from c ranks (is_marked []) (get_or c.numbers (var_of_atom p b) 0) (get_or ranks (var_of_atom p b) 0) (var_of_atom p a)
+    ((are.same a b (loop.stand a m) (loop.stand b low.1)).1 (loop.joined a b m low.1)) (inr (low.2 a m))) (loop.stand a m) in
     founded_out p x (shown p q) U b sound
-    (any_of (λ w. not (is_excused p x (shown p q) (form_of p w))) (supports p b) (source_of p sources b) (support_at p sources b supported (loop.stand b low.1) (sourced b low.1)) (ap not (g b (loop.stand b low.1) (sourced b low.1))))
+    (any_of (λ w. not (is_excused p x (shown p q) (form_of p w))) (supports p b) (source_of p sources b)
+    (support_at p sources b supported (loop.stand b low.1) (sourced b low.1)) (ap not (g b (loop.stand b low.1) (sourced b low.1))))
     loop.unfounded sub low.1

@@ -27,5 +27,6 @@ remembered_stand p r h i d lt =
     (h (get_or r.set i d) member).loop.stand (get_or r.set i d) member
 
 -- its reason has values
-pub reason_valued : (p : Program) (x : List (Option Bool)) (reason : List Literal) → length x ≡ var_count p + 1 → All (λ (l : Literal). IsVar (var_count p) l.var) reason → All (λ (l : Literal). l.var < length x) reason
+pub reason_valued : (p : Program) (x : List (Option Bool)) (reason : List Literal) → length x ≡ var_count p + 1 →
+    All (λ (l : Literal). IsVar (var_count p) l.var) reason → All (λ (l : Literal). l.var < length x) reason
 reason_valued p x reason size h = All-weaker (λ (l : Literal). IsVar (var_count p) l.var) (λ (l : Literal). l.var < length x) (λ l v. let small = v.1 in omega (arith, small, size)) reason h

@@ -36,7 +36,8 @@ any_inside U V (l ∷ ls) h e = elim (either (is_inside U l) (list_any (is_insid
   | inr q ↦ or_right (is_inside V l) (list_any (is_inside V) ls) (any_inside U V ls h.1 q)
 ]
 
-outside_less : (p : Program) (x : List (Option Bool)) (U V : Atoms) (items : List (ℤ × ℤ)) → AreItems items → AllByRecursion (λ (i : ℤ × ℤ). is_inside U i.0 ≡ true → is_inside V i.0 ≡ true) items → outside_weight p x V items ≤ℤ outside_weight p x U items
+outside_less : (p : Program) (x : List (Option Bool)) (U V : Atoms) (items : List (ℤ × ℤ)) → AreItems items →
+    AllByRecursion (λ (i : ℤ × ℤ). is_inside U i.0 ≡ true → is_inside V i.0 ≡ true) items → outside_weight p x V items ≤ℤ outside_weight p x U items
 outside_less p x U V [] w h = omega (arith, ints)
 outside_less p x U V (i ∷ items) w h =
     let a = one (is_false p x i.0) (is_inside U i.0) (is_inside V i.0) h.0 in
@@ -78,10 +79,13 @@ each_then P Q f (x ∷ xs) h = (f x h.0, each_then P Q f xs h.1)
 
 needs_within : (p : Program) (x : List (Option Bool)) (U V : Atoms) (b : Body) → IsWithin p b U V → AreItems (form_items b) → needs p x U b ≡ true → needs p x V b ≡ true
 needs_within p x U V (body.All ls) within w e =
-    any_inside U V ls (each_then (λ l. has_literal (map (literal_of p) ls) (literal_of p l) ≡ true) (λ l. is_inside U l ≡ true → is_inside V l ≡ true) (λ l there. one_inside p (body.All ls) U V l within there) ls (each_literal p ls)) e
+    any_inside U V ls (each_then (λ l. has_literal (map (literal_of p) ls) (literal_of p l) ≡ true) (λ l. is_inside U l ≡ true → is_inside V l ≡ true)
+    (λ l there. one_inside p (body.All ls) U V l within there) ls (each_literal p ls)) e
 needs_within p x U V (body.AtLeast c items) within w e =
     lighter c (outside_weight p x V items) (outside_weight p x U items)
-    (outside_less p x U V items w (each_then (λ (i : ℤ × ℤ). has_literal (map (λ j. literal_of p j.0) items) (literal_of p i.0) ≡ true) (λ (i : ℤ × ℤ). is_inside U i.0 ≡ true → is_inside V i.0 ≡ true) (λ i there. one_inside p (body.AtLeast c items) U V i.0 within there) items (each_item p items))) e
+    (outside_less p x U V items w (each_then (λ (i : ℤ × ℤ). has_literal (map (λ j. literal_of p j.0) items) (literal_of p i.0) ≡ true)
+    (λ (i : ℤ × ℤ). is_inside U i.0 ≡ true → is_inside V i.0 ≡ true) (λ i there. one_inside p (body.AtLeast c items) U V i.0 within there)
+    items (each_item p items))) e
 
 pub excused_within : (p : Program) (x : List (Option Bool)) (U V : Atoms) (b : Body) → IsWithin p b U V → AreItems (form_items b) → is_excused p x U b ≡ true → is_excused p x V b ≡ true
 excused_within p x U V b within w e = elim (either (holds_in x (complement (literal_of_form p b))) (needs p x U b) e) [

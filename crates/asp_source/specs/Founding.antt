@@ -29,10 +29,13 @@ pub record HaveRoom (p : Program) (x : List (Option Bool)) (sources : List ℕ) 
 -- Candidates get sources, one after another, each a body that isn't excused for those that are candidates then.
 pub data GetSources (p : Program) (x : List (Option Bool)) (sources : List ℕ) (ranks : Ranking) (loose : List Bool) : List ℕ → Ranking → List Bool → Type 0 where
   gets_none : GetSources p x sources ranks loose sources ranks loose
-  gets_one : {s : List ℕ} {r : Ranking} {l : List Bool} {v b : ℕ} → GetSources p x sources ranks loose s r l → IsAtomVar p v → is_marked l v ≡ true → IsFoundBy p x (is_marked l) v b → IsRanking r.ranks r.clock → GetSources p x sources ranks loose (slice_set s v b) (raised r v) (slice_set l v false)
+  gets_one : {s : List ℕ} {r : Ranking} {l : List Bool} {v b : ℕ} → GetSources p x sources ranks loose s r l → IsAtomVar p v → is_marked l v ≡ true →
+      IsFoundBy p x (is_marked l) v b → IsRanking r.ranks r.clock →
+      GetSources p x sources ranks loose (slice_set s v b) (raised r v) (slice_set l v false)
 
 -- They do so, and wait for it, no more than get one. The clock ticks no more than that either.
-pub record Founds (p : Program) (x : List (Option Bool)) (sources : List ℕ) (ranks : Ranking) (loose waiting : List Bool) (sources_then : List ℕ) (ranks_then : Ranking) (loose_then waiting_then : List Bool) : Type 0 where
+pub record Founds (p : Program) (x : List (Option Bool)) (sources : List ℕ) (ranks : Ranking) (loose waiting : List Bool) (sources_then : List ℕ)
+    (ranks_then : Ranking) (loose_then waiting_then : List Bool) : Type 0 where
   pub gets : GetSources p x sources ranks loose sources_then ranks_then loose_then
   pub size : length sources_then ≡ length sources
   pub rank_room : length ranks_then.ranks ≡ length ranks.ranks

@@ -64,13 +64,15 @@ AreReleased p c x k ranks sources loose waiting j =
     All (IsReleased p c x k ranks sources loose waiting (length (atoms_of p) + 1 + j)) (heads_of p (nth_body p j))
 
 -- Some sources go or change, and candidates come: what was so of the gathering is so still.
-pub record Steps (p : Program) (c : Parts) (x : List (Option Bool)) (k : ℕ) (ranks : List ℕ) (busy : ℕ) (sources : List ℕ) (loose waiting : List Bool) (sources_then : List ℕ) (loose_then waiting_then joined_then : List Bool) : Type 0 where
+pub record Steps (p : Program) (c : Parts) (x : List (Option Bool)) (k : ℕ) (ranks : List ℕ) (busy : ℕ) (sources : List ℕ) (loose waiting : List Bool)
+    (sources_then : List ℕ) (loose_then waiting_then joined_then : List Bool) : Type 0 where
   pub gathering : IsGathering p c x k ranks busy sources_then loose_then waiting_then joined_then
   pub gathers : Gathers x sources loose waiting sources_then loose_then waiting_then
   pub keeps : Keeps p c x k ranks sources loose waiting sources_then loose_then waiting_then
 
 -- An atom without source has one again, or is a candidate, or is false.
-pub record Admits (p : Program) (c : Parts) (x : List (Option Bool)) (k : ℕ) (ranks : List ℕ) (busy v : ℕ) (sources : List ℕ) (loose waiting : List Bool) (sources_then : List ℕ) (loose_then waiting_then joined_then : List Bool) : Type 0 where
+pub record Admits (p : Program) (c : Parts) (x : List (Option Bool)) (k : ℕ) (ranks : List ℕ) (busy v : ℕ) (sources : List ℕ)
+    (loose waiting : List Bool) (sources_then : List ℕ) (loose_then waiting_then joined_then : List Bool) : Type 0 where
   pub steps : Steps p c x k ranks busy sources loose waiting sources_then loose_then waiting_then joined_then
   pub clear : (b : ℕ) → 0 < b → IsReleased p c x k ranks sources_then loose_then waiting_then b v
   pub admitted : slice_index sources_then v ≡ 0 → holds_in x (F v) ≡ false → is_marked loose_then v ≡ true

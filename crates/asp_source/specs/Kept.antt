@@ -14,7 +14,8 @@ use Rattle.asp_source.specs.Rest.{Rest, IsRemembered}
 use Rattle.asp_source.specs.Pointers.{ArePointers}
 use Rattle.asp_source.specs.Pointers.{AreNormal}
 
-pub record IsKept (p : Program) (c : Parts) (x : List (Option Bool)) (sources ranks : List ℕ) (queue : List Bool) (tight weighted : Bool) (loose waiting joined : List Bool) (rest : Rest) : Type 0 where
+pub record IsKept (p : Program) (c : Parts) (x : List (Option Bool)) (sources ranks : List ℕ) (queue : List Bool) (tight weighted : Bool)
+    (loose waiting joined : List Bool) (rest : Rest) : Type 0 where
   pub components : AreComponents p c
   pub sized : length x ≡ var_count p + 1
   pub first : value_of x 0 ≡ None

@@ -27,7 +27,8 @@ none_best p (cube ∷ cubes) (None ∷ bests) h none =
 none_best p (cube ∷ cubes) (Some best ∷ bests) h none = absurd (false≢true (sym (All-head (λ (o : Option (Atoms × List ℤ)). is_better o None ≡ false) (Some best) bests none)))
 
 -- ---- one of them is an answer, with its cost
-one_best : (p : Program) (cubes : List (List ℤ)) (bests : List (Option (Atoms × List ℤ))) (best : Atoms × List ℤ) (k : ℕ) → AreBests p cubes bests → k < length bests → get_or bests k (Some best) ≡ Some best →
+one_best : (p : Program) (cubes : List (List ℤ)) (bests : List (Option (Atoms × List ℤ))) (best : Atoms × List ℤ) (k : ℕ) → AreBests p cubes bests →
+    k < length bests → get_or bests k (Some best) ≡ Some best →
     Contains (answers_of_parts p cubes) best.0 × (best.1 ≡ cost p best.0)
 one_best p [] [] best k h lt e = absurd (omega (arith, lt))
 one_best p (cube ∷ cubes) [] best k h lt e = absurd h
@@ -57,7 +58,8 @@ all_least p (cube ∷ cubes) (other ∷ bests) best h worse =
     (part_least p cube other best h.0 (All-head (λ (o : Option (Atoms × List ℤ)). is_better o (Some best) ≡ false) other bests worse))
     (all_least p cubes bests best h.1 (All-tail (λ (o : Option (Atoms × List ℤ)). is_better o (Some best) ≡ false) other bests worse))
 
-pub best_of_bests : (p : Program) (cubes : List (List ℤ)) (bests : List (Option (Atoms × List ℤ))) (best : Option (Atoms × List ℤ)) → answers_of_parts p cubes ≡ answers p → AreBests p cubes bests → Contains bests best →
+pub best_of_bests : (p : Program) (cubes : List (List ℤ)) (bests : List (Option (Atoms × List ℤ))) (best : Option (Atoms × List ℤ)) →
+    answers_of_parts p cubes ≡ answers p → AreBests p cubes bests → Contains bests best →
     All (λ other. is_better other best ≡ false) bests → IsBest p best
 best_of_bests p cubes bests None parts h has worse = sym parts ∙ none_best p cubes bests h worse
 best_of_bests p cubes bests (Some best) parts h has worse =

@@ -31,7 +31,8 @@ placed_one p old new cube leaf e same is = record {
 pub sets-append : (p : Program) (xs ys : List Leaf) → sets_of p (xs ++ ys) ≡ sets_of p xs ++ sets_of p ys
 sets-append p xs ys = flat_map-append (λ (leaf : Leaf). part p leaf.cube) xs ys
 
-pub placed_two : (p : Program) (old mid new : List Leaf) (cube lacking having : List ℤ) → IsPlaced p old mid lacking → IsPlaced p mid new having → part p lacking ++ part p having ≡ part p cube → IsPlaced p old new cube
+pub placed_two : (p : Program) (old mid new : List Leaf) (cube lacking having : List ℤ) → IsPlaced p old mid lacking → IsPlaced p mid new having →
+    part p lacking ++ part p having ≡ part p cube → IsPlaced p old new cube
 placed_two p old mid new cube lacking having first second halves = record {
   added = first.added ++ second.added;
   is = second.is ∙ (ap (λ (ls : List Leaf). ls ++ second.added) first.is ∙ append_assoc old first.added second.added);
@@ -42,7 +43,8 @@ placed_two p old mid new cube lacking having first second halves = record {
 }
 
 -- ---- a leaf gives way to what is put after the leaves before it
-pub parted_pass : (p : Program) (all done new rest : List Leaf) (leaf : Leaf) (parts : ℕ) → IsParted p all (done ++ leaf ∷ rest) parts → IsPlaced p done new leaf.cube → length new + length rest ≤ parts → IsParted p all (new ++ rest) parts
+pub parted_pass : (p : Program) (all done new rest : List Leaf) (leaf : Leaf) (parts : ℕ) → IsParted p all (done ++ leaf ∷ rest) parts →
+    IsPlaced p done new leaf.cube → length new + length rest ≤ parts → IsParted p all (new ++ rest) parts
 parted_pass p all done new rest leaf parts h placed few = record {
   leaves =
       each-append (IsLeaf p) new rest
@@ -94,7 +96,8 @@ without-stands p cube a s h = each-append (λ l. has (atoms_of p) (atom_of l) �
 pub in_range : (a : ℕ) → is_atom a ≡ true → a < 2 ^ 31
 in_range a h = ltb-true a (2 ^ 31) (and_parts (nat_lt 0 a) (nat_lt a (2 ^ 31)) h).1
 
-pub divided : (p : Program) (old mid new : List Leaf) (cube : List ℤ) (atom : ℕ) (lacking having : List ℤ) → Divides p cube atom → lacking ≡ cube ++ neg_ℤ (pos atom) ∷ [] → having ≡ cube ++ pos atom ∷ [] →
+pub divided : (p : Program) (old mid new : List Leaf) (cube : List ℤ) (atom : ℕ) (lacking having : List ℤ) → Divides p cube atom →
+    lacking ≡ cube ++ neg_ℤ (pos atom) ∷ [] → having ≡ cube ++ pos atom ∷ [] →
     IsPlaced p old mid lacking → IsPlaced p mid new having → IsPlaced p old new cube
 divided p old mid new cube atom lacking having divides lacks has_it first second =
     placed_two p old mid new cube lacking having first second

@@ -108,7 +108,8 @@ prober_same p t u program bound slots h = record {
       (subst (λ (xs : List (Option StoredNogood)). KeepsSettled t.program [] None (nogood_at xs)) (sym slots) h.settled);
 }
 
-pub prober_adds : (p : Program) (t u : SearchView) (gives : Nogood → Type 0) → u.program ≡ t.program → u.bound ≡ t.bound → ((n : Nogood) → gives n → IsUseful t.program [] t.bound n) → Adds gives t.slots u.slots →
+pub prober_adds : (p : Program) (t u : SearchView) (gives : Nogood → Type 0) → u.program ≡ t.program → u.bound ≡ t.bound →
+    ((n : Nogood) → gives n → IsUseful t.program [] t.bound n) → Adds gives t.slots u.slots →
     IsProber p t → IsProber p u
 prober_adds p t u gives program bound useful adds h = record {
   program = h.program ∙ sym program;
@@ -127,7 +128,8 @@ prober_begins p t sound program bound alone = record {
 }
 
 -- the reasons of the entries are settled
-pub reasons_settled : (p : Program) (u : SearchView) (late : Nogood → Type 0) → ((n : Nogood) → late n → IsUseful u.program [] u.bound n) → IsProber p u → AreImpliedBy (IsAtHand late u.slots) u.entries →
+pub reasons_settled : (p : Program) (u : SearchView) (late : Nogood → Type 0) → ((n : Nogood) → late n → IsUseful u.program [] u.bound n) →
+    IsProber p u → AreImpliedBy (IsAtHand late u.slots) u.entries →
     AreSettled u.program [] None u.entries
 reasons_settled p u late useful h r = implied_weaker (IsAtHand late u.slots) (λ n. Settled u.program [] None n.lits) u.entries each r
   where
@@ -135,7 +137,8 @@ reasons_settled p u late useful h r = implied_weaker (IsAtHand late u.slots) (λ
     each n (inl k) = h.settled k.0 n k.1
     each n (inr l) = subst (λ (b : Option (List ℤ)). Settled u.program [] b n.lits) h.unbounded (useful_settles u.program [] u.bound n (useful n l))
 
-pub followed : (p : Program) (u : SearchView) (lits : List Literal) (violated : Option ℕ) → IsProber p u → IsOrdered (var_count u.program) u.entries → AreSettled u.program [] None u.entries → AreStarts lits u.decisions u.entries →
+pub followed : (p : Program) (u : SearchView) (lits : List Literal) (violated : Option ℕ) → IsProber p u → IsOrdered (var_count u.program) u.entries →
+    AreSettled u.program [] None u.entries → AreStarts lits u.decisions u.entries →
     level u.entries ≡ 0 → IfSome violated (IsViolated (var_count u.program) u.slots u.entries) → Follows p u lits (is_none violated)
 followed p u lits None h ordered reasons starts low v =
     subst (λ (q : Program). Follow q lits (values_of u)) (sym h.program) (trail_follows u.program u.slots lits u.decisions u.entries ordered reasons h.settled starts low)

@@ -54,7 +54,8 @@ in_two {X} q (x ∷ xs) h = cases (q x) refl (in_two q xs (pairs_rest (λ x y. q
 part-more : (p : Program) (cube : List ℤ) (l : ℤ) (q : Atoms → Bool) → ((S : Atoms) → holds S l ≡ q S) → part p (cube ++ l ∷ []) ≡ filter q (part p cube)
 part-more p cube l q same =
     filter_both (λ S. all_hold S (p.assumptions ++ cube)) q (λ S. all_hold S (p.assumptions ++ (cube ++ l ∷ []))) (models p)
-    (λ S. ap (all_hold S) (sym (append_assoc p.assumptions cube (l ∷ []))) ∙ list_all-append (holds S) (p.assumptions ++ cube) (l ∷ []) ∙ ap (λ b. all_hold S (p.assumptions ++ cube) && b) (and_true (holds S l) ∙ same S))
+    (λ S. ap (all_hold S) (sym (append_assoc p.assumptions cube (l ∷ []))) ∙ list_all-append (holds S) (p.assumptions ++ cube) (l ∷ [])
+    ∙ ap (λ b. all_hold S (p.assumptions ++ cube) && b) (and_true (holds S l) ∙ same S))
   where
     and_true : (b : Bool) → (b && true) ≡ b
     and_true true = refl
@@ -71,7 +72,8 @@ later_has Ss a S T agree s t before h = cases (cases_lt before.0 a) (cases_lt a 
         let same : before.0 ≡ a = omega (arith, ge, le) in
         absurd (false≢true (sym before.2 ∙ ap (has S) same ∙ h))
 
-pub part-halves : (p : Program) (cube : List ℤ) (a : ℕ) (without with_it : ℤ) → AgreeBelow (part p cube) a → ((S : Atoms) → holds S without ≡ not (has S a)) → ((S : Atoms) → holds S with_it ≡ has S a) →
+pub part-halves : (p : Program) (cube : List ℤ) (a : ℕ) (without with_it : ℤ) → AgreeBelow (part p cube) a →
+    ((S : Atoms) → holds S without ≡ not (has S a)) → ((S : Atoms) → holds S with_it ≡ has S a) →
     part p (cube ++ without ∷ []) ++ part p (cube ++ with_it ∷ []) ≡ part p cube
 part-halves p cube a without with_it agree lacks has_it =
     ap (λ (Ss : List Atoms). Ss ++ part p (cube ++ with_it ∷ [])) (part-more p cube without (λ S. not (has S a)) lacks)

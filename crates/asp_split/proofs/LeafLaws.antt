@@ -73,7 +73,8 @@ may_divide : (p : Program) (cube : List ℤ) (a : List (Option Bool)) (next : Op
 may_divide p cube a None stand follow open_ = tt
 may_divide p cube a (Some atom) stand follow open_ = record { stands = open_.stands; ranges = open_.ranges; agree = agree p cube a atom stand follow open_ }
 
-pub leaf-is : (p : Program) (cube : List ℤ) (a : List (Option Bool)) (leaf : Leaf) → AreStanding p cube → Follow p (literals_of p cube) a → leaf.cube ≡ cube → IfSome leaf.next (IsLeastOpen p a) → IsProbed p cube (Some leaf)
+pub leaf-is : (p : Program) (cube : List ℤ) (a : List (Option Bool)) (leaf : Leaf) → AreStanding p cube → Follow p (literals_of p cube) a →
+    leaf.cube ≡ cube → IfSome leaf.next (IsLeastOpen p a) → IsProbed p cube (Some leaf)
 leaf-is p cube a leaf stand follow same open_ = (
   same,
   record {

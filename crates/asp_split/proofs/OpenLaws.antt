@@ -33,7 +33,8 @@ place_below xs b i up h lt less = cases (cases_lt (place_of (λ c. eqb c b) xs) 
     cases (inl p) = p
     cases (inr ge) = absurd (omega (arith, less, at_place xs b h, get_or-ascending xs i (place_of (λ c. eqb c b) xs) up ge (place_of-within (λ c. eqb c b) xs h)))
 
-pub least_open-is : (p : Program) (a : List (Option Bool)) (v : ℕ) (r : Option ℕ) → IsSound p → 0 < v → v ≤ length (atoms_of p) → ((w : ℕ) → 0 < w → w < v → IsSome (value_of a w)) → r ≡ find_atom p v →
+pub least_open-is : (p : Program) (a : List (Option Bool)) (v : ℕ) (r : Option ℕ) → IsSound p → 0 < v → v ≤ length (atoms_of p) →
+    ((w : ℕ) → 0 < w → w < v → IsSome (value_of a w)) → r ≡ find_atom p v →
     IfSome r (IsLeastOpen p a)
 least_open-is p a v None sound some within decided e = tt
 least_open-is p a v (Some x) sound some within decided e =

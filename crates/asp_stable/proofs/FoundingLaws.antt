@@ -45,21 +45,27 @@ pub atom_var : (p : Program) (a : ℕ) → has (atoms_of p) a ≡ true → IsAto
 atom_var p a e = let h = place_of-within (λ b. eqb b a) (atoms_of p) e in (omega arith, omega (arith, h))
 
 -- ---- heads of a body
-in_heads : (p : Program) (b : Body) (a : ℕ) → has (atoms_of p) a ≡ true → has (heads_of p b) (var_of_atom p a) ≡ true → (r : Rule) × Among (rules_in_force p) r × ((normal r.body ≡ b) × (has (head_atoms r.head) a ≡ true))
+in_heads : (p : Program) (b : Body) (a : ℕ) → has (atoms_of p) a ≡ true → has (heads_of p b) (var_of_atom p a) ≡ true → (r : Rule) ×
+    Among (rules_in_force p) r × ((normal r.body ≡ b) × (has (head_atoms r.head) a ≡ true))
 in_heads p b a stands e =
     let f : Rule → List ℕ = λ r. cond (body_eq (normal r.body) b) (head_atoms r.head) [] in
     let heads : List ℕ = flat_map f (rules_in_force p) in
     let found = in_map (λ c. has heads c ≡ true) (var_of_atom p) heads (var_of_atom p a) (members heads) e in
-    let rule = some (λ r. Among (rules_in_force p) r × HasAll (atoms_of p) (head_atoms r.head)) (λ r. has (f r) found.0) (rules_in_force p) (both (rules_in_force p) (each_among (rules_in_force p)) (rules_in_force-heads p)) (sym (list_any-flat_map (λ c. eqb c found.0) f (rules_in_force p)) ∙ found.1) in
+    let rule = some (λ r. Among (rules_in_force p) r × HasAll (atoms_of p) (head_atoms r.head)) (λ r. has (f r) found.0) (rules_in_force p)
+    (both (rules_in_force p) (each_among (rules_in_force p)) (rules_in_force-heads p))
+    (sym (list_any-flat_map (λ c. eqb c found.0) f (rules_in_force p)) ∙ found.1) in
     let parts = split rule.0 found.0 (body_eq (normal rule.0.body) b) refl rule.2 in
     let same : found.0 ≡ a = same_atom p found.0 a (member (atoms_of p) (head_atoms rule.0.head) found.0 rule.1.1 parts.1) stands found.2 in
     (rule.0, rule.1.0, (equal_body (normal rule.0.body) b parts.0, subst (λ (c : ℕ). has (head_atoms rule.0.head) c ≡ true) same parts.1))
   where
-    both : (rs : List Rule) → AllByRecursion (Among (rules_in_force p)) rs → AllByRecursion (λ (r : Rule). HasAll (atoms_of p) (head_atoms r.head)) rs → AllByRecursion (λ (r : Rule). Among (rules_in_force p) r × HasAll (atoms_of p) (head_atoms r.head)) rs
+    both : (rs : List Rule) → AllByRecursion (Among (rules_in_force p)) rs →
+        AllByRecursion (λ (r : Rule). HasAll (atoms_of p) (head_atoms r.head)) rs →
+        AllByRecursion (λ (r : Rule). Among (rules_in_force p) r × HasAll (atoms_of p) (head_atoms r.head)) rs
     both [] h k = tt
     both (r ∷ rs) h k = ((h.0, k.0), both rs h.1 k.1)
 
-    split : (r : Rule) (c : ℕ) (t : Bool) → t ≡ body_eq (normal r.body) b → has (cond (body_eq (normal r.body) b) (head_atoms r.head) []) c ≡ true → (body_eq (normal r.body) b ≡ true) × (has (head_atoms r.head) c ≡ true)
+    split : (r : Rule) (c : ℕ) (t : Bool) → t ≡ body_eq (normal r.body) b → has (cond (body_eq (normal r.body) b) (head_atoms r.head) []) c ≡ true →
+        (body_eq (normal r.body) b ≡ true) × (has (head_atoms r.head) c ≡ true)
     split r c true q e = (sym q, ap (λ t. has (cond t (head_atoms r.head) []) c) q ∙ e)
     split r c false q e = absurd (false≢true (ap (λ t. has (cond t (head_atoms r.head) []) c) q ∙ e))
 
@@ -71,7 +77,8 @@ heads_have p b r a m same e =
     (list_any-flat_map (λ c. eqb c a) f (rules_in_force p) ∙ m (λ s. has (cond (body_eq (normal s.body) b) (head_atoms s.head) []) a) (ap (λ t. has (cond t (head_atoms r.head) []) a) fits ∙ e))
 
 -- a rule whose body holds by what is founded
-founded_by : (p : Program) (S : Atoms) (r : Rule) (a : ℕ) → IsSound p → Among (rules_in_force p) r → has (head_atoms r.head) a ≡ true → has S a ≡ true → body_holds_between S (least_model p S) r.body ≡ true → has (least_model p S) a ≡ true
+founded_by : (p : Program) (S : Atoms) (r : Rule) (a : ℕ) → IsSound p → Among (rules_in_force p) r → has (head_atoms r.head) a ≡ true →
+    has S a ≡ true → body_holds_between S (least_model p S) r.body ≡ true → has (least_model p S) a ≡ true
 founded_by p S r a sound m in_head in_set held = cases (has (least_model p S) a) refl
   where
     cases : (t : Bool) → t ≡ has (least_model p S) a → has (least_model p S) a ≡ true
@@ -79,7 +86,8 @@ founded_by p S r a sound m in_head in_set held = cases (has (least_model p S) a)
     cases false q = absurd (false≢true (sym (body_fails p S r a sound m in_head in_set (sym q)) ∙ held))
 
 -- ---- each derivation is sound
-literal_founded : (p : Program) (S : Atoms) (a : List (Option Bool)) (marks : List Bool) (l : ℤ) → GivesAtoms p S a → AreFounded p S marks → has (atoms_of p) (atom_of l) ≡ true → is_held a marks (literal_of p l) ≡ true → holds_between S (least_model p S) l ≡ true
+literal_founded : (p : Program) (S : Atoms) (a : List (Option Bool)) (marks : List Bool) (l : ℤ) → GivesAtoms p S a → AreFounded p S marks →
+    has (atoms_of p) (atom_of l) ≡ true → is_held a marks (literal_of p l) ≡ true → holds_between S (least_model p S) l ≡ true
 literal_founded p S a marks (pos b) gives founded stands e =
     let parts = and_parts (holds_in a (literal_of p (pos b))) (is_marked marks (var_of_atom p b)) e in
     founded b stands (sym (literal-holds p S (pos b) stands) ∙ sym (gives (literal_of p (pos b)) (atom_var p b stands)) ∙ parts.0) parts.1
@@ -87,7 +95,9 @@ literal_founded p S a marks (negsuc b) gives founded stands e =
     let parts = and_parts (holds_in a (literal_of p (negsuc b))) true e in
     sym (literal-holds p S (negsuc b) stands) ∙ sym (gives (literal_of p (negsuc b)) (atom_var p (suc b) stands)) ∙ parts.0
 
-fires : (p : Program) (S : Atoms) (a : List (Option Bool)) (marks : List Bool) (j c : ℕ) → IsSound p → j < length (bodies_of p) → GivesAtoms p S a → AreFounded p S marks → body_held p a marks (nth_body p j) ≡ true → has (heads_of p (nth_body p j)) (var_of_atom p c) ≡ true → has (atoms_of p) c ≡ true → has S c ≡ true → has (least_model p S) c ≡ true
+fires : (p : Program) (S : Atoms) (a : List (Option Bool)) (marks : List Bool) (j c : ℕ) → IsSound p → j < length (bodies_of p) → GivesAtoms p S a →
+    AreFounded p S marks → body_held p a marks (nth_body p j) ≡ true → has (heads_of p (nth_body p j)) (var_of_atom p c) ≡ true →
+    has (atoms_of p) c ≡ true → has S c ≡ true → has (least_model p S) c ≡ true
 fires p S a marks j c sound lt gives founded held in_heads_ stands inside =
     let b : Body = nth_body p j in
     let between : body_holds_between S (least_model p S) b ≡ true =
@@ -97,7 +107,10 @@ fires p S a marks j c sound lt gives founded held in_heads_ stands inside =
     let rule = in_heads p b c stands in_heads_ in
     founded_by p S rule.0 c sound rule.1 rule.2.1 inside (sym (body_holds_between-normal S (least_model p S) rule.0.body) ∙ ap (body_holds_between S (least_model p S)) rule.2.0 ∙ between)
 
-pub looks : (p : Program) (a : List (Option Bool)) (old new : List Bool) (heads : List ℕ) (j : ℕ) → heads ≡ heads_of p (nth_body p j) → IsSound p → j < length (bodies_of p) → body_held p a old (nth_body p j) ≡ true → ((v : ℕ) → is_marked new v ≡ true → (is_marked old v ≡ true) ⊎ ((k : ℕ) × (k < length heads) × (get_or heads k 0 ≡ v))) → AreDerived p a old → AreDerived p a new
+pub looks : (p : Program) (a : List (Option Bool)) (old new : List Bool) (heads : List ℕ) (j : ℕ) → heads ≡ heads_of p (nth_body p j) → IsSound p →
+    j < length (bodies_of p) → body_held p a old (nth_body p j) ≡ true →
+    ((v : ℕ) → is_marked new v ≡ true → (is_marked old v ≡ true) ⊎ ((k : ℕ) × (k < length heads) × (get_or heads k 0 ≡ v))) → AreDerived p a old →
+    AreDerived p a new
 looks p a old new heads j is sound lt held more derived S kept gives c stands inside e = elim (more (var_of_atom p c) e) [
   | inl before ↦ derived S kept gives c stands inside before
   | inr at ↦ fires p S a old j c sound lt gives (derived S kept gives) held (ap (λ hs. has hs (var_of_atom p c)) (sym is) ∙ has_at heads (var_of_atom p c) at.0 at.1 at.2) stands inside
@@ -113,7 +126,9 @@ listed_holds P (x ∷ xs) v e h = cases (eqb x v) refl e (λ k. listed_holds P x
     cases true q e f = subst P (eqb-true x v (sym q)) (All-head P x xs h)
     cases false q e f = f (ap (λ t. t || has xs v) q ∙ e)
 
-pub all_derived : (p : Program) (a : List (Option Bool)) (flat marks : List Bool) (loops : List ℕ) → length flat ≡ suc (length (atoms_of p)) → AreLoopless p flat → AreListed flat loops → AreDerived p a marks → All (λ v. holds_in a (T v) ≡ true → is_marked marks v ≡ true) loops → IsDerived p a
+pub all_derived : (p : Program) (a : List (Option Bool)) (flat marks : List Bool) (loops : List ℕ) → length flat ≡ suc (length (atoms_of p)) →
+    AreLoopless p flat → AreListed flat loops → AreDerived p a marks → All (λ v. holds_in a (T v) ≡ true → is_marked marks v ≡ true) loops →
+    IsDerived p a
 all_derived p a flat marks loops size loopless listed derived marked_ S kept gives c stands inside = cases (is_marked flat (var_of_atom p c)) refl
   where
     cases : (t : Bool) → t ≡ is_marked flat (var_of_atom p c) → has (least_model p S) c ≡ true
@@ -121,10 +136,13 @@ all_derived p a flat marks loops size loopless listed derived marked_ S kept giv
     cases false q =
         let small = atom_var p c stands in let above = small.0 in let below = small.1 in
         derived S kept gives c stands inside
-        (listed_holds (λ v. holds_in a (T v) ≡ true → is_marked marks v ≡ true) loops (var_of_atom p c) (listed (var_of_atom p c) above (omega (arith, below, size)) (sym q)) marked_ (gives (T (var_of_atom p c)) small ∙ atom-true p S c stands ∙ inside))
+        (listed_holds (λ v. holds_in a (T v) ≡ true → is_marked marks v ≡ true) loops (var_of_atom p c)
+        (listed (var_of_atom p c) above (omega (arith, below, size)) (sym q)) marked_
+        (gives (T (var_of_atom p c)) small ∙ atom-true p S c stands ∙ inside))
 
 -- with no loops
-pub empty_derived : (p : Program) (a : List (Option Bool)) (flat : List Bool) (loops slice : List ℕ) → length flat ≡ suc (length (atoms_of p)) → AreLoopless p flat → AreListed flat loops → slice ≡ loops → eqb (length slice) 0 ≡ true → IsDerived p a
+pub empty_derived : (p : Program) (a : List (Option Bool)) (flat : List Bool) (loops slice : List ℕ) → length flat ≡ suc (length (atoms_of p)) →
+    AreLoopless p flat → AreListed flat loops → slice ≡ loops → eqb (length slice) 0 ≡ true → IsDerived p a
 empty_derived p a flat loops slice size loopless listed is empty =
     let none : length slice ≡ 0 = eqb-true (length slice) 0 empty in
     let same = ap length is in
@@ -145,7 +163,8 @@ none_left q (x ∷ xs) f =
     ap (λ t. cond (not t) (x ∷ filter (λ a. not (q a)) xs) (filter (λ a. not (q a)) xs)) (f x (ap (λ t. t || has xs x) (eq-eqb x x refl)))
     ∙ none_left q xs (λ c e. f c (later (eqb x c) (has xs c) e))
 
-pub derived_stable : (p : Program) (S : Atoms) (a : List (Option Bool)) → IsSound p → IsAscending S → IsSubset S (atoms_of p) → KeepsCompletion p S → GivesAtoms p S a → IsDerived p a → is_stable p S ≡ true
+pub derived_stable : (p : Program) (S : Atoms) (a : List (Option Bool)) → IsSound p → IsAscending S → IsSubset S (atoms_of p) → KeepsCompletion p S →
+    GivesAtoms p S a → IsDerived p a → is_stable p S ≡ true
 derived_stable p S a sound up within kept gives derived =
     stable_without_rest p S sound up (none_hit p S (completion p) kept) (none_left (has (least_model p S)) S (λ c e. derived S kept gives c (within c e) e))
 
@@ -180,7 +199,9 @@ supporting p S a e =
     let parts = and_parts (has (head_atoms r.0.head) a) (body_holds S r.0.body) r.2 in
     record { rule = r.0; among = r.1; head = parts.0; holds_ = parts.1 }
 
-pub ranked : (p : Program) (ranks : List ℕ) → IsSound p → AreRanks p ranks → (S : Atoms) → KeepsCompletion p S → (n c : ℕ) → get_or ranks (var_of_atom p c) 0 < n → 0 < get_or ranks (var_of_atom p c) 0 → has (atoms_of p) c ≡ true → has S c ≡ true → has (least_model p S) c ≡ true
+pub ranked : (p : Program) (ranks : List ℕ) → IsSound p → AreRanks p ranks → (S : Atoms) → KeepsCompletion p S → (n c : ℕ) →
+    get_or ranks (var_of_atom p c) 0 < n → 0 < get_or ranks (var_of_atom p c) 0 → has (atoms_of p) c ≡ true → has S c ≡ true →
+    has (least_model p S) c ≡ true
 ranked p ranks sound are S kept zero c low positive stands inside = absurd (omega (arith, low))
 ranked p ranks sound are S kept (suc n) c low positive stands inside =
     let s = supporting p S c (supported p S c sound kept stands inside) in
@@ -193,14 +214,19 @@ ranked p ranks sound are S kept (suc n) c low positive stands inside =
     let held : body_holds S (nth_body p j) ≡ true = ap (body_holds S) at ∙ body_holds-normal S s.rule.body ∙ s.holds_ in
     let between : body_holds_between S (least_model p S) (nth_body p j) ≡ true =
     passes_between p S (least_model p S) (is_true (values p S)) (nth_body p j) (nth_weighted p j sound lt)
-    (each_literal p (λ l. is_true (values p S) (literal_of p l) ≡ true → holds_between S (least_model p S) l ≡ true) (Below (get_or ranks (var_of_atom p c) 0)) (nth_body p j) (body_stands p j lt) (are j lt (var_of_atom p c) heads positive) (literal (λ b small r s e. ranked p ranks sound are S kept n b small r s e)))
+    (each_literal p (λ l. is_true (values p S) (literal_of p l) ≡ true → holds_between S (least_model p S) l ≡ true)
+    (Below (get_or ranks (var_of_atom p c) 0)) (nth_body p j) (body_stands p j lt) (are j lt (var_of_atom p c) heads positive)
+    (literal (λ b small r s e. ranked p ranks sound are S kept n b small r s e)))
     (values_pass p S (nth_body p j) (body_stands p j lt) ∙ held) in
     founded_by p S s.rule c sound s.among s.head inside (sym (body_holds_between-normal S (least_model p S) s.rule.body) ∙ ap (body_holds_between S (least_model p S)) (sym at) ∙ between)
   where
     Below : ℕ → Literal → Type 0
     Below top l = l.truth ≡ true → (0 < get_or ranks l.var 0) × (get_or ranks l.var 0 < top)
 
-    literal : ((b : ℕ) → get_or ranks (var_of_atom p b) 0 < n → 0 < get_or ranks (var_of_atom p b) 0 → has (atoms_of p) b ≡ true → has S b ≡ true → has (least_model p S) b ≡ true) → (l : ℤ) → has (atoms_of p) (atom_of l) ≡ true → Below (get_or ranks (var_of_atom p c) 0) (literal_of p l) → is_true (values p S) (literal_of p l) ≡ true → holds_between S (least_model p S) l ≡ true
+    literal : ((b : ℕ) → get_or ranks (var_of_atom p b) 0 < n → 0 < get_or ranks (var_of_atom p b) 0 → has (atoms_of p) b ≡ true → has S b ≡ true →
+        has (least_model p S) b ≡ true) → (l : ℤ) → has (atoms_of p) (atom_of l) ≡ true →
+        Below (get_or ranks (var_of_atom p c) 0) (literal_of p l) → is_true (values p S) (literal_of p l) ≡ true →
+        holds_between S (least_model p S) l ≡ true
     literal f (pos b) s below e =
         let r = below refl in let small = r.1 in f b (omega (arith, small, low)) r.0 s (sym (literal-holds p S (pos b) s) ∙ e)
     literal f (negsuc b) s below e = sym (literal-holds p S (negsuc b) s) ∙ e
@@ -221,21 +247,29 @@ positive_loopless p ranks flat sound are is = ranks_loopless p ranks flat sound 
 
 -- ---- loops of the code
 -- heads above the ranks of the literals
-pub heads_above : (p : Program) (ranks : List ℕ) (heads : List ℕ) (lits : List Literal) (j top : ℕ) → heads ≡ heads_of p (nth_body p j) → lits ≡ form_literals p (nth_body p j) → AreUpTo ranks top lits → All (λ v. 0 < get_or ranks v 0 → top < get_or ranks v 0) heads → IsRanked p ranks j
+pub heads_above : (p : Program) (ranks : List ℕ) (heads : List ℕ) (lits : List Literal) (j top : ℕ) → heads ≡ heads_of p (nth_body p j) →
+    lits ≡ form_literals p (nth_body p j) → AreUpTo ranks top lits → All (λ v. 0 < get_or ranks v 0 → top < get_or ranks v 0) heads →
+    IsRanked p ranks j
 heads_above p ranks heads lits j top is are up above v in_ positive =
     let h = listed_holds (λ v. 0 < get_or ranks v 0 → top < get_or ranks v 0) heads v (ap (λ hs. has hs v) is ∙ in_) above positive in
     subst (λ (ls : List Literal). All (λ l. l.truth ≡ true → (0 < get_or ranks l.var 0) × (get_or ranks l.var 0 < get_or ranks v 0)) ls) are
-    (All-weaker (λ (l : Literal). l.truth ≡ true → (0 < get_or ranks l.var 0) × (get_or ranks l.var 0 ≤ top)) (λ l. l.truth ≡ true → (0 < get_or ranks l.var 0) × (get_or ranks l.var 0 < get_or ranks v 0)) (λ l k t. let small = k t in let b = small.1 in (small.0, omega (arith, b, h))) lits up)
+    (All-weaker (λ (l : Literal). l.truth ≡ true → (0 < get_or ranks l.var 0) × (get_or ranks l.var 0 ≤ top))
+    (λ l. l.truth ≡ true → (0 < get_or ranks l.var 0) × (get_or ranks l.var 0 < get_or ranks v 0))
+    (λ l k t. let small = k t in let b = small.1 in (small.0, omega (arith, b, h))) lits up)
 
 pub heads_without : (p : Program) (ranks : List ℕ) (heads : List ℕ) (j : ℕ) → heads ≡ heads_of p (nth_body p j) → All (λ v. get_or ranks v 0 ≡ 0) heads → IsRanked p ranks j
 heads_without p ranks heads j is none v in_ positive =
     absurd (omega (arith, positive, listed_holds (λ v. get_or ranks v 0 ≡ 0) heads v (ap (λ hs. has hs v) is ∙ in_) none))
 
 -- one more literal
-pub up_more : (ranks : List ℕ) (lits : List Literal) (l : Literal) (i top new : ℕ) → i < length lits → l ≡ get_or lits i l → AreUpTo ranks top (take i lits) → top ≤ new → (l.truth ≡ true → (0 < get_or ranks l.var 0) × (get_or ranks l.var 0 ≤ new)) → AreUpTo ranks new (take (i + 1) lits)
+pub up_more : (ranks : List ℕ) (lits : List Literal) (l : Literal) (i top new : ℕ) → i < length lits → l ≡ get_or lits i l →
+    AreUpTo ranks top (take i lits) → top ≤ new → (l.truth ≡ true → (0 < get_or ranks l.var 0) × (get_or ranks l.var 0 ≤ new)) →
+    AreUpTo ranks new (take (i + 1) lits)
 up_more ranks lits l i top new lt is up more this =
     All-more (λ l. l.truth ≡ true → (0 < get_or ranks l.var 0) × (get_or ranks l.var 0 ≤ new)) lits i l lt
-    (All-weaker (λ (l : Literal). l.truth ≡ true → (0 < get_or ranks l.var 0) × (get_or ranks l.var 0 ≤ top)) (λ l. l.truth ≡ true → (0 < get_or ranks l.var 0) × (get_or ranks l.var 0 ≤ new)) (λ l k t. let small = k t in let b = small.1 in (small.0, omega (arith, b, more))) (take i lits) up)
+    (All-weaker (λ (l : Literal). l.truth ≡ true → (0 < get_or ranks l.var 0) × (get_or ranks l.var 0 ≤ top))
+    (λ l. l.truth ≡ true → (0 < get_or ranks l.var 0) × (get_or ranks l.var 0 ≤ new))
+    (λ l k t. let small = k t in let b = small.1 in (small.0, omega (arith, b, more))) (take i lits) up)
     (subst (λ (k : Literal). k.truth ≡ true → (0 < get_or ranks k.var 0) × (get_or ranks k.var 0 ≤ new)) is this)
 
 -- one more atom is listed

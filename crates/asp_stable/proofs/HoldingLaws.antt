@@ -22,7 +22,8 @@ use Rattle.asp_loop.proofs.EntailedLaws.{reached}
 use Rattle.asp_loop.proofs.WeightedLaws.{AreItems, form_items}
 use Rattle.asp_stable.specs.Holding.{is_held, body_held}
 
-pub held_weighted : (p : Program) (a : List (Option Bool)) (marks : List Bool) (b : Body) (c : ℤ) → bound_of b ≡ Some c → int_le c (weigh (is_held a marks) (form_literals p b) (form_weights b)) ≡ body_held p a marks b
+pub held_weighted : (p : Program) (a : List (Option Bool)) (marks : List Bool) (b : Body) (c : ℤ) → bound_of b ≡ Some c →
+    int_le c (weigh (is_held a marks) (form_literals p b) (form_weights b)) ≡ body_held p a marks b
 held_weighted p a marks (body.All ls) c e = cc e
 held_weighted p a marks (body.AtLeast bound items) c e =
     let same : bound ≡ c = cc e in
@@ -62,7 +63,8 @@ passes_between p S D q (body.All ls) weighted f e = along ls f e
 passes_between p S D q (body.AtLeast c items) weighted f e =
     reached c (weigh q (map (λ i. literal_of p i.0) items) (map (λ i. i.1) items)) (weight_between S D items) e (along items weighted f)
   where
-    along : (is : List (ℤ × ℤ)) → AreItems is → AllByRecursion (λ (i : ℤ × ℤ). q (literal_of p i.0) ≡ true → holds_between S D i.0 ≡ true) is → weigh q (map (λ i. literal_of p i.0) is) (map (λ i. i.1) is) ≤ℤ weight_between S D is
+    along : (is : List (ℤ × ℤ)) → AreItems is → AllByRecursion (λ (i : ℤ × ℤ). q (literal_of p i.0) ≡ true → holds_between S D i.0 ≡ true) is →
+        weigh q (map (λ i. literal_of p i.0) is) (map (λ i. i.1) is) ≤ℤ weight_between S D is
     along [] w h = omega (arith, ints)
     along (i ∷ is) w h =
         let a = less (q (literal_of p i.0)) (holds_between S D i.0) i.1 w.0 h.0 in
@@ -78,7 +80,8 @@ pub each_standing : (p : Program) (P : ℤ → Type 0) (b : Body) → Stands (at
 each_standing p P (body.All ls) stands f = each_weaker (λ l. has (atoms_of p) (atom_of l) ≡ true) P f ls stands
 each_standing p P (body.AtLeast c items) stands f = each_weaker (λ (i : ℤ × ℤ). has (atoms_of p) (atom_of i.0) ≡ true) (λ (i : ℤ × ℤ). P i.0) (λ i. f i.0) items stands
 
-pub each_literal : (p : Program) (P : ℤ → Type 0) (Q : Literal → Type 0) (b : Body) → Stands (atoms_of p) b → All Q (form_literals p b) → ((l : ℤ) → has (atoms_of p) (atom_of l) ≡ true → Q (literal_of p l) → P l) → AllForm P b
+pub each_literal : (p : Program) (P : ℤ → Type 0) (Q : Literal → Type 0) (b : Body) → Stands (atoms_of p) b → All Q (form_literals p b) →
+    ((l : ℤ) → has (atoms_of p) (atom_of l) ≡ true → Q (literal_of p l) → P l) → AllForm P b
 each_literal p P Q (body.All ls) stands all f = along ls stands all
   where
     along : (ls : List ℤ) → AllByRecursion (λ l. has (atoms_of p) (atom_of l) ≡ true) ls → All Q (map (literal_of p) ls) → AllByRecursion P ls
@@ -95,7 +98,8 @@ pub values_pass : (p : Program) (S : Atoms) (b : Body) → Stands (atoms_of p) b
 values_pass p S (body.All ls) stands = hits-literals p S ls stands
 values_pass p S (body.AtLeast c items) stands = ap (int_le c) (along items stands)
   where
-    along : (is : List (ℤ × ℤ)) → AllByRecursion (λ (i : ℤ × ℤ). has (atoms_of p) (atom_of i.0) ≡ true) is → weigh (is_true (values p S)) (map (λ i. literal_of p i.0) is) (map (λ i. i.1) is) ≡ weight_of S is
+    along : (is : List (ℤ × ℤ)) → AllByRecursion (λ (i : ℤ × ℤ). has (atoms_of p) (atom_of i.0) ≡ true) is →
+        weigh (is_true (values p S)) (map (λ i. literal_of p i.0) is) (map (λ i. i.1) is) ≡ weight_of S is
     along [] h = refl
     along (i ∷ is) h =
         ap (λ b. cond b i.1 (pos 0) +ℤ weigh (is_true (values p S)) (map (λ i. literal_of p i.0) is) (map (λ i. i.1) is)) (literal-holds p S i.0 h.0)

@@ -49,7 +49,8 @@ bodies_push p r [] b = refl
 bodies_push p r (x ∷ bs) b = bodies_push p (with_places r (unlisted_literals p x)) bs b
 
 -- a body more
-pub bodies_more : (p : Program) (r old new : Ranking) (i : ℕ) (d : Body) → i < length (bodies_of p) → old ≡ with_bodies p r (take i (bodies_of p)) → new ≡ with_places old (unlisted_literals p (get_or (bodies_of p) i d)) →
+pub bodies_more : (p : Program) (r old new : Ranking) (i : ℕ) (d : Body) → i < length (bodies_of p) → old ≡ with_bodies p r (take i (bodies_of p)) →
+    new ≡ with_places old (unlisted_literals p (get_or (bodies_of p) i d)) →
     new ≡ with_bodies p r (take (i + 1) (bodies_of p))
 bodies_more p r old new i d lt before made =
     let b : Body = get_or (bodies_of p) i d in
@@ -71,7 +72,8 @@ pub record IsFirst (p : Program) (ranking : Ranking) : Type 0 where
   pub vars : HasVars (var_count p) ranking
   pub all : (v : ℕ) → IsVar (var_count p) v → IsTrue (is_in ranking.members v)
 
-pub given_first : (p : Program) (vars : ℕ) (before unlisted later given : Ranking) → vars ≡ var_count p → before ≡ fresh vars → HasVars vars before → ((v : ℕ) → IsVar vars v → IsTrue (is_in before.members v))
+pub given_first : (p : Program) (vars : ℕ) (before unlisted later given : Ranking) → vars ≡ var_count p → before ≡ fresh vars → HasVars vars before →
+    ((v : ℕ) → IsVar vars v → IsTrue (is_in before.members v))
     → unlisted ≡ with_unlisted p before → later ≡ aged unlisted 34 → given ≡ completed_ranking p later → IsFirst p given
 given_first p vars before unlisted later given count start has all made older is =
     let alike : IsAlike later given = subst (IsAlike later) (places_listed later (completion p) ∙ sym is) (places_alike later (map pure (completion p))) in

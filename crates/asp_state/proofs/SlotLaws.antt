@@ -61,7 +61,8 @@ still_forever old new (n ∷ ns) stay a = (one a.0, still_forever old new ns sta
       nogood = x.nogood;
     }
 
-pub completed_stays : (p : Program) (old new : List (Option StoredNogood)) → ((id : ℕ) (k : StoredNogood) → kept_at old id ≡ Some k → kept_at new id ≡ Some k) → KeepsCompletion p old → KeepsCompletion p new
+pub completed_stays : (p : Program) (old new : List (Option StoredNogood)) →
+    ((id : ℕ) (k : StoredNogood) → kept_at old id ≡ Some k → kept_at new id ≡ Some k) → KeepsCompletion p old → KeepsCompletion p new
 completed_stays p old new stay = still_forever old new (completion p) (λ i k q f b. stay i k q)
 
 -- ---- those that are kept forever, one after the other
@@ -76,7 +77,8 @@ any_more : (k : StoredNogood) (ns : List Nogood) (n : Nogood) → Any (λ m. Som
 any_more k ns n a =
     (a.0, a.1, omega (arith, a.2, length-append ns (n ∷ [])), get_or_append_left ns (n ∷ []) a.1 a.0 a.2 ∙ a.3, a.4)
 
-pub adds_another : (ns : List Nogood) (old mid new : List (Option StoredNogood)) (id : ℕ) (n : Nogood) → AddsForever ns old mid → IsAddedAt mid new id n kind.Forever → AddsForever (ns ++ n ∷ []) old new
+pub adds_another : (ns : List Nogood) (old mid new : List (Option StoredNogood)) (id : ℕ) (n : Nogood) → AddsForever ns old mid →
+    IsAddedAt mid new id n kind.Forever → AddsForever (ns ++ n ∷ []) old new
 adds_another ns old mid new id n a x = record {
   stay = λ j k g. added_stays mid new id n kind.Forever x j k (a.stay j k g);
   each =

@@ -133,7 +133,8 @@ IsEntered p None clashing decisions entries = (clashing ≡ false) × (decisions
 IsEntered p (Some cube) true decisions entries = Clashes cube × (decisions ≡ [])
 IsEntered p (Some cube) false decisions entries = IsBegun p cube decisions entries
 
-pub record IsSearchState (p : Program) (cube : Option (List Literal)) (clashing : Bool) (decisions : List Literal) (entries : List Entry) (slots : List (Option StoredNogood)) (ranking : Ranking) : Type 0 where
+pub record IsSearchState (p : Program) (cube : Option (List Literal)) (clashing : Bool) (decisions : List Literal) (entries : List Entry)
+    (slots : List (Option StoredNogood)) (ranking : Ranking) : Type 0 where
   pub few : var_count p < 2 ^ 31
   pub entered : IsEntered p cube clashing decisions entries
   pub ranked : HasVars (var_count p) ranking

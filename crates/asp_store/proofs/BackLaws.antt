@@ -32,7 +32,8 @@ use Rattle.asp_store.proofs.StepLaws.{front_var, step_block, step_leave, may_dif
 pub back_list : (w : Watches) (c : ℕ) (l : List Watch) → c < length w.lists → list_at (back w c l).lists c ≡ l
 back_list w c l h = at_set w.lists c l [] c h refl
 
-pub back_within : (slots : List (Option StoredNogood)) (w : Watches) (t : Trailed) (f : Front) (l : List Watch) (i : ℕ) → IsOrdered t.vars t.entries → IsWalking slots (back w (code_of f.lit) l) t f i →
+pub back_within : (slots : List (Option StoredNogood)) (w : Watches) (t : Trailed) (f : Front) (l : List Watch) (i : ℕ) → IsOrdered t.vars t.entries →
+    IsWalking slots (back w (code_of f.lit) l) t f i →
     code_of f.lit < length w.lists
 back_within slots w t f l i o k = omega (arith, code_within f.lit t.vars (front_var t f o k.stands), k.sound.net.sized, length-set w.lists (code_of f.lit) l)
 
@@ -63,11 +64,13 @@ pub pass_block : (slots : List (Option StoredNogood)) (w : Watches) (t : Trailed
 pass_block slots w t f l i id other o v is_false =
     let x : Watch = record { blocker = other; id = id; is_short = false } in
     let h : code_of f.lit < length w.lists = back_within slots w t f l i o v.walking in (
-      subst (λ (u : Watches). IsWalking slots u t f (i + 1)) (back_with w (code_of f.lit) l (λ (xs : List Watch). set xs i x) h) (step_block slots (back w (code_of f.lit) l) t f i id other v is_false).0,
+      subst (λ (u : Watches). IsWalking slots u t f (i + 1)) (back_with w (code_of f.lit) l (λ (xs : List Watch). set xs i x) h)
+          (step_block slots (back w (code_of f.lit) l) t f i id other v is_false).0,
       length-set l i x,
     )
 
-pub pass_leave : (slots : List (Option StoredNogood)) (w : Watches) (t : Trailed) (f : Front) (l : List Watch) (i id : ℕ) (x d : Watch) → IsOrdered t.vars t.entries → slice_get l i ≡ Some x → x.id ≡ id →
+pub pass_leave : (slots : List (Option StoredNogood)) (w : Watches) (t : Trailed) (f : Front) (l : List Watch) (i id : ℕ) (x d : Watch) →
+    IsOrdered t.vars t.entries → slice_get l i ≡ Some x → x.id ≡ id →
     ((n : Nogood) (p : Pair) → nogood_at slots id ≡ Some n → pair_at w.rows id ≡ Some p → IsOneOf p f.lit → ⊥) → IsWalking slots (back w (code_of f.lit) l) t f i →
     Passes slots w l (swap_remove l i d) t f i pass.Goes
 pass_leave slots w t f l i id x d o g is gone k =
@@ -87,7 +90,8 @@ back_moved w c l k other id r ne =
     λ j. record w { lists = e j; rows = set w.rows id r }
 
 pub moved_back : (slots : List (Option StoredNogood)) (w : Watches) (t : Trailed) (f : Front) (l : List Watch) (i id : ℕ) (other k : Literal) (r : List Literal) → IsOrdered t.vars t.entries →
-    MayWatch slots t id other k → LeadsWith (row_at w.rows id) r k other → IsVisit slots (back w (code_of f.lit) l) t f i id other → IsWalking slots (back (moved w k other id r) (code_of f.lit) l) t f i
+    MayWatch slots t id other k → LeadsWith (row_at w.rows id) r k other → IsVisit slots (back w (code_of f.lit) l) t f i id other →
+    IsWalking slots (back (moved w k other id r) (code_of f.lit) l) t f i
 moved_back slots w t f l i id other k r o m leads v =
     subst (λ (u : Watches). IsWalking slots u t f i)
     (back_moved w (code_of f.lit) l k other id r (λ e. may_differ slots t f id other k o v.walking.stands m (code_injective k f.lit e)))

@@ -79,7 +79,8 @@ pub pair_small : (slots : List (Option StoredNogood)) (w : Watches) (t : Trailed
     nogood_at slots id ≡ Some n → IsWatched n.lits p es seen → IsOneOf p l → l.var ≤ t.vars
 pair_small slots w t id n p l es seen s h k o = (all_has (λ x. IsVar t.vars x.var) n.lits l (s.net.small id n h) (k.has l o)).1
 
-pub sound_both : (slots : List (Option StoredNogood)) (w : Watches) (t : Trailed) (p : Pair) (id : ℕ) (n : Nogood) (b : Bool) → nogood_at slots id ≡ Some n → IsWatched n.lits p t.entries (length t.entries) →
+pub sound_both : (slots : List (Option StoredNogood)) (w : Watches) (t : Trailed) (p : Pair) (id : ℕ) (n : Nogood) (b : Bool) →
+    nogood_at slots id ≡ Some n → IsWatched n.lits p t.entries (length t.entries) →
     b ≡ is_lasting (kept_at slots id) → IsSound slots w t → IsSound slots (with_first w p id b) t × IsSound slots (with_both w p id b) t
 sound_both slots w t p id n b h k e s =
     let x = small p.first (inl refl) in
@@ -152,7 +153,8 @@ attached_none slots w t i id p n b r h first v j m at g q =
     none-some p (sym q ∙ (ap pair_of (at_set w.rows id r [] j (omega (arith, v.looking.sound.net.paired, kept_within slots id n h)) e) ∙ first))
 
 -- ---- a literal is false
-same_kept : (slots : List (Option StoredNogood)) (i id j : ℕ) (items : List ℕ) (m : Nogood) → slice_get items i ≡ Some id → slice_get items i ≡ Some j → nogood_at slots j ≡ Some m → nogood_at slots id ≡ Some m
+same_kept : (slots : List (Option StoredNogood)) (i id j : ℕ) (items : List ℕ) (m : Nogood) → slice_get items i ≡ Some id →
+    slice_get items i ≡ Some j → nogood_at slots j ≡ Some m → nogood_at slots id ≡ Some m
 same_kept slots i id j items m a b g = ap (nogood_at slots) (same_Some id j (sym a ∙ b)) ∙ g
 
 pub looks_pending : (slots : List (Option StoredNogood)) (w : Watches) (t : Trailed) (i id b : ℕ) → ((n : Nogood) → nogood_at slots id ≡ Some n → HasFalse t.entries n.lits b) →

@@ -98,7 +98,9 @@ pub step_block : (slots : List (Option StoredNogood)) (w : Watches) (t : Trailed
     Steps slots w (record w { lists = set w.lists (code_of f.lit) (set (list_at w.lists (code_of f.lit)) i (record { blocker = other; id = id; is_short = false })) }) t f i step.Stays
 step_block slots w t f i id other v is_false = (
   record {
-    sound = sound_lists slots w t lists (length-set w.lists c (set (list_at w.lists c) i x)) (places_set (IsPlace t.vars slots) w.lists c i x h (place_long t.vars slots c id other (visit_var slots w t f i id other v)) k.sound.net.places)
+    sound = sound_lists slots w t lists (length-set w.lists c (set (list_at w.lists c) i x))
+        (places_set (IsPlace t.vars slots) w.lists c i x h (place_long t.vars slots c id other (visit_var slots w t f i id other v))
+        k.sound.net.places)
         (λ j n p l g q o. stays j n l 0 g (k.sound.net.listed j n p l g q o)) k.sound;
     settled = k.settled;
     done = λ j n p g q o. elim (k.done j n p g q o) [
@@ -140,7 +142,8 @@ pub step_leave : (slots : List (Option StoredNogood)) (w : Watches) (t : Trailed
     Steps slots w (record w { lists = set w.lists (code_of f.lit) (swap_remove (list_at w.lists (code_of f.lit)) i d) }) t f i step.Goes
 step_leave slots w t f i id x d g is gone k = (
   record {
-    sound = sound_lists slots w t lists (length-set w.lists (code_of f.lit) (swap_remove (list_at w.lists (code_of f.lit)) i d)) (places_take (IsPlace t.vars slots) w.lists (code_of f.lit) i d h k.sound.net.places)
+    sound = sound_lists slots w t lists (length-set w.lists (code_of f.lit) (swap_remove (list_at w.lists (code_of f.lit)) i d))
+        (places_take (IsPlace t.vars slots) w.lists (code_of f.lit) i d h k.sound.net.places)
         (λ j n p l m q o. stays j n p l 0 (omega arith) m q o (k.sound.net.listed j n p l m q o)) k.sound;
     settled = k.settled;
     done = λ j n p m q o. elim (k.done j n p m q o) [
@@ -236,7 +239,8 @@ differ_of : (p : Pair) (l other : Literal) → IsBeside p l other → l ≢ othe
 differ_of p l other (inl b) ne e = ne (sym b.0 ∙ (e ∙ b.1))
 differ_of p l other (inr b) ne e = ne (sym b.1 ∙ (sym e ∙ b.0))
 
-pub suits_move : (slots : List (Option StoredNogood)) (w : Watches) (t : Trailed) (f : Front) (i id : ℕ) (other l : Literal) (r : List Literal) → IsOrdered t.vars t.entries → MayWatch slots t id other l →
+pub suits_move : (slots : List (Option StoredNogood)) (w : Watches) (t : Trailed) (f : Front) (i id : ℕ) (other l : Literal) (r : List Literal) →
+    IsOrdered t.vars t.entries → MayWatch slots t id other l →
     LeadsWith (row_at w.rows id) r l other → ((n : Nogood) → nogood_at slots id ≡ Some n → IsListed w.lists l 0 id n.lits) → IsVisit slots w t f i id other → Suits slots w t id r
 suits_move slots w t f i id other l r o m leads listed v = record {
   within = visit_id slots w t f i id other v;
@@ -283,7 +287,8 @@ move_gone slots w t f i id other l r o m leads v n h p e one =
     ]
 
 -- the pair of the front's literal and the other is that of another one and the other
-pub walking_move : (slots : List (Option StoredNogood)) (w : Watches) (t : Trailed) (f : Front) (i id : ℕ) (other l : Literal) (r : List Literal) → IsOrdered t.vars t.entries → MayWatch slots t id other l →
+pub walking_move : (slots : List (Option StoredNogood)) (w : Watches) (t : Trailed) (f : Front) (i id : ℕ) (other l : Literal) (r : List Literal) →
+    IsOrdered t.vars t.entries → MayWatch slots t id other l →
     LeadsWith (row_at w.rows id) r l other → ((n : Nogood) → nogood_at slots id ≡ Some n → IsListed w.lists l 0 id n.lits) → IsVisit slots w t f i id other →
     IsWalking slots (record w { rows = set w.rows id r }) t f i
 walking_move slots w t f i id other l r o m leads listed v =
@@ -291,13 +296,15 @@ walking_move slots w t f i id other l r o m leads listed v =
     (λ n p h q one. move_gone slots w t f i id other l r o m leads v n h p q one) v.walking
 
 -- after it the front's literal isn't watched
-pub moved_gone : (slots : List (Option StoredNogood)) (w : Watches) (t : Trailed) (f : Front) (i id : ℕ) (other l : Literal) (r : List Literal) → IsOrdered t.vars t.entries → MayWatch slots t id other l →
+pub moved_gone : (slots : List (Option StoredNogood)) (w : Watches) (t : Trailed) (f : Front) (i id : ℕ) (other l : Literal) (r : List Literal) →
+    IsOrdered t.vars t.entries → MayWatch slots t id other l →
     LeadsWith (row_at w.rows id) r l other → IsVisit slots w t f i id other → (n : Nogood) (p : Pair) → nogood_at slots id ≡ Some n → pair_at (set w.rows id r) id ≡ Some p → IsOneOf p f.lit → ⊥
 moved_gone slots w t f i id other l r o m leads v n p h g one =
     move_gone slots w t f i id other l r o m leads v n h p (sym (ap pair_of (at_set w.rows id r [] id (visit_id slots w t f i id other v) refl)) ∙ g) one
 
 -- ---- the nogood of a visit isn't watched any more
-pub visit_apart : (slots : List (Option StoredNogood)) (w : Watches) (t : Trailed) (f : Front) (i id : ℕ) (other : Literal) (new : Parted) (x : ℕ) → Adds w.apart new x → IsVisit slots w t f i id other →
+pub visit_apart : (slots : List (Option StoredNogood)) (w : Watches) (t : Trailed) (f : Front) (i id : ℕ) (other : Literal) (new : Parted) (x : ℕ) →
+    Adds w.apart new x → IsVisit slots w t f i id other →
     IsVisit slots (record w { apart = new }) t f i id other
 visit_apart slots w t f i id other new x a v = record {
   walking = record {
@@ -379,20 +386,24 @@ moved_visit : (slots : List (Option StoredNogood)) (w : Watches) (t : Trailed) (
     IsVisit slots w t f i id other →
     IsVisit slots (record w { lists = set w.lists (code_of l) (list_at w.lists (code_of l) ++ record { blocker = other; id = id; is_short = false } ∷ []) }) t f i id other
 moved_visit slots w t f i id other l o m v =
-    visit_push slots w t f i id other l (record { blocker = other; id = id; is_short = false }) m.small (place_long t.vars slots (code_of l) id other (visit_var slots w t f i id other v)) (may_differ slots t f id other l o v.walking.stands m) v
+    visit_push slots w t f i id other l (record { blocker = other; id = id; is_short = false }) m.small
+    (place_long t.vars slots (code_of l) id other (visit_var slots w t f i id other v)) (may_differ slots t f id other l o v.walking.stands m) v
 
-pub moved_walking : (slots : List (Option StoredNogood)) (w : Watches) (t : Trailed) (f : Front) (i id : ℕ) (other l : Literal) (r : List Literal) → IsOrdered t.vars t.entries → MayWatch slots t id other l →
+pub moved_walking : (slots : List (Option StoredNogood)) (w : Watches) (t : Trailed) (f : Front) (i id : ℕ) (other l : Literal) (r : List Literal) →
+    IsOrdered t.vars t.entries → MayWatch slots t id other l →
     LeadsWith (row_at w.rows id) r l other → IsVisit slots w t f i id other → IsWalking slots (moved w l other id r) t f i
 moved_walking slots w t f i id other l r o m leads v =
     walking_move slots (record w { lists = set w.lists (code_of l) (list_at w.lists (code_of l) ++ record { blocker = other; id = id; is_short = false } ∷ []) }) t f i id other l r o m leads
     (λ n h. listed_new w.lists (record { blocker = other; id = id; is_short = false }) l n.lits (code_of_list slots w t l v.walking.sound m.small) (visit_has slots w t f i id other n v h))
     (moved_visit slots w t f i id other l o m v)
 
-pub moved_at : (slots : List (Option StoredNogood)) (w : Watches) (t : Trailed) (f : Front) (i id : ℕ) (other l : Literal) (r : List Literal) → IsOrdered t.vars t.entries → MayWatch slots t id other l →
+pub moved_at : (slots : List (Option StoredNogood)) (w : Watches) (t : Trailed) (f : Front) (i id : ℕ) (other l : Literal) (r : List Literal) →
+    IsOrdered t.vars t.entries → MayWatch slots t id other l →
     IsVisit slots w t f i id other → (x : Watch) × (place (moved w l other id r).lists (code_of f.lit) i ≡ Some x) × (x.id ≡ id)
 moved_at slots w t f i id other l r o m v = let u = moved_visit slots w t f i id other l o m v in (u.watch, u.at, u.id_is)
 
-pub moved_size : (slots : List (Option StoredNogood)) (w : Watches) (t : Trailed) (f : Front) (i id : ℕ) (other l : Literal) (r : List Literal) → IsOrdered t.vars t.entries → MayWatch slots t id other l →
+pub moved_size : (slots : List (Option StoredNogood)) (w : Watches) (t : Trailed) (f : Front) (i id : ℕ) (other l : Literal) (r : List Literal) →
+    IsOrdered t.vars t.entries → MayWatch slots t id other l →
     IsVisit slots w t f i id other → size (moved w l other id r).lists (code_of f.lit) ≡ size w.lists (code_of f.lit)
 moved_size slots w t f i id other l r o m v =
     ap (length {A = Watch}) (at_set_other w.lists (code_of l) (list_at w.lists (code_of l) ++ record { blocker = other; id = id; is_short = false } ∷ []) [] (code_of f.lit)

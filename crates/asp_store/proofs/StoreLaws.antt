@@ -114,7 +114,8 @@ store_add vars slots new w z given after extra more id n kind s lists paired a a
     sized = ap (length {A = List Watch}) lists ∙ s.net.sized;
     paired = paired;
     small = λ j m g. elim (is_or_not j id) [
-      | inl e ↦ subst (λ (x : Nogood). All (λ l. IsVar vars l.var) x.lits) (same_Some n m (sym (ap (option_map (λ (k : StoredNogood). k.nogood)) a.slots.here) ∙ (ap (nogood_at new) (sym e) ∙ g))) small
+      | inl e ↦ subst (λ (x : Nogood). All (λ l. IsVar vars l.var) x.lits)
+          (same_Some n m (sym (ap (option_map (λ (k : StoredNogood). k.nogood)) a.slots.here) ∙ (ap (nogood_at new) (sym e) ∙ g))) small
       | inr ne ↦ s.net.small j m (sym (same_nogood slots new j (a.slots.others j ne)) ∙ g)
     ];
     numbered = few;
@@ -141,13 +142,15 @@ store_add vars slots new w z given after extra more id n kind s lists paired a a
   };
   counted = counted;
   tracked = λ j h. subst (λ (xs : List ℕ). Has xs j) (sym a.given) (elim (is_or_not j id) [
-    | inl e ↦ subst (λ (k : ℕ). Has (with_given kind id given) k) (sym e) (has_new kind id given (sym (ap is_from_propagator a.slots.here) ∙ (ap (λ (k : ℕ). is_from_propagator (kept_at new k)) (sym e) ∙ h)))
+    | inl e ↦ subst (λ (k : ℕ). Has (with_given kind id given) k) (sym e)
+        (has_new kind id given (sym (ap is_from_propagator a.slots.here) ∙ (ap (λ (k : ℕ). is_from_propagator (kept_at new k)) (sym e) ∙ h)))
     | inr ne ↦ has_old kind id j given (s.tracked j (sym (ap is_from_propagator (a.slots.others j ne)) ∙ h))
   ]);
 }
 
 -- ---- one goes
-pub store_remove : (vars : ℕ) (slots : List (Option StoredNogood)) (w z : Watches) (given : List ℕ) (extra less id : ℕ) → IsStore vars slots w extra given → id < length slots → Unlists slots w.lists z.lists id →
+pub store_remove : (vars : ℕ) (slots : List (Option StoredNogood)) (w z : Watches) (given : List ℕ) (extra less id : ℕ) →
+    IsStore vars slots w extra given → id < length slots → Unlists slots w.lists z.lists id →
     z.rows ≡ set w.rows id [] → z.apart ≡ w.apart → less ≡ count_by is_extra (set slots id None) → IsStore vars (set slots id None) z less given
 store_remove vars slots w z given extra less id s within u rows apart counted = record {
   few = s.few;
@@ -176,7 +179,9 @@ store_remove vars slots w z given extra less id s within u rows apart counted = 
     ];
     unwatched = λ j m g h.
         let l = left j m g in
-        subst (λ (a : Parted). IsApart a j) (sym apart) (s.net.unwatched j m l.1 (sym (ap pair_of (at_set_other w.rows id [] [] j l.0)) ∙ (sym (ap (λ (rs : List (List Literal)). pair_at rs j) rows) ∙ h)));
+        subst (λ (a : Parted). IsApart a j) (sym apart)
+        (s.net.unwatched j m l.1 (sym (ap pair_of (at_set_other w.rows id [] [] j l.0))
+        ∙ (sym (ap (λ (rs : List (List Literal)). pair_at rs j) rows) ∙ h)));
   };
   counted = counted;
   tracked = λ j h. elim (is_or_not j id) [
@@ -211,26 +216,31 @@ store_lock vars slots w given extra id b h s = record {
   };
   counted = s.counted ∙ sym (locked_count b slots id);
   tracked = λ j g. elim (is_or_not j id) [
-    | inl e ↦ s.tracked j (ap (λ (k : ℕ). is_from_propagator (kept_at slots k)) e ∙ (sym (from_lock b (kept_at slots id)) ∙ (sym (ap is_from_propagator (at_set slots id (with_lock b (kept_at slots id)) None j h e)) ∙ g)))
+    | inl e ↦ s.tracked j (ap (λ (k : ℕ). is_from_propagator (kept_at slots k)) e
+        ∙ (sym (from_lock b (kept_at slots id)) ∙
+        (sym (ap is_from_propagator (at_set slots id (with_lock b (kept_at slots id)) None j h e)) ∙ g)))
     | inr ne ↦ s.tracked j (sym (ap is_from_propagator (at_set_other slots id (with_lock b (kept_at slots id)) None j ne)) ∙ g)
   ];
 }
 
 -- ---- a store and its watches
-pub sound_from_fits : (vars : ℕ) (slots : List (Option StoredNogood)) (w : Watches) (given : List ℕ) (extra : ℕ) (t : Trailed) → IsStore vars slots w extra given → Fits (view_of vars slots w given) t → IsSound slots w t
+pub sound_from_fits : (vars : ℕ) (slots : List (Option StoredNogood)) (w : Watches) (given : List ℕ) (extra : ℕ) (t : Trailed) →
+    IsStore vars slots w extra given → Fits (view_of vars slots w given) t → IsSound slots w t
 sound_from_fits vars slots w given extra t s f = record {
   net = subst (λ (k : ℕ). IsNet k slots w) (sym f.same_vars) s.net;
   fit = f.fit;
 }
 
-pub fits_from_sound : (vars : ℕ) (slots : List (Option StoredNogood)) (w : Watches) (given : List ℕ) (t : Trailed) → t.vars ≡ vars → HaveReasons slots t.entries → IsSound slots w t → Fits (view_of vars slots w given) t
+pub fits_from_sound : (vars : ℕ) (slots : List (Option StoredNogood)) (w : Watches) (given : List ℕ) (t : Trailed) → t.vars ≡ vars →
+    HaveReasons slots t.entries → IsSound slots w t → Fits (view_of vars slots w given) t
 fits_from_sound vars slots w given t v r s = record {
   same_vars = v;
   reasons = r;
   fit = s.fit;
 }
 
-pub store_from_sound : (vars : ℕ) (slots : List (Option StoredNogood)) (w z : Watches) (given : List ℕ) (extra : ℕ) (t : Trailed) → t.vars ≡ vars → IsStore vars slots w extra given → IsSound slots z t →
+pub store_from_sound : (vars : ℕ) (slots : List (Option StoredNogood)) (w z : Watches) (given : List ℕ) (extra : ℕ) (t : Trailed) → t.vars ≡ vars →
+    IsStore vars slots w extra given → IsSound slots z t →
     IsStore vars slots z extra given
 store_from_sound vars slots w z given extra t v s n = record {
   few = s.few;

@@ -108,7 +108,8 @@ both_none lists f s id h g l i x has at =
     let inside : code_of s < length (without id (code_of f) lists) = omega (arith, g, k.len) in
     elim (one_of_two f s l has) [
       | inl e ↦
-          let was = (without_keeps (without id (code_of f) lists) (code_of s) id inside).from (code_of f) i x (ap (λ (y : Literal). place (without id (code_of s) (without id (code_of f) lists)) (code_of y) i) e ∙ at) in
+          let was = (without_keeps (without id (code_of f) lists) (code_of s) id inside).from (code_of f) i x
+          (ap (λ (y : Literal). place (without id (code_of s) (without id (code_of f) lists)) (code_of y) i) e ∙ at) in
           without_none lists (code_of f) id was.0 x h was.1
       | inr e ↦ without_none (without id (code_of f) lists) (code_of s) id i x inside (ap (λ (y : Literal). place (without id (code_of s) (without id (code_of f) lists)) (code_of y) i) e ∙ at)
     ]

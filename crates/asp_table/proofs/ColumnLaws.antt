@@ -52,7 +52,8 @@ nothing_more (x ∷ xs) = ap (λ ys. x ∷ ys) (nothing_more xs)
 
 cell_of-same : (cells : List Occurrence) (body k : ℕ) (row : List ℕ) → ends_in cells body ≡ false → with_last (cells ++ cell_of body k row) body (length row) ≡ cells ++ cell_of body k (row ++ k ∷ [])
 cell_of-same cells body k row new =
-    cases (has_key row k) refl ∙ sym (ap (λ t. cells ++ cond t (cell (place_of (λ x. eqb x k) (row ++ k ∷ [])) ∷ []) []) (list_any-append (λ x. eqb x k) row (k ∷ []) ∙ ap (λ t. has_key row k || (t || false)) (eq-eqb k k refl)))
+    cases (has_key row k) refl ∙ sym (ap (λ t. cells ++ cond t (cell (place_of (λ x. eqb x k) (row ++ k ∷ [])) ∷ []) [])
+    (list_any-append (λ x. eqb x k) row (k ∷ []) ∙ ap (λ t. has_key row k || (t || false)) (eq-eqb k k refl)))
   where
     cell : ℕ → Occurrence
     cell n = record { body = body; place = n }
@@ -60,7 +61,9 @@ cell_of-same cells body k row new =
     one : eqb k k ≡ true
     one = eq-eqb k k refl
 
-    cases : (t : Bool) → t ≡ has_key row k → with_last (cells ++ cond t (cell (place_of (λ x. eqb x k) row) ∷ []) []) body (length row) ≡ cells ++ cond (t || (true || false)) (cell (place_of (λ x. eqb x k) (row ++ k ∷ [])) ∷ []) []
+    cases : (t : Bool) → t ≡ has_key row k →
+        with_last (cells ++ cond t (cell (place_of (λ x. eqb x k) row) ∷ []) []) body (length row) ≡ cells
+        ++ cond (t || (true || false)) (cell (place_of (λ x. eqb x k) (row ++ k ∷ [])) ∷ []) []
     cases true p =
         let old : List Occurrence = cells ++ cell (place_of (λ x. eqb x k) row) ∷ [] in
         ap (λ t. cond t old (old ++ cell (length row) ∷ [])) (ends_in-last cells (cell (place_of (λ x. eqb x k) row)) body ∙ eq-eqb body body refl)
@@ -117,7 +120,10 @@ column-push body k (r ∷ rows) row =
 length_take : {X : Type 0} (xs : List X) (i : ℕ) → i ≤ length xs → length (take i xs) ≡ i
 length_take xs i le = omega (arith, length-take i xs)
 
-pub add_step : (base columns : List (List Occurrence)) (body i k : ℕ) (keys : List ℕ) → i < length keys → get_or keys i 0 < length columns → ends_in (get_or base k []) body ≡ false → get_or columns k [] ≡ get_or base k [] ++ cell_of body k (take i keys) → get_or (set columns (get_or keys i 0) (with_last (get_or columns (get_or keys i 0) []) body i)) k [] ≡ get_or base k [] ++ cell_of body k (take (i + 1) keys)
+pub add_step : (base columns : List (List Occurrence)) (body i k : ℕ) (keys : List ℕ) → i < length keys → get_or keys i 0 < length columns →
+    ends_in (get_or base k []) body ≡ false → get_or columns k [] ≡ get_or base k [] ++ cell_of body k (take i keys) →
+    get_or (set columns (get_or keys i 0) (with_last (get_or columns (get_or keys i 0) []) body i)) k [] ≡ get_or base k []
+    ++ cell_of body k (take (i + 1) keys)
 add_step base columns body i k keys lt within new so_far = ⊎_elim here elsewhere (cases_eq (get_or keys i 0) k)
   where
     q : ℕ
@@ -133,7 +139,9 @@ add_step base columns body i k keys lt within new so_far = ⊎_elim here elsewhe
         ∙ ap (λ n. get_or base k [] ++ cell_of body k (take i keys ++ n ∷ [])) (sym e)
         ∙ ap (λ row. get_or base k [] ++ cell_of body k row) (sym (take_more keys i 0 lt))
 
-    elsewhere : (get_or keys i 0 ≡ k → ⊥) → get_or (set columns (get_or keys i 0) (with_last (get_or columns (get_or keys i 0) []) body i)) k [] ≡ get_or base k [] ++ cell_of body k (take (i + 1) keys)
+    elsewhere : (get_or keys i 0 ≡ k → ⊥) →
+        get_or (set columns (get_or keys i 0) (with_last (get_or columns (get_or keys i 0) []) body i)) k [] ≡ get_or base k []
+        ++ cell_of body k (take (i + 1) keys)
     elsewhere ne =
         get_or-set_other columns (get_or keys i 0) k (with_last (get_or columns (get_or keys i 0) []) body i) [] (λ e. ne (sym e))
         ∙ so_far
@@ -148,7 +156,8 @@ ends_in-at (x ∷ y ∷ cells) d body lt =
     ∙ ap (λ n. eqb (get_or (y ∷ cells) n d).body body) (let e : suc (length cells) - 1 ≡ length cells = omega arith in e)
     ∙ ap (λ n. eqb (get_or (x ∷ y ∷ cells) n d).body body) (let e : suc (length cells) ≡ suc (suc (length cells)) - 1 = omega arith in e)
 
-pub row_step : (cells : List Occurrence) (base : List Occurrence) (rows : List (List ℕ)) (i k : ℕ) (row : List ℕ) → i < length rows → get_or rows i [] ≡ row → base ≡ column 0 k (take i rows) → cells ≡ base ++ cell_of i k row → cells ≡ column 0 k (take (i + 1) rows)
+pub row_step : (cells : List Occurrence) (base : List Occurrence) (rows : List (List ℕ)) (i k : ℕ) (row : List ℕ) → i < length rows →
+    get_or rows i [] ≡ row → base ≡ column 0 k (take i rows) → cells ≡ base ++ cell_of i k row → cells ≡ column 0 k (take (i + 1) rows)
 row_step cells base rows i k row lt at so_far added =
     added
     ∙ ap (λ b. b ++ cell_of i k row) so_far

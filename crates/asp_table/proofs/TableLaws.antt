@@ -41,20 +41,24 @@ length-rows_from [] items h = absurd h
 length-rows_from (s ∷ []) items h = refl
 length-rows_from (s ∷ e ∷ starts) items h = let rest = length-rows_from (e ∷ starts) items h.1 in omega (arith, rest)
 
-rise : {X : Type 0} (starts : List ℕ) (items : List X) (i : ℕ) → AreStarts starts items → suc i < length starts → (get_or starts i 0 ≤ get_or starts (suc i) 0) × (get_or starts (suc i) 0 ≤ length items)
+rise : {X : Type 0} (starts : List ℕ) (items : List X) (i : ℕ) → AreStarts starts items → suc i < length starts →
+    (get_or starts i 0 ≤ get_or starts (suc i) 0) × (get_or starts (suc i) 0 ≤ length items)
 rise [] items i h lt = absurd h
 rise (s ∷ []) items i h lt = absurd (omega arith)
 rise (s ∷ e ∷ starts) items zero h lt = (h.0, start_within e starts items h.1)
 rise (s ∷ e ∷ starts) items (suc i) h lt = rise (e ∷ starts) items i h.1 (omega arith)
 
-pub starts_rise : {X : Type 0} (starts : List ℕ) (items : List X) (i : ℕ) → AreStarts starts items → i + 1 < length starts → (get_or starts i 0 ≤ get_or starts (i + 1) 0) × (get_or starts (i + 1) 0 ≤ length items)
+pub starts_rise : {X : Type 0} (starts : List ℕ) (items : List X) (i : ℕ) → AreStarts starts items → i + 1 < length starts →
+    (get_or starts i 0 ≤ get_or starts (i + 1) 0) × (get_or starts (i + 1) 0 ≤ length items)
 starts_rise starts items i h lt = rw add-one (rise starts items i h (omega arith))
 
-row_at : {X : Type 0} (starts : List ℕ) (items : List X) (i : ℕ) → AreStarts starts items → suc i < length starts → get_or (rows_from starts items) i [] ≡ take (get_or starts (suc i) 0 - get_or starts i 0) (drop (get_or starts i 0) items)
+row_at : {X : Type 0} (starts : List ℕ) (items : List X) (i : ℕ) → AreStarts starts items → suc i < length starts →
+    get_or (rows_from starts items) i [] ≡ take (get_or starts (suc i) 0 - get_or starts i 0) (drop (get_or starts i 0) items)
 row_at [] items i h lt = absurd h
 row_at (s ∷ []) items i h lt = absurd (omega arith)
 row_at (s ∷ e ∷ starts) items zero h lt = refl
 row_at (s ∷ e ∷ starts) items (suc i) h lt = row_at (e ∷ starts) items i h.1 (omega arith)
 
-pub get_or-rows_from : {X : Type 0} (starts : List ℕ) (items : List X) (i : ℕ) → AreStarts starts items → i + 1 < length starts → get_or (rows_from starts items) i [] ≡ take (get_or starts (i + 1) 0 - get_or starts i 0) (drop (get_or starts i 0) items)
+pub get_or-rows_from : {X : Type 0} (starts : List ℕ) (items : List X) (i : ℕ) → AreStarts starts items → i + 1 < length starts →
+    get_or (rows_from starts items) i [] ≡ take (get_or starts (i + 1) 0 - get_or starts i 0) (drop (get_or starts i 0) items)
 get_or-rows_from starts items i h lt = rw add-one (row_at starts items i h (omega arith))

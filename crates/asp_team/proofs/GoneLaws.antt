@@ -21,7 +21,8 @@ use Rattle.asp_team.specs.declared.lead.Lead.{Lead}
 use Rattle.asp_team.specs.Joined.{CameHome, IsHome, LeftBy, StayHome}
 
 -- as others go on, one of whom may have been short of memory
-pub gone-prefix : (t : Task) (n : ℕ) (xs ys : List Event) (p : IsPrefix xs ys) → IsJournalOf t ys → NoneBy signed n p.0 → (s short never : Bool) → (s ≡ true → short ≡ true) → (begun : List Event) → IsGone t s never n begun xs → IsGone t short never n begun ys
+pub gone-prefix : (t : Task) (n : ℕ) (xs ys : List Event) (p : IsPrefix xs ys) → IsJournalOf t ys → NoneBy signed n p.0 → (s short never : Bool) →
+    (s ≡ true → short ≡ true) → (begun : List Event) → IsGone t s never n begun xs → IsGone t short never n begun ys
 gone-prefix t n xs ys p lawful none s short never more begun g =
     subst (IsGone t short never n begun) p.1
     (gone-later t n xs p.0 (subst (IsJournalOf t) (sym p.1) lawful) (others-are n p.0 none) short never begun (gone-shorter t n begun xs s short never more g))

@@ -46,8 +46,11 @@ each-number P i (h ∷ hs) is all n low high =
     here (inr ne) rest = rest (omega (arith, low, ne))
 
 -- ---- the book that was closed: v is the first seat's view, and w when it has looked once more
-module _ (v w : Knows) (b : Booked) (idle : IsIdle v) (first : v.number ≡ 0) (mine : of_number signed v.number (placed 0 v.seen) ≡ named signed v.own) (home : (n : ℕ) → 0 < n → n ≤ v.splits → IsHome v n)
-    (looks : w ≡ seeing w.seen v) (learnt : Learnt signed v w.seen) (more : IsPrefix w.seen b.journal) (same : (n : ℕ) → of_number signed n (placed 0 b.journal) ≡ of_number signed n (placed 0 w.seen)) (guests : Guests signed w b.journal) (about : Some b.task ≡ w.about) (lawful : IsJournalOf b.task b.journal) where
+module _ (v w : Knows) (b : Booked) (idle : IsIdle v) (first : v.number ≡ 0) (mine : of_number signed v.number (placed 0 v.seen) ≡ named signed v.own)
+    (home : (n : ℕ) → 0 < n → n ≤ v.splits → IsHome v n)
+    (looks : w ≡ seeing w.seen v) (learnt : Learnt signed v w.seen) (more : IsPrefix w.seen b.journal)
+        (same : (n : ℕ) → of_number signed n (placed 0 b.journal) ≡ of_number signed n (placed 0 w.seen)) (guests : Guests signed w b.journal)
+        (about : Some b.task ≡ w.about) (lawful : IsJournalOf b.task b.journal) where
   task : task_of v ≡ b.task
   task = sym (ap (λ (o : Option Task). unwrap_or o no_task) (about ∙ ap (λ (x : Knows). x.about) looks))
 
@@ -59,7 +62,8 @@ module _ (v w : Knows) (b : Booked) (idle : IsIdle v) (first : v.number ≡ 0) (
     units : out_of (board b).out n ≡ 0
 
   -- a number that had nothing, and did nothing since
-  had-none : (n : ℕ) (own : List (ℕ × Event)) → of_number signed n (placed 0 v.seen) ≡ named signed own → of_number signed n (placed 0 b.journal) ≡ named signed own → held_by n (seen_board v).nodes ≡ 0 → out_of (seen_board v).out n ≡ 0 → Nothing n
+  had-none : (n : ℕ) (own : List (ℕ × Event)) → of_number signed n (placed 0 v.seen) ≡ named signed own →
+      of_number signed n (placed 0 b.journal) ≡ named signed own → held_by n (seen_board v).nodes ≡ 0 → out_of (seen_board v).out n ≡ 0 → Nothing n
   had-none n own was now free units =
       let s : Spares n (replay b.task v.seen) (board b) = spares-later b.task n v.seen b.journal whole lawful (since-none n v.seen b.journal own whole was now) in
       record {
@@ -94,7 +98,8 @@ module _ (v w : Knows) (b : Booked) (idle : IsIdle v) (first : v.number ≡ 0) (
   gone-closed : (n : ℕ) → IsHome v n → (short never : Bool) (begun : List Event) → LeftBy v short never begun n → IsGone b.task short never n begun b.journal
   gone-closed n h short never begun g =
       let now : of_number signed n (placed 0 b.journal) ≡ named signed h.own = guests h.place (n, h.own) (ap (λ (x : Knows). get_elem? x.guests h.place) looks ∙ h.guest) in
-      gone-prefix b.task n v.seen b.journal whole lawful (since-none n v.seen b.journal h.own whole h.stands now) short short never (λ s. s) begun (subst (λ (t : Task). IsGone t short never n begun v.seen) task g)
+      gone-prefix b.task n v.seen b.journal whole lawful (since-none n v.seen b.journal h.own whole h.stands now) short short never (λ s. s) begun
+          (subst (λ (t : Task). IsGone t short never n begun v.seen) task g)
 
   -- number 0 did nothing since it looked
   alone : NoneBy signed 0 whole.0

@@ -32,7 +32,8 @@ none-more : {A : Type 0} (xs ys : List A) → xs ≡ xs ++ ys → ys ≡ []
 none-more xs [] e = refl
 none-more xs (y ∷ ys) e = absurd (omega (arith, ap length e, length-append xs (y ∷ ys)))
 
-pub since-none : (n : ℕ) (xs ys : List Event) (own : List (ℕ × Event)) (p : IsPrefix xs ys) → of_number signed n (placed 0 xs) ≡ named signed own → of_number signed n (placed 0 ys) ≡ named signed own → NoneBy signed n p.0
+pub since-none : (n : ℕ) (xs ys : List Event) (own : List (ℕ × Event)) (p : IsPrefix xs ys) → of_number signed n (placed 0 xs) ≡ named signed own →
+    of_number signed n (placed 0 ys) ≡ named signed own → NoneBy signed n p.0
 since-none n xs ys own p h k =
     none_if signed n (length xs) p.0
     (none-more (of_number signed n (placed 0 xs)) (of_number signed n (placed (length xs) p.0))
@@ -67,7 +68,8 @@ place-last [] x = refl
 place-last (y ∷ xs) x = place-last xs x
 
 -- ---- a seat is joined
-module _ (v u w : Knows) (same : u.about ≡ v.about) (is : w ≡ merged v u) (begins : IsPrefix v.seen w.seen × IsPrefix u.seen w.seen) (guests : Guests signed w w.seen) (lawful : IsJournalOf (task_of v) v.seen) where
+module _ (v u w : Knows) (same : u.about ≡ v.about) (is : w ≡ merged v u) (begins : IsPrefix v.seen w.seen × IsPrefix u.seen w.seen)
+    (guests : Guests signed w w.seen) (lawful : IsJournalOf (task_of v) v.seen) where
   task-same : task_of w ≡ task_of v
   task-same = ap (λ (x : Knows). task_of x) is
 
@@ -99,7 +101,8 @@ module _ (v u w : Knows) (same : u.about ≡ v.about) (is : w ≡ merged v u) (b
         home = ap (λ (t : Task). out_of (replay t w.seen).out n) task-same ∙ s.units ∙ h.home;
       }
 
-  pub still-gone : IsJournalOf (task_of u) u.seen → (n : ℕ) → IsHome v n → (s short : Bool) → (s ≡ true → short ≡ true) → (never : Bool) (begun : List Event) → LeftBy v s never begun n → LeftBy w short never begun n
+  pub still-gone : IsJournalOf (task_of u) u.seen → (n : ℕ) → IsHome v n → (s short : Bool) → (s ≡ true → short ≡ true) →
+      (never : Bool) (begun : List Event) → LeftBy v s never begun n → LeftBy w short never begun n
   still-gone other n h s short more never begun g =
       let at : get_elem? w.guests h.place ≡ some (n, h.own) =
       subst (λ (gs : List (ℕ × List (ℕ × Event))). get_elem? gs h.place ≡ some (n, h.own)) (sym guests-are) (place-kept v.guests ((u.number, u.own) ∷ []) h.place (n, h.own) h.guest) in
@@ -107,13 +110,15 @@ module _ (v u w : Knows) (same : u.about ≡ v.about) (is : w ≡ merged v u) (b
       subst (λ (t : Task). IsGone t short never n begun w.seen) (sym task-same)
       (gone-prefix (task_of v) n v.seen w.seen begins.0 law (since-none n v.seen w.seen h.own begins.0 h.stands (guests h.place (n, h.own) at)) s short never more begun g)
 
-  pub came-home : IsJournalOf (task_of u) u.seen → of_number signed u.number (placed 0 u.seen) ≡ named signed u.own → held_by u.number (seen_board u).nodes ≡ 0 → out_of (seen_board u).out u.number ≡ 0 → IsHome w u.number
+  pub came-home : IsJournalOf (task_of u) u.seen → of_number signed u.number (placed 0 u.seen) ≡ named signed u.own →
+      held_by u.number (seen_board u).nodes ≡ 0 → out_of (seen_board u).out u.number ≡ 0 → IsHome w u.number
   came-home other own free home =
       let at : get_elem? w.guests (length v.guests) ≡ some (u.number, u.own) =
       subst (λ (gs : List (ℕ × List (ℕ × Event))). get_elem? gs (length v.guests) ≡ some (u.number, u.own)) (sym guests-are) (place-last v.guests (u.number, u.own)) in
       let stands : of_number signed u.number (placed 0 w.seen) ≡ named signed u.own = guests (length v.guests) (u.number, u.own) at in
       let law : IsJournalOf (task_of u) w.seen = subst (λ (t : Task). IsJournalOf t w.seen) task-other (joined-lawful other) in
-      let s : Spares u.number (replay (task_of u) u.seen) (replay (task_of u) w.seen) = spares-later (task_of u) u.number u.seen w.seen begins.1 law (since-none u.number u.seen w.seen u.own begins.1 own stands) in
+      let s : Spares u.number (replay (task_of u) u.seen) (replay (task_of u) w.seen) =
+          spares-later (task_of u) u.number u.seen w.seen begins.1 law (since-none u.number u.seen w.seen u.own begins.1 own stands) in
       record {
         place = length v.guests;
         own = u.own;
@@ -123,7 +128,8 @@ module _ (v u w : Knows) (same : u.about ≡ v.about) (is : w ≡ merged v u) (b
         home = ap (λ (t : Task). out_of (replay t w.seen).out u.number) task-other ∙ s.units ∙ home;
       }
 
-  pub came-gone : IsJournalOf (task_of u) u.seen → of_number signed u.number (placed 0 u.seen) ≡ named signed u.own → (s short : Bool) → (s ≡ true → short ≡ true) → (never : Bool) (begun : List Event) → LeftBy u s never begun u.number → LeftBy w short never begun u.number
+  pub came-gone : IsJournalOf (task_of u) u.seen → of_number signed u.number (placed 0 u.seen) ≡ named signed u.own → (s short : Bool) →
+      (s ≡ true → short ≡ true) → (never : Bool) (begun : List Event) → LeftBy u s never begun u.number → LeftBy w short never begun u.number
   came-gone other own s short more never begun g =
       let at : get_elem? w.guests (length v.guests) ≡ some (u.number, u.own) =
       subst (λ (gs : List (ℕ × List (ℕ × Event))). get_elem? gs (length v.guests) ≡ some (u.number, u.own)) (sym guests-are) (place-last v.guests (u.number, u.own)) in
@@ -141,7 +147,8 @@ merged-joins {D = D} {E = E} v u w is more = record {
   seen = more;
 }
 
-pub lead-joined : (c : Shared) (l k : Lead) (u : Knows) → IsLead c l → IsBeside l.seat k.seat → IsAt c.log k.pages → IsFirst k.pages → view k.seat ≡ merged (view l.seat) u → IsJournalOf (task_of (view k.seat)) (view k.seat).seen → IsLead c k
+pub lead-joined : (c : Shared) (l k : Lead) (u : Knows) → IsLead c l → IsBeside l.seat k.seat → IsAt c.log k.pages → IsFirst k.pages →
+    view k.seat ≡ merged (view l.seat) u → IsJournalOf (task_of (view k.seat)) (view k.seat).seen → IsLead c k
 lead-joined c l k u is beside at first e lawful = record {
   book = beside ∙ is.book;
   log = at;
@@ -152,12 +159,14 @@ lead-joined c l k u is beside at first e lawful = record {
 }
 
 -- ---- the first number did nothing meanwhile
-pub still-idle : (v w : Knows) (n : ℕ) → IsIdle v → Joins v w n → w.number ≡ v.number → w.holds ≡ false → IsJournalOf (task_of w) w.seen → of_number signed v.number (placed 0 v.seen) ≡ named signed v.own → of_number signed w.number (placed 0 w.seen) ≡ named signed w.own → IsIdle w
+pub still-idle : (v w : Knows) (n : ℕ) → IsIdle v → Joins v w n → w.number ≡ v.number → w.holds ≡ false → IsJournalOf (task_of w) w.seen →
+    of_number signed v.number (placed 0 v.seen) ≡ named signed v.own → of_number signed w.number (placed 0 w.seen) ≡ named signed w.own → IsIdle w
 still-idle v w n i j same rests lawful mine now =
     let task : task_of w ≡ task_of v = ap (λ (o : Option Task). unwrap_or o no_task) j.about in
     let law : IsJournalOf (task_of v) w.seen = subst (λ (t : Task). IsJournalOf t w.seen) task lawful in
     let stands : of_number signed v.number (placed 0 w.seen) ≡ named signed v.own = ap (λ k. of_number signed k (placed 0 w.seen)) (sym same) ∙ now ∙ ap (named signed) j.own in
-    let s : Spares v.number (replay (task_of v) v.seen) (replay (task_of v) w.seen) = spares-later (task_of v) v.number v.seen w.seen j.seen law (since-none v.number v.seen w.seen v.own j.seen mine stands) in
+    let s : Spares v.number (replay (task_of v) v.seen) (replay (task_of v) w.seen) =
+        spares-later (task_of v) v.number v.seen w.seen j.seen law (since-none v.number v.seen w.seen v.own j.seen mine stands) in
     record {
       settled = record {
         seated = record { about = j.about ∙ i.settled.seated.about ∙ ap (λ (t : Task). Some t) (sym task); rests = rests; lawful = lawful };

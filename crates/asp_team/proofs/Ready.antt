@@ -9,7 +9,8 @@ abbrev value_or : {X : Type 0} → X → Option X → X
 value_or d (Some x) = x
 value_or d None = d
 
-pub popped : {X : Type 0} (P : X → Type 0) (xs : List X) (n : ℕ) (o : Option X) (x : X) → All P xs → n ≡ length xs → 0 < n → ((d : X) → 0 < n → o ≡ Some (slice_index_or xs (n - 1) d)) → o ≡ Some x → P x
+pub popped : {X : Type 0} (P : X → Type 0) (xs : List X) (n : ℕ) (o : Option X) (x : X) → All P xs → n ≡ length xs → 0 < n →
+    ((d : X) → 0 < n → o ≡ Some (slice_index_or xs (n - 1) d)) → o ≡ Some x → P x
 popped P xs n o x all len some value is = subst P (ap (value_or x) (sym (value x some) ∙ is)) (all (n - 1) x (omega (arith, len, some)))
 
 -- What was asked of all holds of those that are left.

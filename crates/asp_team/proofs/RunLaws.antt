@@ -31,7 +31,8 @@ use Rattle.asp_team.proofs.JoinLaws.{since-none}
 pub all-back : {D E : Type 0} (v w : View D E) (n : ℕ) → HasOut v n → Joins v w n → IsAllBack w
 all-back v w n out j = omega (arith, out.splits, out.joins, j.splits, j.joins)
 
-pub all-home : (c : Shared) (l k : Lead) (hs : List Worker) → AreReady c l hs → Joins (view l.seat) (view k.seat) (length hs) → All (λ h. IsHome (view k.seat) (view h.seat).number) hs → (n : ℕ) → 0 < n → n ≤ (view k.seat).splits → IsHome (view k.seat) n
+pub all-home : (c : Shared) (l k : Lead) (hs : List Worker) → AreReady c l hs → Joins (view l.seat) (view k.seat) (length hs) →
+    All (λ h. IsHome (view k.seat) (view h.seat).number) hs → (n : ℕ) → 0 < n → n ≤ (view k.seat).splits → IsHome (view k.seat) n
 all-home c l k hs ready j came n some few = each-number (IsHome (view k.seat)) 1 hs ready.numbered came n (omega (arith, some)) (omega (arith, few, j.splits, ready.out.splits))
 
 -- ---- what the book is for
@@ -47,13 +48,18 @@ run-query p ask budget t e = subst QueryStands (sym e) tt
 pub run-begins : (p : Program) (ask : Ask) (budget : ℕ) (t : Task) → t ≡ task_of p ask budget → MayBegin ask.mode None t.goal
 run-begins p ask budget t e = subst (λ (x : Task). MayBegin ask.mode None x.goal) (sym e) (inl ((ask.by_name, refl), refl))
 
-pub report-is : (p : Program) (ask : Ask) (budget : ℕ) (t : Task) (r : Report) → t ≡ task_of p ask budget → IsReport t.program (asks ask.mode ask.models ask.by_name) t.budget r → IsReport p (asks ask.mode ask.models ask.by_name) budget r
+pub report-is : (p : Program) (ask : Ask) (budget : ℕ) (t : Task) (r : Report) → t ≡ task_of p ask budget →
+    IsReport t.program (asks ask.mode ask.models ask.by_name) t.budget r → IsReport p (asks ask.mode ask.models ask.by_name) budget r
 report-is p ask budget t r e is = subst (λ (x : Task). IsReport x.program (asks ask.mode ask.models ask.by_name) x.budget r) e is
 
 -- ---- who did what
 -- what the workers left, once all have come back
-pub have-left : (stopped : Type 0) (never : Bool) → (never ≡ true → stopped → ⊥) → (c : Shared) (l k : Lead) (hs : List Worker) → AreForks (view l.seat).seen → AreReady c l hs → Joins (view l.seat) (view k.seat) (length hs) → (view l.seat).number ≡ 0 → (view k.seat).number ≡ 0 →
-    of_number signed (view l.seat).number (placed 0 (view l.seat).seen) ≡ named signed (view l.seat).own → of_number signed (view k.seat).number (placed 0 (view k.seat).seen) ≡ named signed (view k.seat).own → All (CameHome stopped k) hs → HaveLeft k never (view l.seat).seen
+pub have-left : (stopped : Type 0) (never : Bool) → (never ≡ true → stopped → ⊥) → (c : Shared) (l k : Lead) (hs : List Worker) →
+    AreForks (view l.seat).seen → AreReady c l hs → Joins (view l.seat) (view k.seat) (length hs) → (view l.seat).number ≡ 0 →
+    (view k.seat).number ≡ 0 →
+    of_number signed (view l.seat).number (placed 0 (view l.seat).seen) ≡ named signed (view l.seat).own →
+        of_number signed (view k.seat).number (placed 0 (view k.seat).seen) ≡ named signed (view k.seat).own → All (CameHome stopped k) hs →
+        HaveLeft k never (view l.seat).seen
 have-left stopped never denied c l k hs forks ready j first last mine now came =
     let v : Knows = view l.seat in
     let w : Knows = view k.seat in
@@ -70,7 +76,9 @@ have-left stopped never denied c l k hs forks ready j first last mine now came =
     }
 
 -- the report of a run whose main thread went on alone
-pub report-shared : (p : Program) (ask : Ask) (budget : ℕ) (r : Report) → IsReport p (asks ask.mode ask.models ask.by_name) budget r → r.second ≡ None → (workers : ℕ) (short never : Bool) (begun rest more : List Event) → 0 < workers → IsCrewGone (task_of p ask budget) workers short never begun rest →
+pub report-shared : (p : Program) (ask : Ask) (budget : ℕ) (r : Report) → IsReport p (asks ask.mode ask.models ask.by_name) budget r →
+    r.second ≡ None → (workers : ℕ) (short never : Bool) (begun rest more : List Event) → 0 < workers →
+    IsCrewGone (task_of p ask budget) workers short never begun rest →
     r.journal ≡ (begun ++ rest) ++ more → AllByRecursion (λ e. maker e ≡ 0) more → r.short ≡ short → IsShared (task_of p ask budget) r.short never r.journal
 report-shared p ask budget r is second workers short never begun rest more some crew journal main same =
     let t : Task = task_of p ask budget in

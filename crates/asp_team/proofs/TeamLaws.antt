@@ -43,7 +43,8 @@ opened-idle p ask budget v fits is = subst IsIdle (sym is) (record {
 pub opened-begun : (p : Program) (ask : Ask) (budget : ℕ) (v : Knows) → budget < 2 ^ 64 → v ≡ opened (runs.task_of p ask budget) [] → IsBegun (runs.task_of p ask budget) v
 opened-begun p ask budget v fits is =
     let t : Task = runs.task_of p ask budget in
-    subst (IsBegun t) (sym is) (record { about = refl; first = refl; idle = opened-idle p ask budget (opened t []) fits refl; new = λ n over. tt; out = record { splits = refl; joins = refl }; forks = tt })
+    subst (IsBegun t) (sym is) (record { about = refl; first = refl; idle = opened-idle p ask budget (opened t []) fits refl; new = λ n over. tt;
+                out = record { splits = refl; joins = refl }; forks = tt })
 
 -- ---- one seat is split in two
 pub parted-idle : (v : Knows) → IsIdle v → IsIdle (parted v)
@@ -84,7 +85,8 @@ module _ (c : Shared) (l k : Lead) (is : IsHost c l) (beside : IsBeside l.seat k
       }
 
 -- the new worker may begin
-pub may-join : (c : Shared) (l : Lead) (h : Worker) → IsHost c l → IsBeside l.seat h.seat → IsAt c.log h.pages → IsOfPool c.pool h.pass → view h.seat ≡ fresh (view l.seat) → MayJoin (task_of (view l.seat)).program c (view l.seat).about h
+pub may-join : (c : Shared) (l : Lead) (h : Worker) → IsHost c l → IsBeside l.seat h.seat → IsAt c.log h.pages → IsOfPool c.pool h.pass →
+    view h.seat ≡ fresh (view l.seat) → MayJoin (task_of (view l.seat)).program c (view l.seat).about h
 may-join c l h is beside at pool e =
     let v : Knows = view l.seat in
     let p : Program = (task_of v).program in
@@ -121,7 +123,8 @@ out-more {D = D} {E = E} v w n m is e more = record {
   joins = ap (λ (y : View D E). y.joins) e ∙ is.joins;
 }
 
-pub ready-more : (c : Shared) (l k : Lead) (hs xs : List Worker) (h : Worker) → AreReady c l hs → view k.seat ≡ parted (view l.seat) → ((n : ℕ) → HasSplit l.pages n → HasSplit k.pages (n + 1)) → MayJoin (task_of (view l.seat)).program c (view l.seat).about h →
+pub ready-more : (c : Shared) (l k : Lead) (hs xs : List Worker) (h : Worker) → AreReady c l hs → view k.seat ≡ parted (view l.seat) →
+    ((n : ℕ) → HasSplit l.pages n → HasSplit k.pages (n + 1)) → MayJoin (task_of (view l.seat)).program c (view l.seat).about h →
     (view h.seat).number ≡ (view l.seat).splits + 1 → (view h.seat).seen ≡ (view l.seat).seen → xs ≡ hs ++ h ∷ [] → AreReady c k xs
 ready-more c l k hs xs h is e f may number began at =
     let v : Knows = view l.seat in
@@ -137,7 +140,9 @@ ready-more c l k hs xs h is e f may number began at =
     }
 
 pub ready-none : (c : Shared) (l : Lead) → HasOut (view l.seat) 0 → HasSplit l.pages 0 → AreReady c l []
-ready-none c l out pages_out = record { out = out; pages_out = pages_out; may = All-nil (MayJoin (task_of (view l.seat)).program c (view l.seat).about); numbered = tt; began = All-nil (λ x. (view x.seat).seen ≡ (view l.seat).seen) }
+ready-none c l out pages_out = record
+    { out = out; pages_out = pages_out; may = All-nil (MayJoin (task_of (view l.seat)).program c (view l.seat).about); numbered = tt; began =
+        All-nil (λ x. (view x.seat).seen ≡ (view l.seat).seen) }
 
 -- ---- a pass is taken
 pub popped-rest : {X : Type 0} (P : X → Type 0) (xs ys : List X) (o : Option X) → Every P xs → xs ≡ ys ++ option_to_list o → Every P ys
@@ -148,7 +153,8 @@ popped-one {X = X} P xs ys o x every is some_x =
     every (length ys) x (ap (λ (l : List X). get_elem? l (length ys)) (is ∙ ap (λ (q : Option X). ys ++ option_to_list q) some_x) ∙ place-last ys x)
 
 -- ---- the whole team
-pub host-begun : (p : Program) (ask : Ask) (budget : ℕ) (c : Shared) (l : Lead) → ask.mode ≡ c.mode → IsOf c.book l.seat → IsAt c.log l.pages → IsBegun (runs.task_of p ask budget) (view l.seat) → program_of c.log ≡ p → IsFirst l.pages → IsHost c l
+pub host-begun : (p : Program) (ask : Ask) (budget : ℕ) (c : Shared) (l : Lead) → ask.mode ≡ c.mode → IsOf c.book l.seat → IsAt c.log l.pages →
+    IsBegun (runs.task_of p ask budget) (view l.seat) → program_of c.log ≡ p → IsFirst l.pages → IsHost c l
 host-begun p ask budget c l mode book log is for first =
     let t : Task = runs.task_of p ask budget in
     let same : task_of (view l.seat) ≡ t = ap (λ (o : Option Task). unwrap_or o no_task) is.about in
@@ -162,7 +168,8 @@ host-begun p ask budget c l mode book log is for first =
     }
 
 -- the workers may join, by what the team is for
-pub all-may : (p : Program) (ask : Ask) (budget : ℕ) (c : Shared) (l : Lead) (hs : List Worker) → (view l.seat).about ≡ Some (runs.task_of p ask budget) → AreReady c l hs → All (MayJoin p c (view l.seat).about) hs
+pub all-may : (p : Program) (ask : Ask) (budget : ℕ) (c : Shared) (l : Lead) (hs : List Worker) →
+    (view l.seat).about ≡ Some (runs.task_of p ask budget) → AreReady c l hs → All (MayJoin p c (view l.seat).about) hs
 all-may p ask budget c l hs about is = subst (λ (q : Program). All (MayJoin q c (view l.seat).about) hs) (ap (λ (o : Option Task). (unwrap_or o no_task).program) about) is.may
 
 -- ---- workers are added while lanes are left

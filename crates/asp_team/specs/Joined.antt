@@ -63,7 +63,8 @@ pub record CameHome (stopped : Type 0) (l : Lead) (h : Worker) : Type 0 where
 
 -- Whoever was at home is, and what it left behind is there.
 abbrev pub StayHome : Lead → Lead → Type 0
-StayHome l k = (n : ℕ) → IsHome (view l.seat) n → IsHome (view k.seat) n × ((never : Bool) (begun : List Event) → LeftBy (view l.seat) l.short never begun n → LeftBy (view k.seat) k.short never begun n)
+StayHome l k = (n : ℕ) → IsHome (view l.seat) n → IsHome (view k.seat) n ×
+    ((never : Bool) (begun : List Event) → LeftBy (view l.seat) l.short never begun n → LeftBy (view k.seat) k.short never begun n)
 
 -- The worker may begin, and its seat is for this task.
 pub record MayJoin (p : Program) (c : Shared) (about : Option Task) (h : Worker) : Type 0 where

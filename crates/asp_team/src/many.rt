@@ -98,7 +98,8 @@ fn dismissed(shared: Shared, lead: Lead) -> (Book, u32, Tallies, Scroll)
     ensures task { Some result.0.task ≡ (view lead.seat).about }
     ensures idle { IsIdleBoard (board result.0) }
     ensures tallies { result.2 ≡ shared.tallies }
-    ensures crew { (never : Bool) (begun : List Event) → HaveLeft lead never begun → (rest : List Event) × (result.0.journal ≡ begun ++ rest) × IsCrewGone result.0.task (view lead.seat).splits lead.short never begun rest }
+    ensures crew { (never : Bool) (begun : List Event) → HaveLeft lead never begun → (rest : List Event) × (result.0.journal ≡ begun ++ rest) ×
+            IsCrewGone result.0.task (view lead.seat).splits lead.short never begun rest }
 {
     let Lead {
         mut seat,

@@ -30,13 +30,15 @@ cut_none (x ∷ xs) le = (elim (is_lf x) as (λ v. suc (length xs) ≤ cond (not
 
 pub cut_some : (xs : List ℕ) → position_or_len is_lf xs < length xs → cut xs ≡ Some (take (position_or_len is_lf xs) xs, drop (position_or_len is_lf xs + 1) xs)
 cut_some [] lt = absurd (omega arith)
-cut_some (x ∷ xs) lt = (elim (is_lf x) as (λ v. cond (not v) (1 + at xs) 0 < suc (length xs) → (if v then Some ([], xs) else option_map (onto_cut x) (cut xs)) ≡ Some (take (cond (not v) (1 + at xs) 0) (x ∷ xs), drop (cond (not v) (1 + at xs) 0 + 1) (x ∷ xs))) [
-  | true ↦ λ h. refl
-  | false ↦ λ h.
-      let e : 1 + at xs ≡ suc (at xs) = omega arith in
-      let f : suc (at xs) + 1 ≡ suc (at xs + 1) = omega arith in
-      rw (e, f) (ap (option_map (onto_cut x)) (cut_some xs (omega arith)))
-]) lt
+cut_some (x ∷ xs) lt = (elim (is_lf x) as (λ v. cond (not v) (1 + at xs) 0 < suc (length xs) →
+    (if v then Some ([], xs) else option_map (onto_cut x) (cut xs)) ≡ Some
+    (take (cond (not v) (1 + at xs) 0) (x ∷ xs), drop (cond (not v) (1 + at xs) 0 + 1) (x ∷ xs))) [
+      | true ↦ λ h. refl
+      | false ↦ λ h.
+          let e : 1 + at xs ≡ suc (at xs) = omega arith in
+          let f : suc (at xs) + 1 ≡ suc (at xs + 1) = omega arith in
+          rw (e, f) (ap (option_map (onto_cut x)) (cut_some xs (omega arith)))
+    ]) lt
 
 pub from : (xs : List ℕ) (n : ℕ) → n ≤ position_or_len is_lf xs → position_or_len is_lf xs ≡ n + position_or_len is_lf (drop n xs)
 from xs zero le = sym (zero-add (at xs))
@@ -67,12 +69,15 @@ found_none text clear le e =
     let h = none_at (drop clear text) (e ∙ ap (position is_lf) (unread_is text clear)) in
     cut_none text (omega (arith, h, from text clear le, length-drop clear text))
 
-pub found_some : (text : List ℕ) (clear n : ℕ) → clear ≤ position_or_len is_lf text → Some n ≡ position is_lf (take (length text - clear) (drop clear text)) → (clear + n ≡ position_or_len is_lf text) × (position_or_len is_lf text < length text)
+pub found_some : (text : List ℕ) (clear n : ℕ) → clear ≤ position_or_len is_lf text →
+    Some n ≡ position is_lf (take (length text - clear) (drop clear text)) → (clear + n ≡ position_or_len is_lf text) ×
+    (position_or_len is_lf text < length text)
 found_some text clear n le e =
     let h = some_at (drop clear text) n (e ∙ ap (position is_lf) (unread_is text clear)) in
     (omega (arith, h.0, from text clear le), omega (arith, h.1, from text clear le, length-drop clear text))
 
-pub cut_at : (text : List ℕ) (clear n : ℕ) → clear ≤ position_or_len is_lf text → Some n ≡ position is_lf (take (length text - clear) (drop clear text)) → Some (take (clear + n) text, drop (clear + n + 1) text) ≡ cut text
+pub cut_at : (text : List ℕ) (clear n : ℕ) → clear ≤ position_or_len is_lf text →
+    Some n ≡ position is_lf (take (length text - clear) (drop clear text)) → Some (take (clear + n) text, drop (clear + n + 1) text) ≡ cut text
 cut_at text clear n le e =
     let h = found_some text clear n le e in
     rw h.0 (sym (cut_some text h.1))
@@ -88,13 +93,15 @@ pub at_append : (xs ys : List ℕ) → position_or_len is_lf xs ≤ position_or_
 at_append [] ys = omega arith
 at_append (x ∷ xs) ys = elim (is_lf x) as (λ v. cond (not v) (1 + at xs) 0 ≤ cond (not v) (1 + at (xs ++ ys)) 0) [ true ↦ omega arith | false ↦ omega (arith, at_append xs ys) ]
 
-pub held_none : (held : List ℕ) (start clear given fed n : ℕ) → IsHeld held start clear given fed → n ≡ length held → None ≡ cut (take (length held - start) (drop start held)) → IsHeld held start (n - start) given fed
+pub held_none : (held : List ℕ) (start clear given fed n : ℕ) → IsHeld held start clear given fed → n ≡ length held →
+    None ≡ cut (take (length held - start) (drop start held)) → IsHeld held start (n - start) given fed
 held_none held start clear given fed n h e none =
     let left = none_left (drop start held) (none ∙ ap cut (unread_is held start)) in
     record { start_in = h.start_in; clear_in = omega (arith, left, length-drop start held); counted = h.counted; bounded = h.bounded }
 
 -- one more piece at the end of what is held
-pub held_more : (held piece now : List ℕ) (start clear given fed : ℕ) → IsHeld held start clear given fed → now ≡ held ++ piece → fed + length piece ≤ most_bytes → IsHeld now start clear given (fed + length piece)
+pub held_more : (held piece now : List ℕ) (start clear given fed : ℕ) → IsHeld held start clear given fed → now ≡ held ++ piece →
+    fed + length piece ≤ most_bytes → IsHeld now start clear given (fed + length piece)
 held_more held piece now start clear given fed h e few =
     let rest : drop start (held ++ piece) ≡ drop start held ++ piece = drop-append-le start held piece h.start_in in
     rw e (record {
@@ -125,10 +132,12 @@ count_first x xs = omega (arith, sum_by-append (λ (y : ℕ). cond (is_lf y) 1 0
 
 no_lf : (xs : List ℕ) → cut xs ≡ None → (list_any is_lf xs ≡ false) × (count_by is_lf xs ≡ 0)
 no_lf [] e = (refl, refl)
-no_lf (x ∷ xs) e = rw count_first ((elim (is_lf x) as (λ v. (if v then Some ([], xs) else option_map (onto_cut x) (cut xs)) ≡ None → ((v || list_any is_lf xs) ≡ false) × (cond v 1 0 + count_by is_lf xs ≡ 0)) [
-  | true ↦ λ h. absurd cc
-  | false ↦ λ h. let n = no_lf xs (from_none x (cut xs) h) in (n.0, omega (arith, n.1))
-]) e)
+no_lf (x ∷ xs) e = rw count_first ((elim (is_lf x) as
+    (λ v. (if v then Some ([], xs) else option_map (onto_cut x) (cut xs)) ≡ None → ((v || list_any is_lf xs) ≡ false) ×
+    (cond v 1 0 + count_by is_lf xs ≡ 0)) [
+      | true ↦ λ h. absurd cc
+      | false ↦ λ h. let n = no_lf xs (from_none x (cut xs) h) in (n.0, omega (arith, n.1))
+    ]) e)
 
 -- where no line feed is left
 pub tail_none : (xs : List ℕ) → cut xs ≡ None → (tail xs ≡ xs) × (count_by is_lf xs ≡ 0)
@@ -148,7 +157,8 @@ PassesAt any text later count size rest = (any ≡ true) × ((if any then later 
 pub tail_some : (xs : List ℕ) (x : List ℕ × List ℕ) → cut xs ≡ some x → Passes xs x.1
 tail_some [] x e = absurd cc
 tail_some (b ∷ bs) x e =
-    let p = (elim (is_lf b) as (λ v. (if v then Some ([], bs) else option_map (onto_cut b) (cut bs)) ≡ some x → PassesAt (v || list_any is_lf bs) (b ∷ bs) (tail bs) (cond v 1 0 + count_by is_lf bs) (suc (length bs)) x.1) [
+    let p = (elim (is_lf b) as (λ v. (if v then Some ([], bs) else option_map (onto_cut b) (cut bs)) ≡ some x →
+    PassesAt (v || list_any is_lf bs) (b ∷ bs) (tail bs) (cond v 1 0 + count_by is_lf bs) (suc (length bs)) x.1) [
       | true ↦ λ h.
           let q : some ([], bs) ≡ some x = h in
           let p : bs ≡ x.1 = ap (λ (z : List ℕ × List ℕ). z.1) (some_is ([], bs) x q) in
@@ -162,10 +172,11 @@ tail_some (b ∷ bs) x e =
 
 -- a line that was taken
 pub passed : (text line : List ℕ) → Some line ≡ first_line text → Passes text (after_line text)
-passed text line e = (elim (cut text) as (λ o. cut text ≡ o → Some line ≡ option_map (λ (x : List ℕ × List ℕ). without_cr x.0) o → Passes text (unwrap_or (option_map (λ (x : List ℕ × List ℕ). x.1) o) text)) [
-  | None ↦ λ o h. absurd cc
-  | Some x ↦ λ o h. tail_some text x o
-]) refl e
+passed text line e = (elim (cut text) as (λ o. cut text ≡ o → Some line ≡ option_map (λ (x : List ℕ × List ℕ). without_cr x.0) o →
+    Passes text (unwrap_or (option_map (λ (x : List ℕ × List ℕ). x.1) o) text)) [
+      | None ↦ λ o h. absurd cc
+      | Some x ↦ λ o h. tail_some text x o
+    ]) refl e
 
 pub none_passed : (text : List ℕ) → None ≡ first_line text → (cut text ≡ None) × (after_line text ≡ text)
 none_passed text e = (elim (cut text) as (λ o. None ≡ option_map (λ (x : List ℕ × List ℕ). without_cr x.0) o → (o ≡ None) × (unwrap_or (option_map (λ (x : List ℕ × List ℕ). x.1) o) text ≡ text)) [
@@ -173,7 +184,8 @@ none_passed text e = (elim (cut text) as (λ o. None ≡ option_map (λ (x : Lis
   | Some x ↦ λ h. absurd cc
 ]) e
 
-pub all_passed : (new old first : Unread) → None ≡ first_line old.bytes → new ≡ record old { bytes = after_line old.bytes } → tail old.bytes ≡ tail first.bytes → old.given + count_by is_lf old.bytes ≡ first.given + count_by is_lf first.bytes → old.fed ≡ first.fed
+pub all_passed : (new old first : Unread) → None ≡ first_line old.bytes → new ≡ record old { bytes = after_line old.bytes } →
+    tail old.bytes ≡ tail first.bytes → old.given + count_by is_lf old.bytes ≡ first.given + count_by is_lf first.bytes → old.fed ≡ first.fed
     → new ≡ record { bytes = tail first.bytes; given = first.given + count_by is_lf first.bytes; fed = first.fed }
 all_passed new old first none e same counted fed =
     let n = none_passed old.bytes none in

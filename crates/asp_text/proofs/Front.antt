@@ -46,7 +46,8 @@ behind_sign line text rest n same field =
     let h = behind_filled 45 text refl in
     (rw (front, h.0, field.number) refl, rw (front, h.1) field.behind)
 
-pub negative : (line whole rest : List ℕ) (n : ℕ) → unblank whole ≡ unblank line → 0 < length whole → get_or whole 0 0 ≡ 45 → IsField (take (length whole - 1) (drop 1 whole)) n rest → (integer_of (field_of line) ≡ Some (neg_ℤ (pos n))) × (rest ≡ after_field line)
+pub negative : (line whole rest : List ℕ) (n : ℕ) → unblank whole ≡ unblank line → 0 < length whole → get_or whole 0 0 ≡ 45 →
+    IsField (take (length whole - 1) (drop 1 whole)) n rest → (integer_of (field_of line) ≡ Some (neg_ℤ (pos n))) × (rest ≡ after_field line)
 negative line whole rest n same some first field =
     behind_sign line (take (length whole - 1) (drop 1 whole)) rest n (ap unblank (sym (after_sign whole some first)) ∙ same) field
 

@@ -90,13 +90,15 @@ exact given a report ReadFault m quiet = record {
 }
 exact given a report TooLong m quiet = record {
   accepted = λ told r w. let t = told m.0 in absurd (ok-or-err (outcome_for given.format t.0) t.1 errors.TooLong t.3 (says-at given.format a t.0 _ t.2 m.1.says));
-  refused = λ reads text fault line is out r. let same : errors.TooLong ≡ errors.Refused fault line = one-error (outcome_for given.format text) _ _ (says-at given.format a text _ is m.1.says) out in absurd cc;
+  refused = λ reads text fault line is out r. let same : errors.TooLong ≡ errors.Refused fault line =
+      one-error (outcome_for given.format text) _ _ (says-at given.format a text _ is m.1.says) out in absurd cc;
   too_long = λ reads text is out r. inl refl;
   quiet = quiet;
 }
 exact given a report (Refused f l) m quiet = record {
   accepted = λ told r w. let t = told m.0 in absurd (ok-or-err (outcome_for given.format t.0) t.1 (errors.Refused f l) t.3 (says-at given.format a t.0 _ t.2 m.1.says));
-  refused = λ reads text fault line is out r. let same : errors.Refused f l ≡ errors.Refused fault line = one-error (outcome_for given.format text) _ _ (says-at given.format a text _ is m.1.says) out in inl cc;
+  refused = λ reads text fault line is out r. let same : errors.Refused f l ≡ errors.Refused fault line =
+      one-error (outcome_for given.format text) _ _ (says-at given.format a text _ is m.1.says) out in inl cc;
   too_long = λ reads text is out r. let same : errors.Refused f l ≡ errors.TooLong = one-error (outcome_for given.format text) _ _ (says-at given.format a text _ is m.1.says) out in absurd cc;
   quiet = quiet;
 }
@@ -152,7 +154,10 @@ delivered given a s report solved (inl m) =
     let text = subst (Appends a.held a.held') (told-text given solved.program done (layout_of given) solved.proof) m.1 in
     subst (Means given a report) (sym is) (written given a report solved done.results.end (has_model done.results) refl refl text)
 delivered given a s report solved (inr m) =
-    subst (Means given a report) (sym m.0.1) (inl (record { solved = solved; text = subst (AppendsFront a.held a.held') (told-text given solved.program solved.done (layout_of given) solved.proof) m.1; cause = m.2 }))
+    subst (Means given a report) (sym m.0.1)
+        (inl (record { solved = solved; text =
+                    subst (AppendsFront a.held a.held') (told-text given solved.program solved.done (layout_of given) solved.proof) m.1; cause =
+                    m.2 }))
 
 -- the text of parts was written, or cut off
 handed : (given : Options) (a : Around) (s : Status) (report : Option Report) → (divided : IsDivided given a report)
@@ -160,11 +165,14 @@ handed : (given : Options) (a : Around) (s : Status) (report : Option Report) �
 handed given a s report divided (inl m) = subst (Means given a report) (sym m.0) (record { divided = divided; text = m.1 })
 handed given a s report divided (inr m) = subst (Means given a report) (sym m.0.1) (inr (record { divided = divided; text = m.1; cause = m.2 }))
 
-runs-solved : (given : Options) (a : Around) (p : Program) (o : Outcome) → given.split ≡ None → IsGiven given.format given.make a p → IsSound p → HasNumbers given p → a.reads ≤ a.reads' → a.reads' ≡ a.reads
+runs-solved : (given : Options) (a : Around) (p : Program) (o : Outcome) → given.split ≡ None → IsGiven given.format given.make a p → IsSound p →
+    HasNumbers given p → a.reads ≤ a.reads' → a.reads' ≡ a.reads
     → Solves given p a.held a.held' a.writes a.writes' o → Runs given a o
 runs-solved given a p o whole from sound numbers reads quiet (inl m) = subst (Runs given a) (sym m.0) (runs-memory given a m.1 reads (omega (arith, m.2)) quiet)
 runs-solved given a p o whole from sound numbers reads quiet (inr s) =
-    let solved : IsSolved given a o.report = record { program = p; source = from; sound = sound; numbers = numbers; whole = whole; done = s.0; reports = s.2.reports; is = s.1.0; says = told-says given p (ask_of given p) s.0 s.0.results.end (asked-sound given p sound numbers) s.1.0.says; proof = s.1.1 } in
+    let solved : IsSolved given a o.report = record
+        { program = p; source = from; sound = sound; numbers = numbers; whole = whole; done = s.0; reports = s.2.reports; is = s.1.0; says =
+            told-says given p (ask_of given p) s.0 s.0.results.end (asked-sound given p sound numbers) s.1.0.says; proof = s.1.1 } in
     let means = delivered given a o.status o.report solved s.2.means in
     record { means = means; exact = exact given a o.report o.status means (λ isn't. quiet); later = (reads, s.2.later) }
 
@@ -177,7 +185,8 @@ runs-divided given a p most o asked from reads quiet (inr d) =
     record { means = means; exact = exact given a o.report o.status means (λ isn't. quiet); later = (reads, d.2.later) }
 
 -- the program of a text is there
-pub ready-read : (given : Options) (l l' : Option (List ℕ)) (r r' : ℕ) (p : Program) → given.make ≡ None → IsSound p → IfSome l (λ text. outcome_for given.format text ≡ Ok p) → IsSaid given.format (Ok p) → IsAtEnd l' → r ≤ r' → r' ≡ r
+pub ready-read : (given : Options) (l l' : Option (List ℕ)) (r r' : ℕ) (p : Program) → given.make ≡ None → IsSound p →
+    IfSome l (λ text. outcome_for given.format text ≡ Ok p) → IsSaid given.format (Ok p) → IsAtEnd l' → r ≤ r' → r' ≡ r
     → IsReady given l l' r r' p
 ready-read given l l' r r' p none sound says said end later quiet = record {
   source = λ h h' w w'. subst (λ (m : Option ℕ). IsGiven given.format m (around l l' r r' h h' w w') p) (sym none) (record { says = says; said = said; end = end });
@@ -208,7 +217,8 @@ of-err e is = cc
 
 -- no program was read
 pub over-unread : (given : Options) (l l' : Option (List ℕ)) (r r' : ℕ) (e : ReadError) (status : Status) → status ≡ status_of e → given.make ≡ None
-    → IfSome l (λ t. ReadsText (Err e) (outcome_for given.format t)) → (text : List ℕ) × ReadsText (Err e) (outcome_for given.format text) → r ≤ r' → (IsErrOf {T = Program} (Err e) errors.ReadFault → Rose r r') → StopsFor given.format most_bytes l l' (Err e)
+    → IfSome l (λ t. ReadsText (Err e) (outcome_for given.format t)) → (text : List ℕ) × ReadsText (Err e) (outcome_for given.format text) → r ≤ r' →
+        (IsErrOf {T = Program} (Err e) errors.ReadFault → Rose r r') → StopsFor given.format most_bytes l l' (Err e)
     → (¬ IsErrOf {T = Program} (Err e) errors.ReadFault → r' ≡ r) → IsOver given l l' r r' status
 over-unread given l l' r r' e status is none text some later cause stops quiet =
     subst (IsOver given l l' r r') (sym is) (λ h w. runs-unread given (around l l' r r' h h w w) e none (Keeps-refl h) (omega arith)
@@ -226,15 +236,18 @@ over-why given l l' r r' p unready.Memory ready is = over-memory given l l' r r'
 over-why given l l' r r' p unready.Unnamed ready is = over-unnamed given l l' r r' p ready is.0 is.1
 
 -- a program that is there is compiled, unless memory or numbers are wanting
-pub prepares : (given : Options) (l l' : Option (List ℕ)) (r r' : ℕ) (p : Program) (result : Result Prepared Status) → IsReady given l l' r r' p → IfOk result (λ x. x ≡ prepared_of given p) → OnOk result (HasNumbers given p) → IfErr result (EndsUnready given p)
+pub prepares : (given : Options) (l l' : Option (List ℕ)) (r r' : ℕ) (p : Program) (result : Result Prepared Status) → IsReady given l l' r r' p →
+    IfOk result (λ x. x ≡ prepared_of given p) → OnOk result (HasNumbers given p) → IfErr result (EndsUnready given p)
     → Prepares given l l' r r' result
 prepares given l l' r r' p (Ok x) ready same numbers wanting = (p, ready, numbers, same)
 prepares given l l' r r' p (Err status) ready same numbers wanting = subst (IsOver given l l' r r') (sym wanting.2) (over-why given l l' r r' p wanting.0 ready wanting.1)
 
 -- it is solved
-pub runs-ready : (given : Options) (l l' : Option (List ℕ)) (r r' : ℕ) (h h' : Option (List ℕ)) (w w' : ℕ) (p : Program) (o : Outcome) → given.split ≡ None → IsReady given l l' r r' p → HasNumbers given p → Solves given p h h' w w' o
+pub runs-ready : (given : Options) (l l' : Option (List ℕ)) (r r' : ℕ) (h h' : Option (List ℕ)) (w w' : ℕ) (p : Program) (o : Outcome) →
+    given.split ≡ None → IsReady given l l' r r' p → HasNumbers given p → Solves given p h h' w w' o
     → Runs given (around l l' r r' h h' w w') o
-runs-ready given l l' r r' h h' w w' p o whole ready numbers solves = runs-solved given (around l l' r r' h h' w w') p o whole (ready.source h h' w w') ready.sound numbers ready.later ready.quiet solves
+runs-ready given l l' r r' h h' w w' p o whole ready numbers solves =
+    runs-solved given (around l l' r r' h h' w w') p o whole (ready.source h h' w w') ready.sound numbers ready.later ready.quiet solves
 
 -- it is divided
 runs-parted : (given : Options) (l l' : Option (List ℕ)) (r r' : ℕ) (h h' : Option (List ℕ)) (w w' : ℕ) (p : Program) (most : ℕ) (o : Outcome) → given.split ≡ Some most → IsReady given l l' r r' p
@@ -242,7 +255,8 @@ runs-parted : (given : Options) (l l' : Option (List ℕ)) (r r' : ℕ) (h h' : 
 runs-parted given l l' r r' h h' w w' p most o asked ready divides = runs-divided given (around l l' r r' h h' w w') p most o asked (ready.source h h' w w') ready.later ready.quiet divides
 
 -- it is divided or solved, as was asked
-pub runs-done : (given : Options) (l l' : Option (List ℕ)) (r r' : ℕ) (h h' : Option (List ℕ)) (w w' : ℕ) (p : Program) (o : Outcome) → IsReady given l l' r r' p → HasNumbers given p → Does given p h h' w w' o
+pub runs-done : (given : Options) (l l' : Option (List ℕ)) (r r' : ℕ) (h h' : Option (List ℕ)) (w w' : ℕ) (p : Program) (o : Outcome) →
+    IsReady given l l' r r' p → HasNumbers given p → Does given p h h' w w' o
     → Runs given (around l l' r r' h h' w w') o
 runs-done given l l' r r' h h' w w' p o ready numbers done = go given.split refl done
   where
@@ -296,7 +310,8 @@ unwritten given l l' r r' status over = by status (over (Some []) 0).means
     by (WriteFault closed) m = refl
     by Parts m = absurd (parts-have-text m.divided.cubes m.divided.parts.some (sym m.text))
 
-pub nothing-to-send : (given : Options) (l l' : Option (List ℕ)) (r r' : ℕ) (status : Status) (o : Outcome) (is_sent : Bool) → IsOver given l l' r r' status → o ≡ record { status = status; report = None } → IsSentOn o.status is_sent
+pub nothing-to-send : (given : Options) (l l' : Option (List ℕ)) (r r' : ℕ) (status : Status) (o : Outcome) (is_sent : Bool) →
+    IsOver given l l' r r' status → o ≡ record { status = status; report = None } → IsSentOn o.status is_sent
 nothing-to-send given l l' r r' status o is_sent over is =
     λ done. absurd (false≢true (sym (unwritten given l l' r r' status over) ∙ (sym (ap (λ (x : Outcome). is_written x.status) is) ∙ done)))
 
@@ -324,7 +339,8 @@ lost-nothing given l l' r r' status is_closed over = by status (over (Some []) 0
     by (WriteFault closed) (inr m) = absurd (no-rise m.cause)
     by Parts m = tt
 
-pub nothing-closed : (given : Options) (l l' : Option (List ℕ)) (r r' : ℕ) (status : Status) (o : Outcome) (is_closed : Bool) → IsOver given l l' r r' status → o ≡ record { status = status; report = None } → TellsClosed o.status is_closed
+pub nothing-closed : (given : Options) (l l' : Option (List ℕ)) (r r' : ℕ) (status : Status) (o : Outcome) (is_closed : Bool) →
+    IsOver given l l' r r' status → o ≡ record { status = status; report = None } → TellsClosed o.status is_closed
 nothing-closed given l l' r r' status o is_closed over is =
     subst (λ (x : Outcome). TellsClosed x.status is_closed) (sym is) (lost-nothing given l l' r r' status is_closed over)
 

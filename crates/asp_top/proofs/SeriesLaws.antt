@@ -59,13 +59,16 @@ closed-at (ends.WriteFault closed) is_closed told = told
 ended : (end : SeriesEnd) (status : Status) (o : Outcome) → status ≡ status_at end → o ≡ record { status = status; report = None } → status_at end ≡ o.status
 ended end status o at is = sym at ∙ sym (ap (λ (x : Outcome). x.status) is)
 
-pub series-flushed : (w w' : ℕ) (end : SeriesEnd) (status : Status) (o : Outcome) → status ≡ status_at end → o ≡ record { status = status; report = None } → EndsFaults w w' end → TellsFaults w w' o.status
+pub series-flushed : (w w' : ℕ) (end : SeriesEnd) (status : Status) (o : Outcome) → status ≡ status_at end →
+    o ≡ record { status = status; report = None } → EndsFaults w w' end → TellsFaults w w' o.status
 series-flushed w w' end status o at is told = subst (TellsFaults w w') (ended end status o at is) (lost-at w w' end told)
 
-pub series-sent : (is_sent : Bool) (end : SeriesEnd) (status : Status) (o : Outcome) → status ≡ status_at end → o ≡ record { status = status; report = None } → EndsSent end is_sent → IsSentOn o.status is_sent
+pub series-sent : (is_sent : Bool) (end : SeriesEnd) (status : Status) (o : Outcome) → status ≡ status_at end →
+    o ≡ record { status = status; report = None } → EndsSent end is_sent → IsSentOn o.status is_sent
 series-sent is_sent end status o at is sent = subst (λ (s : Status). IsSentOn s is_sent) (ended end status o at is) (sent-at end is_sent sent)
 
-pub series-closed : (is_closed : Bool) (end : SeriesEnd) (status : Status) (o : Outcome) → status ≡ status_at end → o ≡ record { status = status; report = None } → EndsClosed end is_closed → TellsClosed o.status is_closed
+pub series-closed : (is_closed : Bool) (end : SeriesEnd) (status : Status) (o : Outcome) → status ≡ status_at end →
+    o ≡ record { status = status; report = None } → EndsClosed end is_closed → TellsClosed o.status is_closed
 series-closed is_closed end status o at is told = subst (λ (s : Status). TellsClosed s is_closed) (ended end status o at is) (closed-at end is_closed told)
 
 -- ---- the whole run
@@ -109,7 +112,8 @@ asked-means given a s (WriteFault closed) source m = record { series = s; source
 asked-means given a s status source m = absurd m
 
 -- the queries were asked
-pub runs-asked : (given : Options) (left left' : Option (List ℕ)) (r r' : ℕ) (held held' : Option (List ℕ)) (w w' : ℕ) (s : Series) (end : SeriesEnd) (status : Status) (o : Outcome) → status ≡ status_at end → o ≡ record { status = status; report = None }
+pub runs-asked : (given : Options) (left left' : Option (List ℕ)) (r r' : ℕ) (held held' : Option (List ℕ)) (w w' : ℕ) (s : Series) (end : SeriesEnd)
+    (status : Status) (o : Outcome) → status ≡ status_at end → o ≡ record { status = status; report = None }
     → IfSome left (λ text. series_outcome text ≡ Ok s) → IsSaidSeries (Ok s) → IsAtEnd left' → IsSoundSeries s → r ≤ r' → r' ≡ r → Asks given s held held' w w' end
     → RunsSeries given (around left left' r r' held held' w w') o
 runs-asked given left left' r r' held held' w w' s end status o at is says said finish sound later quiet asks =
@@ -175,12 +179,14 @@ fault-status : (e : ReadError) → e ≡ errors.ReadFault → status_of e ≡ Re
 fault-status e is = rw is refl
 
 -- no series was read
-pub runs-unread : (given : Options) (left left' : Option (List ℕ)) (r r' : ℕ) (held : Option (List ℕ)) (w : ℕ) (e : ReadError) (status : Status) (o : Outcome) → o ≡ record { status = status; report = None } → status ≡ status_of e
+pub runs-unread : (given : Options) (left left' : Option (List ℕ)) (r r' : ℕ) (held : Option (List ℕ)) (w : ℕ) (e : ReadError) (status : Status)
+    (o : Outcome) → o ≡ record { status = status; report = None } → status ≡ status_of e
     → IfSome left (λ t. ReadsText (Err e) (series_outcome t)) → (text : List ℕ) × ReadsText (Err e) (series_outcome text) → r ≤ r' → (IsErrOf {T = Series} (Err e) errors.ReadFault → Rose r r')
     → StopsBy asking most_bytes left left' (Err e) → (¬ IsErrOf {T = Series} (Err e) errors.ReadFault → r' ≡ r) → RunsSeries given (around left left' r r' held held w w) o
 runs-unread given left left' r r' held w e status o is same text some later cause stops quiet =
     let a = around left left' r r' held held w w in
-    let u : Unread a e = record { text = text; some_text = some; later = later; cause = λ fault. cause (err-of e fault); stops = stops; quiet = λ no. quiet (λ x. no (of-err e x)); kept = Keeps-refl held } in
+    let u : Unread a e = record { text = text; some_text = some; later = later; cause = λ fault. cause (err-of e fault); stops = stops; quiet =
+            λ no. quiet (λ x. no (of-err e x)); kept = Keeps-refl held } in
     subst (RunsSeries given a) (sym (is ∙ ap (λ (x : Status). record { status = x; report = None }) same)) (record {
       none = refl;
       means = unread-means given a e u;

@@ -208,7 +208,8 @@ pub record IsExact (given : Options) (a : Around) (status : Status) : Type 0 whe
   -- consequences can't be told by name
   pub accepted : IsAccepted given a → ¬ Rose a.reads a.reads' → ¬ Rose a.writes a.writes' → IsAnswered status ⊎ (status ≡ Memory)
   -- a faulty text, where the source's count didn't rise, is refused
-  pub refused : Reads given → (text : List ℕ) (fault : Fault) (line : ℕ) → a.left ≡ Some text → outcome_for given.format text ≡ Err (errors.Refused fault line) → ¬ Rose a.reads a.reads' → (status ≡ Refused fault line) ⊎ (status ≡ Memory)
+  pub refused : Reads given → (text : List ℕ) (fault : Fault) (line : ℕ) → a.left ≡ Some text →
+      outcome_for given.format text ≡ Err (errors.Refused fault line) → ¬ Rose a.reads a.reads' → (status ≡ Refused fault line) ⊎ (status ≡ Memory)
   pub too_long : Reads given → (text : List ℕ) → a.left ≡ Some text → outcome_for given.format text ≡ Err errors.TooLong → ¬ Rose a.reads a.reads' → (status ≡ TooLong) ⊎ (status ≡ Memory)
   -- a fault of the source was counted only where the status says so: every failed read is told
   pub quiet : ¬ (status ≡ ReadFault) → a.reads' ≡ a.reads
@@ -247,7 +248,8 @@ Concludes layout p A r held held' writes writes' o =
 abbrev pub Solves : Options → Program → Option (List ℕ) → Option (List ℕ) → ℕ → ℕ → Outcome → Type 0
 Solves given p held held' writes writes' o =
     ((o ≡ record { status = Memory; report = None }) × Keeps held held' × (writes' ≡ writes))
-    ⊎ ((r : Report) × (IsReport (searched given p) (ask_of given p) given.budget r × HasProof given.proof r) × Delivers (layout_of given) (searched given p) (told_with (set_aside given p) r) held held' writes writes' o)
+    ⊎ ((r : Report) × (IsReport (searched given p) (ask_of given p) given.budget r × HasProof given.proof r) ×
+            Delivers (layout_of given) (searched given p) (told_with (set_aside given p) r) held held' writes writes' o)
 
 -- The program was divided where parts are asked for, and else solved.
 abbrev pub DoesBy : Option ℕ → Options → Program → Option (List ℕ) → Option (List ℕ) → ℕ → ℕ → Outcome → Type 0

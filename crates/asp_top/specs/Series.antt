@@ -87,7 +87,8 @@ pub record IsExactSeries (a : Around) (status : Status) : Type 0 where
   -- an accepted text, where neither count rose, is answered
   pub accepted : (text : List ℕ) (s : Series) → a.left ≡ Some text → series_outcome text ≡ Ok s → ¬ Rose a.reads a.reads' → ¬ Rose a.writes a.writes' → (is_answered status ≡ true) ⊎ (status ≡ Memory)
   -- a faulty text, where the source's count didn't rise, is refused
-  pub refused : (text : List ℕ) (fault : Fault) (line : ℕ) → a.left ≡ Some text → series_outcome text ≡ Err (errors.Refused fault line) → ¬ Rose a.reads a.reads' → (status ≡ Refused fault line) ⊎ (status ≡ Memory)
+  pub refused : (text : List ℕ) (fault : Fault) (line : ℕ) → a.left ≡ Some text → series_outcome text ≡ Err (errors.Refused fault line) →
+      ¬ Rose a.reads a.reads' → (status ≡ Refused fault line) ⊎ (status ≡ Memory)
   pub too_long : (text : List ℕ) → a.left ≡ Some text → series_outcome text ≡ Err errors.TooLong → ¬ Rose a.reads a.reads' → (status ≡ TooLong) ⊎ (status ≡ Memory)
   -- a fault of the source was counted only where the status says so
   pub quiet : ¬ (status ≡ ReadFault) → a.reads' ≡ a.reads

@@ -44,12 +44,15 @@ answer_new p K vars kept es w blocked small fixpoint =
     let S : Atoms = atoms_on p vars es in
     false_from_ne_true (list_any (same_set S) K)
     (one_passes ⊥ (same_set S) K
-    (each_weaker (λ T. (id : ℕ) × (n : Nogood) × (kept id ≡ Some n) × (hits (values p T) n.lits ≡ true)) (λ T. same_set S T ≡ true → ⊥) (λ T b e. known T b.0 b.1 b.2 b.3 (same_text S T (sym e))) K blocked))
+    (each_weaker (λ T. (id : ℕ) × (n : Nogood) × (kept id ≡ Some n) × (hits (values p T) n.lits ≡ true)) (λ T. same_set S T ≡ true → ⊥)
+    (λ T b e. known T b.0 b.1 b.2 b.3 (same_text S T (sym e))) K blocked))
   where
     known : (T : Atoms) (id : ℕ) (n : Nogood) → kept id ≡ Some n → hits (values p T) n.lits ≡ true → atoms_on p vars es ≡ T → ⊥
     known T id n q h e =
         let violated : is_violated (assignment vars es) n.lits ≡ true = whole_nogood p vars es w n.lits (small id n q) ∙ (ap (λ (U : Atoms). hits (values p U) n.lits) e ∙ h) in
-        false≢true (sym (not-true (is_violated (assignment vars es) n.lits) (and_parts (not (is_violated (assignment vars es) n.lits)) (not (is_unit (assignment vars es) n.lits)) (fixpoint id n q)).0) ∙ violated)
+        false≢true (sym (not-true (is_violated (assignment vars es) n.lits)
+        (and_parts (not (is_violated (assignment vars es) n.lits)) (not (is_unit (assignment vars es) n.lits)) (fixpoint id n q)).0)
+        ∙ violated)
 
 -- ---- a part of an ascending list ascends
 part-above : (q : ℕ → Bool) (a : ℕ) (S : Atoms) → AllByRecursion (λ b. a < b) S → AllByRecursion (λ b. a < b) (filter q S)
@@ -93,7 +96,9 @@ module _ (p : Program) (K : List Atoms) (bound : Option (List ℤ)) (vars : ℕ)
         found : (b : Bool) → holds_in (assignment vars es) (record { var = v; truth = b }) ≡ true → get_or (values p R) v false ≡ get_or (values p (atoms_on p vars es)) v false
         found b holds =
             let one : get_or (values p R) v false ≡ b = beq_same (get_or (values p R) v false) b (entry_hit (record { var = v; truth = b }) holds) in
-            let two : get_or (values p (atoms_on p vars es)) v false ≡ b = beq_same (get_or (values p (atoms_on p vars es)) v false) b (sym (whole_lit p vars es w (record { var = v; truth = b }) is) ∙ holds) in
+            let two : get_or (values p (atoms_on p vars es)) v false ≡ b =
+            beq_same (get_or (values p (atoms_on p vars es)) v false) b (sym (whole_lit p vars es w (record { var = v; truth = b }) is) ∙ holds)
+            in
             one ∙ sym two
 
         cases : (x : Option Bool) → x ≡ value_of (assignment vars es) v → get_or (values p R) v false ≡ get_or (values p (atoms_on p vars es)) v false
@@ -129,7 +134,9 @@ module _ (p : Program) (K : List Atoms) (bound : Option (List ℤ)) (vars : ℕ)
       let is : R ≡ atoms_on p vars es = only_one R stable (sym e) h in
       let same : same_set R (atoms_on p vars es) ≡ true = subst (λ (U : Atoms). same_set R U ≡ true) is (same_set-itself R) in
       or_left (list_any (same_set R) (K ++ atoms_on p vars es ∷ [])) (costs_bound p bound R)
-      (list_any-append (same_set R) K (atoms_on p vars es ∷ []) ∙ or_right (list_any (same_set R) K) (list_any (same_set R) (atoms_on p vars es ∷ [])) (or_left (same_set R (atoms_on p vars es)) false same))
+      (list_any-append (same_set R) K (atoms_on p vars es ∷ [])
+      ∙ or_right (list_any (same_set R) K) (list_any (same_set R) (atoms_on p vars es ∷ []))
+      (or_left (same_set R (atoms_on p vars es)) false same))
 
   pub answer_settles : Settled p (K ++ atoms_on p vars es ∷ []) bound (cube ++ decisions)
   answer_settles = record { excused = λ R stable h. done_then R stable h (is_done p K bound R) refl }

@@ -80,7 +80,8 @@ other_false a n l fixpoint h others = by_value (value_of a l.var) refl
 
 -- ---- all nogoods
 module _ (vars : ℕ) (es : List Entry) (o : IsOrdered vars es) where
-  closed_at : (n : List Literal) → is_at_fixpoint (assignment vars es) n ≡ true → (l : Literal) → has_literal n l ≡ true → (not (has_all (lits es) (without l n)) || has_literal (lits es) (complement l)) ≡ true
+  closed_at : (n : List Literal) → is_at_fixpoint (assignment vars es) n ≡ true → (l : Literal) → has_literal n l ≡ true →
+      (not (has_all (lits es) (without l n)) || has_literal (lits es) (complement l)) ≡ true
   closed_at n fixpoint l h = cases (has_all (lits es) (without l n)) refl
     where
       cases : (b : Bool) → b ≡ has_all (lits es) (without l n) → (not b || has_literal (lits es) (complement l)) ≡ true

@@ -30,7 +30,8 @@ fixpoint_imply vars ns es fs b imp w i d h none high = at (cases_lt i (length es
         let why = (imp (i - length es) d fits).1 in
         absurd (not_implied (get_or fs (i - length es) d).reason why.0 why.1 (ap (λ (e : Entry). e.reason) (sym q) ∙ none))
 
-pub fixpoint_push : (vars : ℕ) (ns : List (List Literal)) (es : List Entry) (e : Entry) → (e.reason ≡ None → 0 < e.level → AreAtFixpoint vars ns es) → WereAtFixpoint vars ns es → WereAtFixpoint vars ns (es ++ e ∷ [])
+pub fixpoint_push : (vars : ℕ) (ns : List (List Literal)) (es : List Entry) (e : Entry) → (e.reason ≡ None → 0 < e.level → AreAtFixpoint vars ns es) →
+    WereAtFixpoint vars ns es → WereAtFixpoint vars ns (es ++ e ∷ [])
 fixpoint_push vars ns es e here w i d h none high = at (cases_lt i (length es))
   where
     at : (i < length es) ⊎ (length es ≤ i) → AreAtFixpoint vars ns (take i (es ++ e ∷ []))

@@ -63,7 +63,8 @@ reason_hit v es i l n r unhit before = cases (is_true v l) refl
 module _ (p : Program) (K : List Atoms) (bound : Option (List ℤ)) (vars : ℕ) (cube decisions : List Literal) (es : List Entry) (k : ℕ) (S : Atoms)
     (o : IsOrdered vars es) (r : AreSettled p K bound es) (s : AreStarts cube decisions es)
     (stable : is_stable p S ≡ true) (open_ : is_done p K bound S ≡ false) (h : hits (values p S) (cube ++ take k decisions) ≡ true) where
-  next_hit : (i : ℕ) (d : Entry) → i < length es → (get_or es i d).level ≤ k → ((j : ℕ) (e : Entry) → j < i → is_true (values p S) (get_or es j e).lit ≡ true) → is_true (values p S) (get_or es i d).lit ≡ true
+  next_hit : (i : ℕ) (d : Entry) → i < length es → (get_or es i d).level ≤ k →
+      ((j : ℕ) (e : Entry) → j < i → is_true (values p S) (get_or es j e).lit ≡ true) → is_true (values p S) (get_or es i d).lit ≡ true
   next_hit i d lt le before = cases (get_or es i d).reason refl
     where
       cases : (a : Option ℕ) → a ≡ (get_or es i d).reason → is_true (values p S) (get_or es i d).lit ≡ true
@@ -82,7 +83,8 @@ module _ (p : Program) (K : List Atoms) (bound : Option (List ℤ)) (vars : ℕ)
       cases (cases_lt i n) (λ m. below_hit n i d m lt le)
       (λ j e m. below_hit n j e (omega (arith, m, b)) (omega (arith, m, lt)) (omega (arith, rising_le es j i e o.rising (omega (arith, m)) lt, same_level i d e lt le)))
     where
-      cases : (i < n) ⊎ (n ≤ i) → (i < n → is_true (values p S) (get_or es i d).lit ≡ true) → ((j : ℕ) (e : Entry) → j < i → is_true (values p S) (get_or es j e).lit ≡ true) → is_true (values p S) (get_or es i d).lit ≡ true
+      cases : (i < n) ⊎ (n ≤ i) → (i < n → is_true (values p S) (get_or es i d).lit ≡ true) →
+          ((j : ℕ) (e : Entry) → j < i → is_true (values p S) (get_or es j e).lit ≡ true) → is_true (values p S) (get_or es i d).lit ≡ true
       cases (inl m) old before = old m
       cases (inr ge) old before = next_hit i d lt le before
 

@@ -29,7 +29,8 @@ way_settled p K bound vars cube decisions es k n o r s settled violated low = re
   excused = λ S stable h. cases S stable h (is_done p K bound S) refl;
 }
   where
-    one : (S : Atoms) → is_stable p S ≡ true → is_done p K bound S ≡ false → hits (values p S) (cube ++ take k decisions) ≡ true → (l : Literal) → has_literal n l ≡ true → is_true (values p S) l ≡ true
+    one : (S : Atoms) → is_stable p S ≡ true → is_done p K bound S ≡ false → hits (values p S) (cube ++ take k decisions) ≡ true → (l : Literal) →
+        has_literal n l ≡ true → is_true (values p S) l ≡ true
     one S stable open_ h l has =
         let f = holds_found vars es l o (list_all_at (holds_in (assignment vars es)) n l violated has) in
         let level : level_in es l.var ≡ (get_or es f.0 blank).level = level_at vars es f.0 blank l o f.1 (f.2 blank) in

@@ -86,11 +86,18 @@ external-derives S a b value.False e = absurd (false≢true e)
 external-derives S a b value.Release e = absurd (false≢true e)
 
 -- no external speaks of an atom of a head
-no-external : (S : Atoms) (a : ℕ) (p : Program) → has (flat_map (λ (r : Rule). head_atoms r.head) p.rules) a ≡ true → list_any (derives S a) (flat_map (λ b. external_rule b (last_value p.externals b)) (open_atoms p)) ≡ false
+no-external : (S : Atoms) (a : ℕ) (p : Program) → has (flat_map (λ (r : Rule). head_atoms r.head) p.rules) a ≡ true →
+    list_any (derives S a) (flat_map (λ b. external_rule b (last_value p.externals b)) (open_atoms p)) ≡ false
 no-external S a p headed = false_from_ne_true _ (λ some.
-    let each : list_any (λ b. list_any (derives S a) (external_rule b (last_value p.externals b))) (open_atoms p) ≡ true = sym (list_any-flat_map (derives S a) (λ b. external_rule b (last_value p.externals b)) (open_atoms p)) ∙ some in
-    let open_is : has (open_atoms p) a ≡ true = list_any-weaker (λ b. list_any (derives S a) (external_rule b (last_value p.externals b))) (λ b. eqb b a) (open_atoms p) (each_of (λ b. list_any (derives S a) (external_rule b (last_value p.externals b)) ≡ true → eqb b a ≡ true) (λ b e. external-derives S a b (last_value p.externals b) e) (open_atoms p)) each in
-    let parts = and_parts (not (has (flat_map (λ (r : Rule). head_atoms r.head) p.rules) a)) _ (sym (has-filter (λ b. not (has (flat_map (λ (r : Rule). head_atoms r.head) p.rules) b)) (set_of (map (λ (e : External). e.atom) p.externals)) a) ∙ open_is) in
+    let each : list_any (λ b. list_any (derives S a) (external_rule b (last_value p.externals b))) (open_atoms p) ≡ true =
+    sym (list_any-flat_map (derives S a) (λ b. external_rule b (last_value p.externals b)) (open_atoms p)) ∙ some in
+    let open_is : has (open_atoms p) a ≡ true =
+    list_any-weaker (λ b. list_any (derives S a) (external_rule b (last_value p.externals b))) (λ b. eqb b a) (open_atoms p)
+    (each_of (λ b. list_any (derives S a) (external_rule b (last_value p.externals b)) ≡ true → eqb b a ≡ true)
+    (λ b e. external-derives S a b (last_value p.externals b) e) (open_atoms p)) each in
+    let parts = and_parts (not (has (flat_map (λ (r : Rule). head_atoms r.head) p.rules) a)) _
+    (sym (has-filter (λ b. not (has (flat_map (λ (r : Rule). head_atoms r.head) p.rules) b)) (set_of (map (λ (e : External). e.atom) p.externals))
+    a) ∙ open_is) in
     false≢true (sym (ap not headed) ∙ parts.0))
 
 stable-derives : (p : Program) (S : Atoms) (a : ℕ) → IsSound p → is_stable p S ≡ true → has S a ≡ list_any (derives S a) (rules_in_force p)
@@ -181,6 +188,8 @@ replaced-is l (Some m) = by (ltb (atom_of m) (atom_of l)) (is_positive l)
 pub unfolded-is : (rules : List Rule) (l : ℤ) → (unfolded_literal rules l ≡ l) ⊎ ((m : ℤ) × (literal_of (rules_for (atom_of l) rules) ≡ Some m) × (atom_of (unfolded_literal rules l) ≡ atom_of m))
 unfolded-is rules l = by (ltb (atom_of l) _)
   where
-    by : (b : Bool) → (cond b (replaced l (literal_of (rules_for (atom_of l) rules))) l ≡ l) ⊎ ((m : ℤ) × (literal_of (rules_for (atom_of l) rules) ≡ Some m) × (atom_of (cond b (replaced l (literal_of (rules_for (atom_of l) rules))) l) ≡ atom_of m))
+    by : (b : Bool) → (cond b (replaced l (literal_of (rules_for (atom_of l) rules))) l ≡ l) ⊎
+        ((m : ℤ) × (literal_of (rules_for (atom_of l) rules) ≡ Some m) ×
+        (atom_of (cond b (replaced l (literal_of (rules_for (atom_of l) rules))) l) ≡ atom_of m))
     by true = replaced-is l (literal_of (rules_for (atom_of l) rules))
     by false = inl refl

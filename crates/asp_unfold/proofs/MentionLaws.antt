@@ -36,11 +36,15 @@ aside rules a x there out = false_from_ne_true (eqb a x) (λ e. false≢true (sy
 same-literal : (rules : List Rule) (x : ℕ) (l : ℤ) → in_rules rules x ≡ false → eqb (atom_of (unfolded_literal rules l)) x ≡ eqb (atom_of l) x
 same-literal rules x l out = by (unfolded-is rules l)
   where
-    by : (unfolded_literal rules l ≡ l) ⊎ ((m : ℤ) × (literal_of (rules_for (atom_of l) rules) ≡ Some m) × (atom_of (unfolded_literal rules l) ≡ atom_of m)) → eqb (atom_of (unfolded_literal rules l)) x ≡ eqb (atom_of l) x
+    by : (unfolded_literal rules l ≡ l) ⊎
+        ((m : ℤ) × (literal_of (rules_for (atom_of l) rules) ≡ Some m) × (atom_of (unfolded_literal rules l) ≡ atom_of m)) →
+        eqb (atom_of (unfolded_literal rules l)) x ≡ eqb (atom_of l) x
     by (inl same) = ap (λ (k : ℤ). eqb (atom_of k) x) same
     by (inr one) =
         let first = in-one rules (atom_of l) one.0 (atom_of l) one.1 (or_left (eqb (atom_of l) (atom_of l)) _ (eq-eqb (atom_of l) (atom_of l) refl)) in
-        let second = in-one rules (atom_of l) one.0 (atom_of one.0) one.1 (or_right (eqb (atom_of l) (atom_of one.0)) _ (or_left (eqb (atom_of one.0) (atom_of one.0)) false (eq-eqb (atom_of one.0) (atom_of one.0) refl))) in
+        let second = in-one rules (atom_of l) one.0 (atom_of one.0) one.1
+        (or_right (eqb (atom_of l) (atom_of one.0)) _
+        (or_left (eqb (atom_of one.0) (atom_of one.0)) false (eq-eqb (atom_of one.0) (atom_of one.0) refl))) in
         ap (λ (n : ℕ). eqb n x) one.2 ∙ (aside rules (atom_of one.0) x second out ∙ sym (aside rules (atom_of l) x first out))
 
 abbrev item_atoms : Minimize → List ℕ
@@ -82,4 +86,5 @@ same-mentions p x =
 
 pub same-atoms : (p : Program) → atoms_of (unfolded p) ≡ atoms_of p
 same-atoms p =
-    same_from_has (atoms_of (unfolded p)) (atoms_of p) (IsAscending-set_of (mentions (unfolded p))) (IsAscending-set_of (mentions p)) (λ x. has-set_of (mentions (unfolded p)) x ∙ (same-mentions p x ∙ sym (has-set_of (mentions p) x)))
+    same_from_has (atoms_of (unfolded p)) (atoms_of p) (IsAscending-set_of (mentions (unfolded p))) (IsAscending-set_of (mentions p))
+    (λ x. has-set_of (mentions (unfolded p)) x ∙ (same-mentions p x ∙ sym (has-set_of (mentions p) x)))

@@ -53,14 +53,18 @@ same-sum p S (m ∷ ms) q sound stable =
     ap (λ (n : ℤ). cond (int_eq m.priority q) n (pos 0) +ℤ cost_at S (map (unfolded_minimize p.rules) ms) q) (same-weight p S m.items sound stable)
     ∙ ap (λ (n : ℤ). cond (int_eq m.priority q) (weight_of S m.items) (pos 0) +ℤ n) (same-sum p S ms q sound stable)
 
-same-priorities : (rules : List Rule) (qs : List ℤ) (ms : List Minimize) → fold (λ qs (m : Minimize). with_priority m.priority qs) qs (map (unfolded_minimize rules) ms) ≡ fold (λ qs (m : Minimize). with_priority m.priority qs) qs ms
+same-priorities : (rules : List Rule) (qs : List ℤ) (ms : List Minimize) →
+    fold (λ qs (m : Minimize). with_priority m.priority qs) qs (map (unfolded_minimize rules) ms) ≡ fold
+    (λ qs (m : Minimize). with_priority m.priority qs) qs ms
 same-priorities rules qs [] = refl
 same-priorities rules qs (m ∷ ms) = same-priorities rules (with_priority m.priority qs) ms
 
 pub same-cost : (p : Program) (S : Atoms) → IsSound p → is_stable p S ≡ true → cost (unfolded p) S ≡ cost p S
 same-cost p S sound stable =
     ap (λ (qs : List ℤ). map (cost_at S (map (unfolded_minimize p.rules) p.minimize)) qs) (same-priorities p.rules [] p.minimize)
-    ∙ same_map (cost_at S (map (unfolded_minimize p.rules) p.minimize)) (cost_at S p.minimize) (priorities p.minimize) (each_of (λ q. cost_at S (map (unfolded_minimize p.rules) p.minimize) q ≡ cost_at S p.minimize q) (λ q. same-sum p S p.minimize q sound stable) (priorities p.minimize))
+    ∙ same_map (cost_at S (map (unfolded_minimize p.rules) p.minimize)) (cost_at S p.minimize) (priorities p.minimize)
+    (each_of (λ q. cost_at S (map (unfolded_minimize p.rules) p.minimize) q ≡ cost_at S p.minimize q)
+    (λ q. same-sum p S p.minimize q sound stable) (priorities p.minimize))
 
 -- ---- optima
 each-contained : (P : Atoms → Type 0) (Ss : List Atoms) → ((S : Atoms) → Contains Ss S → P S) → AllByRecursion P Ss
@@ -71,7 +75,9 @@ answers-cost p sound = each-contained (λ S. cost (unfolded p) S ≡ cost p S) (
 
 -- whether an answer betters the cost
 bettered : (p : Program) (c : List ℤ) → IsSound p → list_any (λ T. betters (cost (unfolded p) T) c) (answers p) ≡ list_any (λ T. betters (cost p T) c) (answers p)
-bettered p c sound = same_any (λ T. betters (cost (unfolded p) T) c) (λ T. betters (cost p T) c) (answers p) (each_weaker (λ T. cost (unfolded p) T ≡ cost p T) (λ T. betters (cost (unfolded p) T) c ≡ betters (cost p T) c) (λ T e. ap (λ (d : List ℤ). betters d c) e) (answers p) (answers-cost p sound))
+bettered p c sound = same_any (λ T. betters (cost (unfolded p) T) c) (λ T. betters (cost p T) c) (answers p)
+    (each_weaker (λ T. cost (unfolded p) T ≡ cost p T) (λ T. betters (cost (unfolded p) T) c ≡ betters (cost p T) c)
+    (λ T e. ap (λ (d : List ℤ). betters d c) e) (answers p) (answers-cost p sound))
 
 pub same-optima : (p : Program) → IsSound p → optima (unfolded p) ≡ optima p
 same-optima p sound =

@@ -15,11 +15,14 @@ use Rattle.asp_unfold.proofs.DefinedLaws.{defined-literal, unfolded-is}
 literal-sound : (p : Program) (l : ℤ) → IsSound p → is_literal l ≡ true → is_literal (unfolded_literal p.rules l) ≡ true
 literal-sound p l sound h = by (unfolded-is p.rules l)
   where
-    by : (unfolded_literal p.rules l ≡ l) ⊎ ((m : ℤ) × (literal_of (rules_for (atom_of l) p.rules) ≡ Some m) × (atom_of (unfolded_literal p.rules l) ≡ atom_of m)) → is_literal (unfolded_literal p.rules l) ≡ true
+    by : (unfolded_literal p.rules l ≡ l) ⊎
+        ((m : ℤ) × (literal_of (rules_for (atom_of l) p.rules) ≡ Some m) × (atom_of (unfolded_literal p.rules l) ≡ atom_of m)) →
+        is_literal (unfolded_literal p.rules l) ≡ true
     by (inl same) = ap is_literal same ∙ h
     by (inr one) = ap is_atom one.2 ∙ defined-literal p (atom_of l) one.0 sound one.1
 
-items-sound : (p : Program) (items : List (ℤ × ℤ)) → IsSound p → list_all (λ (i : ℤ × ℤ). is_literal i.0) items ≡ true → list_all (λ (i : ℤ × ℤ). is_literal i.0) (map (λ (i : ℤ × ℤ). (unfolded_literal p.rules i.0, i.1)) items) ≡ true
+items-sound : (p : Program) (items : List (ℤ × ℤ)) → IsSound p → list_all (λ (i : ℤ × ℤ). is_literal i.0) items ≡ true →
+    list_all (λ (i : ℤ × ℤ). is_literal i.0) (map (λ (i : ℤ × ℤ). (unfolded_literal p.rules i.0, i.1)) items) ≡ true
 items-sound p [] sound h = refl
 items-sound p (i ∷ items) sound h =
     let parts = and_parts (is_literal i.0) (list_all (λ (i : ℤ × ℤ). is_literal i.0) items) h in

@@ -22,7 +22,8 @@ literal-defined (r ∷ []) = by (literal_by r.head r.body)
     by (Some m) = refl
 literal-defined (r ∷ s ∷ rs) = refl
 
-table-says : (rules : List Rule) (table : List Definition) (above : ℕ) (l : ℤ) → AreDefinitions rules table → length table ≡ min above (16 * (length rules + 1)) → atom_of l < above → table_literal table l ≡ unfolded_literal rules l
+table-says : (rules : List Rule) (table : List Definition) (above : ℕ) (l : ℤ) → AreDefinitions rules table →
+    length table ≡ min above (16 * (length rules + 1)) → atom_of l < above → table_literal table l ≡ unfolded_literal rules l
 table-says rules table above l are len low = elim (cases_lt (atom_of l) (length table)) [
   | inl within ↦ (
       let near : ltb (atom_of l) (16 * (length rules + 1)) ≡ true = lt-ltb (atom_of l) (16 * (length rules + 1)) (omega (arith, within, len)) in
@@ -35,7 +36,8 @@ table-says rules table above l are len low = elim (cases_lt (atom_of l) (length 
       ∙ sym (cond-false (ltb (atom_of l) (16 * (length rules + 1))) (replaced l (literal_of (rules_for (atom_of l) rules))) l far))
 ]
 
-items-are : (rules : List Rule) (table : List Definition) (above : ℕ) (items : List (ℤ × ℤ)) → AreDefinitions rules table → length table ≡ min above (16 * (length rules + 1)) → All (λ (i : ℤ × ℤ). atom_of i.0 < above) items
+items-are : (rules : List Rule) (table : List Definition) (above : ℕ) (items : List (ℤ × ℤ)) → AreDefinitions rules table →
+    length table ≡ min above (16 * (length rules + 1)) → All (λ (i : ℤ × ℤ). atom_of i.0 < above) items
     → table_items table items ≡ map (λ (i : ℤ × ℤ). (unfolded_literal rules i.0, i.1)) items
 items-are rules table above [] are len low = refl
 items-are rules table above (i ∷ items) are len low =
@@ -44,7 +46,8 @@ items-are rules table above (i ∷ items) are len low =
     ap (λ (l : ℤ). (l, i.1) ∷ table_items table items) (table-says rules table above i.0 are len first)
     ∙ ap (λ (xs : List (ℤ × ℤ)). (unfolded_literal rules i.0, i.1) ∷ xs) (items-are rules table above items are len rest)
 
-pub statements-are : (rules : List Rule) (table : List Definition) (above : ℕ) (ms : List Minimize) → AreDefinitions rules table → length table ≡ min above (16 * (length rules + 1)) → All (λ (m : Minimize). All (λ (i : ℤ × ℤ). atom_of i.0 < above) m.items) ms
+pub statements-are : (rules : List Rule) (table : List Definition) (above : ℕ) (ms : List Minimize) → AreDefinitions rules table →
+    length table ≡ min above (16 * (length rules + 1)) → All (λ (m : Minimize). All (λ (i : ℤ × ℤ). atom_of i.0 < above) m.items) ms
     → map (table_minimize table) ms ≡ map (unfolded_minimize rules) ms
 statements-are rules table above [] are len low = refl
 statements-are rules table above (m ∷ ms) are len low =

@@ -70,9 +70,11 @@ all-has c [] l h e = absurd (false≢true e)
 
 -- ---- the literals that are blamed
 -- a literal of the root that is blamed is one of those
-blamed-has : (p : Program) (reasons : List Reason) (literals : List ℤ) (l : Literal) → is_blamed reasons l ≡ true → has_literal (map (literal_of p) literals) l ≡ true → has_literal (map (literal_of p) (blamed_by p reasons literals)) l ≡ true
+blamed-has : (p : Program) (reasons : List Reason) (literals : List ℤ) (l : Literal) → is_blamed reasons l ≡ true →
+    has_literal (map (literal_of p) literals) l ≡ true → has_literal (map (literal_of p) (blamed_by p reasons literals)) l ≡ true
 blamed-has p reasons (x ∷ literals) l h e =
-    (elim (is_blamed reasons (literal_of p x)) as (λ b. is_blamed reasons (literal_of p x) ≡ b → has_literal (map (literal_of p) (if b then x ∷ blamed_by p reasons literals else blamed_by p reasons literals)) l ≡ true) [
+    (elim (is_blamed reasons (literal_of p x)) as (λ b. is_blamed reasons (literal_of p x) ≡ b →
+    has_literal (map (literal_of p) (if b then x ∷ blamed_by p reasons literals else blamed_by p reasons literals)) l ≡ true) [
       | true ↦ λ q. either_has _ (literal_eq (literal_of p x) l) (has_literal (map (literal_of p) literals) l) e
           (λ same. or_left (literal_eq (literal_of p x) l) _ same)
           (λ k. or_right (literal_eq (literal_of p x) l) _ (blamed-has p reasons literals l h k))
@@ -145,11 +147,14 @@ module _ (b : Board) (is : IsBoard b) (nothing : HasNothing b) (stand : AllByRec
 
   core-hit : (S : Atoms) → all_hold S (blamed b) ≡ true → (l : Literal) → has_literal rooted l ≡ true → is_blamed b.reasons l ≡ true → is_true (values p S) l ≡ true
   core-hit S holds l root blame =
-      let hit : hits (values p S) (map (literal_of p) (blamed b)) ≡ true = hits-literals p S (blamed b) (all-filter (λ l. has (atoms_of p) (atom_of l) ≡ true) (λ l. is_blamed b.reasons (literal_of p l)) (wanted b.task) stand) ∙ holds in
+      let hit : hits (values p S) (map (literal_of p) (blamed b)) ≡ true =
+      hits-literals p S (blamed b) (all-filter (λ l. has (atoms_of p) (atom_of l) ≡ true) (λ l. is_blamed b.reasons (literal_of p l))
+      (wanted b.task) stand) ∙ holds in
       hits-has (values p S) (map (literal_of p) (blamed b)) l hit (blamed-has p b.reasons (wanted b.task) l blame root)
 
   -- a stable model that has the core is excused
-  core-excused : (S : Atoms) (leaf : ℕ) → is_stable p S ≡ true → all_hold S (blamed b) ≡ true → take (length (wanted b.task)) (cube_of b.nodes leaf) ≡ rooted → hits (values p S) (drop (length (wanted b.task)) (cube_of b.nodes leaf)) ≡ true
+  core-excused : (S : Atoms) (leaf : ℕ) → is_stable p S ≡ true → all_hold S (blamed b) ≡ true →
+      take (length (wanted b.task)) (cube_of b.nodes leaf) ≡ rooted → hits (values p S) (drop (length (wanted b.task)) (cube_of b.nodes leaf)) ≡ true
       → list_any (λ r. r.leaf == leaf) b.reasons ≡ true → is_excused b S ≡ true
   core-excused S leaf stable holds begins hit any =
       from_reason b (is_excused b S ≡ true) leaf b.reasons is.explained any (λ l h. h)
@@ -182,7 +187,8 @@ core-suffices t journal query lawful closed nothing S stable holds =
     let excused = core-excused b is nothing stand S found.leaf stable_there holds (begins-there b found.leaf is lt) hit (is.complete found.leaf found.closed) in
     false≢true (sym (nothing-excused b S nothing) ∙ excused)
 
-pub blamed-core : (t : Task) (journal : List Event) → IsQuery t.program t.query → IsLawful (start t) journal → all_closed (replay t journal).nodes ≡ true → HasNothing (replay t journal) → IsCore t.program (wanted t) (blamed (replay t journal))
+pub blamed-core : (t : Task) (journal : List Event) → IsQuery t.program t.query → IsLawful (start t) journal →
+    all_closed (replay t journal).nodes ≡ true → HasNothing (replay t journal) → IsCore t.program (wanted t) (blamed (replay t journal))
 blamed-core t journal query lawful closed nothing =
     let b = replay t journal in
     let same : b.task ≡ t = task-run (start t) journal in

@@ -45,7 +45,8 @@ pub apart-true : (p : Program) (S : Atoms) (b : Body) → is_apart p b ≡ true 
 apart-true p S b apart h = ap (λ v. beq v true) (value-form p S b apart h) ∙ beq_true (body_holds S b)
 
 -- a weight body has no name
-pub weight-true : (p : Program) (S : Atoms) (bound : ℤ) (items : List (ℤ × ℤ)) → list_any (body_eq (body.AtLeast bound items)) (bodies_of p) ≡ true → is_true (values p S) (literal_of_form p (body.AtLeast bound items)) ≡ body_holds S (body.AtLeast bound items)
+pub weight-true : (p : Program) (S : Atoms) (bound : ℤ) (items : List (ℤ × ℤ)) → list_any (body_eq (body.AtLeast bound items)) (bodies_of p) ≡ true →
+    is_true (values p S) (literal_of_form p (body.AtLeast bound items)) ≡ body_holds S (body.AtLeast bound items)
 weight-true p S bound items h = apart-true p S (body.AtLeast bound items) refl h
 
 pub atom-true : (p : Program) (S : Atoms) (a : ℕ) → has (atoms_of p) a ≡ true → is_true (values p S) (T (var_of_atom p a)) ≡ has S a
@@ -72,7 +73,8 @@ body_nogoods-wide p [] w = refl
 body_nogoods-wide p (l ∷ []) w = absurd (false≢true w)
 body_nogoods-wide p (l ∷ k ∷ ks) w = refl
 
-each_of_normal : (P : List Literal → Type 0) (p : Program) (ls : List ℤ) → (is_barred p (body.All ls) ≡ true → P (map (literal_of p) ls)) → AllByRecursion P (defining_nogoods p ls) → AllByRecursion P (normal_nogoods p ls)
+each_of_normal : (P : List Literal → Type 0) (p : Program) (ls : List ℤ) → (is_barred p (body.All ls) ≡ true → P (map (literal_of p) ls)) →
+    AllByRecursion P (defining_nogoods p ls) → AllByRecursion P (normal_nogoods p ls)
 each_of_normal P p ls barred defining = cases (is_barred p (body.All ls)) refl
   where
     cases : (t : Bool) → t ≡ is_barred p (body.All ls) → AllByRecursion P (cond t (map (literal_of p) ls ∷ []) (defining_nogoods p ls))
@@ -80,13 +82,15 @@ each_of_normal P p ls barred defining = cases (is_barred p (body.All ls)) refl
     cases false e = defining
 
 -- what holds of the literals alone, where a constraint has the body, and of the nogoods that define it
-pub each_of_body : (P : List Literal → Type 0) (p : Program) (ls : List ℤ) → (is_barred p (body.All ls) ≡ true → P (map (literal_of p) ls)) → AllByRecursion P (defining_nogoods p ls) → AllByRecursion P (body_nogoods p (body.All ls))
+pub each_of_body : (P : List Literal → Type 0) (p : Program) (ls : List ℤ) → (is_barred p (body.All ls) ≡ true → P (map (literal_of p) ls)) →
+    AllByRecursion P (defining_nogoods p ls) → AllByRecursion P (body_nogoods p (body.All ls))
 each_of_body P p [] barred defining = each_of_normal P p [] barred defining
 each_of_body P p (l ∷ []) barred defining = tt
 each_of_body P p (l ∷ k ∷ ks) barred defining = each_of_normal P p (l ∷ k ∷ ks) barred defining
 
 -- what follows from a constraint that has the body
-pub barred_by : (P : Rule → Type 0) (Q : Type 0) (p : Program) (b : Body) → AllByRecursion P (rules_in_force p) → ((r : Rule) → P r → r.head ≡ head.Never → normal r.body ≡ b → Q) → is_barred p b ≡ true → Q
+pub barred_by : (P : Rule → Type 0) (Q : Type 0) (p : Program) (b : Body) → AllByRecursion P (rules_in_force p) →
+    ((r : Rule) → P r → r.head ≡ head.Never → normal r.body ≡ b → Q) → is_barred p b ≡ true → Q
 barred_by P Q p b all f =
     one_passes Q (λ r. is_never r.head && body_eq (normal r.body) b) (rules_in_force p)
     (each_weaker P (λ r. (is_never r.head && body_eq (normal r.body) b) ≡ true → Q) (λ r h e.
@@ -116,7 +120,8 @@ each-unflat_map P f [] h = tt
 each-unflat_map P f (x ∷ xs) h = (each-front P (f x) (flat_map f xs) h, each-unflat_map P f xs (back-append P (f x) (flat_map f xs) h))
 
 -- of bodies, rules and atoms
-pub all_unhit : (p : Program) (v : List Bool) → list_any (hits v) (completion p) ≡ false → AllByRecursion (λ b. Unhit v (body_nogoods p b)) (bodies_of p) × RulesUnhit p v × AllByRecursion (λ a. Unhit v (atom_nogoods p a)) (atoms_of p)
+pub all_unhit : (p : Program) (v : List Bool) → list_any (hits v) (completion p) ≡ false →
+    AllByRecursion (λ b. Unhit v (body_nogoods p b)) (bodies_of p) × RulesUnhit p v × AllByRecursion (λ a. Unhit v (atom_nogoods p a)) (atoms_of p)
 all_unhit p v e =
     let P : List Literal → Type 0 = λ n. hits v n ≡ false in
     let bodies : List (List Literal) = flat_map (body_nogoods p) (bodies_of p) in
@@ -146,7 +151,8 @@ literals_read p v S [] h = refl
 literals_read p v S (l ∷ ls) h = ap (λ b. b && hits v (map (literal_of p) ls)) h.0 ∙ ap (λ b. holds S l && b) (literals_read p v S ls h.1)
 
 -- where a body is true, so is each of its literals
-each_true : (p : Program) (v : List Bool) (S : Atoms) (b : Literal) (ls : List ℤ) → is_true v b ≡ true → AreRead p v S ls → Unhit v (map (λ l. b ∷ complement (literal_of p l) ∷ []) ls) → all_hold S ls ≡ true
+each_true : (p : Program) (v : List Bool) (S : Atoms) (b : Literal) (ls : List ℤ) → is_true v b ≡ true → AreRead p v S ls →
+    Unhit v (map (λ l. b ∷ complement (literal_of p l) ∷ []) ls) → all_hold S ls ≡ true
 each_true p v S b [] e read h = refl
 each_true p v S b (l ∷ ls) e read h =
     let other : Bool = is_true v (complement (literal_of p l)) in
@@ -155,7 +161,8 @@ each_true p v S b (l ∷ ls) e read h =
     ap (λ t. t && all_hold S ls) (sym read.0 ∙ one) ∙ each_true p v S b ls e read.1 h.1
 
 -- by the nogoods that define the body
-defined_literal : (p : Program) (v : List Bool) (S : Atoms) (b : Literal) (ls : List ℤ) → AreRead p v S ls → Unhit v ((complement b ∷ map (literal_of p) ls) ∷ map (λ l. b ∷ complement (literal_of p l) ∷ []) ls) → is_true v b ≡ all_hold S ls
+defined_literal : (p : Program) (v : List Bool) (S : Atoms) (b : Literal) (ls : List ℤ) → AreRead p v S ls →
+    Unhit v ((complement b ∷ map (literal_of p) ls) ∷ map (λ l. b ∷ complement (literal_of p l) ∷ []) ls) → is_true v b ≡ all_hold S ls
 defined_literal p v S b ls read h = cases (is_true v b) refl
   where
     cases : (t : Bool) → t ≡ is_true v b → is_true v b ≡ all_hold S ls
@@ -174,7 +181,8 @@ barred_literal p v b rules =
     sym (and_true (is_true v (literal_of_form p b))) ∙ unit.0)
 
 -- the literal of a normal body that isn't one literal says whether the body holds, whatever variable it is of
-pub normal_literal : (p : Program) (v : List Bool) (S : Atoms) (ls : List ℤ) → is_wide (body.All ls) ≡ true → AreRead p v S ls → RulesUnhit p v → Unhit v (body_nogoods p (body.All ls)) → is_true v (literal_of_form p (body.All ls)) ≡ all_hold S ls
+pub normal_literal : (p : Program) (v : List Bool) (S : Atoms) (ls : List ℤ) → is_wide (body.All ls) ≡ true → AreRead p v S ls → RulesUnhit p v →
+    Unhit v (body_nogoods p (body.All ls)) → is_true v (literal_of_form p (body.All ls)) ≡ all_hold S ls
 normal_literal p v S ls wide read rules h = cases (is_barred p (body.All ls)) refl
   where
     mine : Unhit v (normal_nogoods p ls)
@@ -201,7 +209,8 @@ defined_by p b a d r m e =
     test c = list_any (λ (s : Rule). has (head_atoms s.head) a && body_eq (normal s.body) c) (rules_in_force p)
 
     tested : test (normal r.body) ≡ true
-    tested = m (λ (s : Rule). has (head_atoms s.head) a && body_eq (normal s.body) (normal r.body)) (and_from (has (head_atoms r.head) a) (body_eq (normal r.body) (normal r.body)) e (body_eq-itself (normal r.body)))
+    tested = m (λ (s : Rule). has (head_atoms s.head) a && body_eq (normal s.body) (normal r.body))
+        (and_from (has (head_atoms r.head) a) (body_eq (normal r.body) (normal r.body)) e (body_eq-itself (normal r.body)))
 
     sole : (bs : List Body) → is_alone b bs ≡ true → list_any (body_eq (normal r.body)) bs ≡ true → normal r.body ≡ b
     sole [] alone h = absurd (false≢true alone)
@@ -223,10 +232,14 @@ defined_head p b a Q d f =
     alone head.Never e = absurd (false≢true e)
 
 -- a body's literal is read where the body's name is
-read_by : (p : Program) (S : Atoms) (b : Body) → list_any (body_eq b) (bodies_of p) ≡ true → ((a : ℕ) → has (atoms_of p) a ≡ true → defines p b a ≡ true → has S a ≡ body_holds S b) → is_true (values p S) (literal_of_form p b) ≡ body_holds S b
+read_by : (p : Program) (S : Atoms) (b : Body) → list_any (body_eq b) (bodies_of p) ≡ true →
+    ((a : ℕ) → has (atoms_of p) a ≡ true → defines p b a ≡ true → has S a ≡ body_holds S b) →
+    is_true (values p S) (literal_of_form p b) ≡ body_holds S b
 read_by p S b listed right = by_form b listed (form-stands p b listed) right
   where
-    wide : (c : Body) → is_wide c ≡ true → list_any (body_eq c) (bodies_of p) ≡ true → ((a : ℕ) → has (atoms_of p) a ≡ true → defines p c a ≡ true → has S a ≡ body_holds S c) → is_true (values p S) (T (var_of_form p c)) ≡ body_holds S c
+    wide : (c : Body) → is_wide c ≡ true → list_any (body_eq c) (bodies_of p) ≡ true →
+        ((a : ℕ) → has (atoms_of p) a ≡ true → defines p c a ≡ true → has S a ≡ body_holds S c) →
+        is_true (values p S) (T (var_of_form p c)) ≡ body_holds S c
     wide c w h r = cases (names p c) refl
       where
         cases : (found : List ℕ) → found ≡ names p c → is_true (values p S) (T (var_of_form p c)) ≡ body_holds S c
@@ -236,7 +249,9 @@ read_by p S b listed right = by_form b listed (form-stands p b listed) right
             ap (λ (xs : List ℕ). is_true (values p S) (T (named_or (atoms_of p) (suc (length (atoms_of p) + place_of (body_eq c) (apart_bodies p))) xs))) (sym q)
             ∙ atom-true p S a is.0 ∙ r a is.0 is.1
 
-    by_form : (c : Body) → list_any (body_eq c) (bodies_of p) ≡ true → Stands (atoms_of p) c → ((a : ℕ) → has (atoms_of p) a ≡ true → defines p c a ≡ true → has S a ≡ body_holds S c) → is_true (values p S) (literal_of_form p c) ≡ body_holds S c
+    by_form : (c : Body) → list_any (body_eq c) (bodies_of p) ≡ true → Stands (atoms_of p) c →
+        ((a : ℕ) → has (atoms_of p) a ≡ true → defines p c a ≡ true → has S a ≡ body_holds S c) →
+        is_true (values p S) (literal_of_form p c) ≡ body_holds S c
     by_form (body.All []) h s r = wide (body.All []) refl h r
     by_form (body.All (l ∷ [])) h s r = literal-holds p S l s.0 ∙ sym (and_true (holds S l))
     by_form (body.All (l ∷ k ∷ ks)) h s r = wide (body.All (l ∷ k ∷ ks)) refl h r
@@ -280,11 +295,14 @@ unhit-read p S e b listed = by_form b listed (form-stands p b listed)
     mine : (c : Body) → list_any (body_eq c) (bodies_of p) ≡ true → Unhit v (body_nogoods p c)
     mine c =
         one_passes (Unhit v (body_nogoods p c)) (body_eq c) (bodies_of p)
-        (each_weaker (λ d. Unhit v (body_nogoods p d)) (λ d. body_eq c d ≡ true → Unhit v (body_nogoods p c)) (λ d u same. subst (λ (x : Body). Unhit v (body_nogoods p x)) (sym (same_body c d same)) u) (bodies_of p) (all_unhit p v e).0)
+        (each_weaker (λ d. Unhit v (body_nogoods p d)) (λ d. body_eq c d ≡ true → Unhit v (body_nogoods p c))
+        (λ d u same. subst (λ (x : Body). Unhit v (body_nogoods p x)) (sym (same_body c d same)) u) (bodies_of p) (all_unhit p v e).0)
 
-    wide : (ls : List ℤ) → is_wide (body.All ls) ≡ true → list_any (body_eq (body.All ls)) (bodies_of p) ≡ true → Stands (atoms_of p) (body.All ls) → is_true v (literal_of_form p (body.All ls)) ≡ all_hold S ls
+    wide : (ls : List ℤ) → is_wide (body.All ls) ≡ true → list_any (body_eq (body.All ls)) (bodies_of p) ≡ true → Stands (atoms_of p) (body.All ls) →
+        is_true v (literal_of_form p (body.All ls)) ≡ all_hold S ls
     wide ls w h s =
-        normal_literal p v S ls w (each_weaker (λ l. has (atoms_of p) (atom_of l) ≡ true) (λ l. is_true v (literal_of p l) ≡ holds S l) (literal-holds p S) ls s) (all_unhit p v e).1 (mine (body.All ls) h)
+        normal_literal p v S ls w (each_weaker (λ l. has (atoms_of p) (atom_of l) ≡ true) (λ l. is_true v (literal_of p l) ≡ holds S l)
+        (literal-holds p S) ls s) (all_unhit p v e).1 (mine (body.All ls) h)
 
     by_form : (c : Body) → list_any (body_eq c) (bodies_of p) ≡ true → Stands (atoms_of p) c → is_true v (literal_of_form p c) ≡ body_holds S c
     by_form (body.All []) h s = wide [] refl h s
@@ -307,17 +325,24 @@ not_both : (a : Bool) → (not a && a) ≡ true → ⊥
 not_both true e = false≢true e
 not_both false e = false≢true e
 
-body_true : (p : Program) (ls : List ℤ) → IsSound p → list_any (body_eq (body.All ls)) (bodies_of p) ≡ true → AllByRecursion (λ l. has (atoms_of p) (atom_of l) ≡ true) ls → Entailed p (complement (literal_of_form p (body.All ls)) ∷ map (literal_of p) ls)
-body_true p ls sound stands atoms = never p _ (λ S stable h. not_both (all_hold S ls) (sym (ap (λ b. b && hits (values p S) (map (literal_of p) ls)) (form-false p S (stable-read p S sound stable) (body.All ls) stands) ∙ ap (λ b. not (all_hold S ls) && b) (hits-literals p S ls atoms)) ∙ h))
+body_true : (p : Program) (ls : List ℤ) → IsSound p → list_any (body_eq (body.All ls)) (bodies_of p) ≡ true →
+    AllByRecursion (λ l. has (atoms_of p) (atom_of l) ≡ true) ls → Entailed p (complement (literal_of_form p (body.All ls)) ∷ map (literal_of p) ls)
+body_true p ls sound stands atoms = never p _
+    (λ S stable h. not_both (all_hold S ls) (sym
+    (ap (λ b. b && hits (values p S) (map (literal_of p) ls)) (form-false p S (stable-read p S sound stable) (body.All ls) stands)
+    ∙ ap (λ b. not (all_hold S ls) && b) (hits-literals p S ls atoms)) ∙ h))
 
 pub members_hold : (ls : List ℤ) → AllByRecursion (λ l. (S : Atoms) → all_hold S ls ≡ true → holds S l ≡ true) ls
 members_hold [] = tt
 members_hold (l ∷ ls) = (
   λ S e. and_left (holds S l) (all_hold S ls) e,
-  each_weaker (λ k. (S : Atoms) → all_hold S ls ≡ true → holds S k ≡ true) (λ k. (S : Atoms) → all_hold S (l ∷ ls) ≡ true → holds S k ≡ true) (λ k f S e. f S (and_right (holds S l) (all_hold S ls) e)) ls (members_hold ls),
+  each_weaker (λ k. (S : Atoms) → all_hold S ls ≡ true → holds S k ≡ true) (λ k. (S : Atoms) → all_hold S (l ∷ ls) ≡ true → holds S k ≡ true)
+      (λ k f S e. f S (and_right (holds S l) (all_hold S ls) e)) ls (members_hold ls),
 )
 
-literal_true : (p : Program) (ls : List ℤ) (l : ℤ) → IsSound p → list_any (body_eq (body.All ls)) (bodies_of p) ≡ true → has (atoms_of p) (atom_of l) ≡ true → ((S : Atoms) → all_hold S ls ≡ true → holds S l ≡ true) → Entailed p (literal_of_form p (body.All ls) ∷ complement (literal_of p l) ∷ [])
+literal_true : (p : Program) (ls : List ℤ) (l : ℤ) → IsSound p → list_any (body_eq (body.All ls)) (bodies_of p) ≡ true →
+    has (atoms_of p) (atom_of l) ≡ true → ((S : Atoms) → all_hold S ls ≡ true → holds S l ≡ true) →
+    Entailed p (literal_of_form p (body.All ls) ∷ complement (literal_of p l) ∷ [])
 literal_true p ls l sound stands atom follows =
     never p _ (λ S stable h.
     let first : Literal = literal_of_form p (body.All ls) in
@@ -347,7 +372,8 @@ body_entailed p (body.All ls) sound stands atoms =
 body_entailed p (body.AtLeast bound items) sound stands atoms = tt
 
 -- a true body has a true head, be that listed or not
-pub head_entailed : (p : Program) (r : Rule) (a : ℕ) → IsSound p → Among (rules_in_force p) r → r.head ≡ head.One a → has (atoms_of p) a ≡ true → Entailed p (literal_of_body p r.body ∷ F (var_of_atom p a) ∷ [])
+pub head_entailed : (p : Program) (r : Rule) (a : ℕ) → IsSound p → Among (rules_in_force p) r → r.head ≡ head.One a → has (atoms_of p) a ≡ true →
+    Entailed p (literal_of_body p r.body ∷ F (var_of_atom p a) ∷ [])
 head_entailed p r a sound m e stands =
     never p _ (λ S stable h.
     let first : Literal = literal_of_body p r.body in
@@ -362,7 +388,8 @@ pub each_unless : (P : List Literal → Type 0) (t : Bool) (n : List Literal) �
 each_unless P true n h = tt
 each_unless P false n h = (h, tt)
 
-pub rule_entailed : (p : Program) (r : Rule) (h : Head) → IsSound p → Among (rules_in_force p) r → r.head ≡ h → HasAll (atoms_of p) (head_atoms h) → AllByRecursion (Entailed p) (rule_nogoods p (literal_of_body p r.body) h)
+pub rule_entailed : (p : Program) (r : Rule) (h : Head) → IsSound p → Among (rules_in_force p) r → r.head ≡ h → HasAll (atoms_of p) (head_atoms h) →
+    AllByRecursion (Entailed p) (rule_nogoods p (literal_of_body p r.body) h)
 rule_entailed p r (head.One a) sound m e atoms =
     each_unless (Entailed p) (literal_eq (literal_of_body p r.body) (T (var_of_atom p a))) (literal_of_body p r.body ∷ F (var_of_atom p a) ∷ []) (head_entailed p r a sound m e atoms.0)
 rule_entailed p r (head.Choice xs) sound m e atoms = tt
@@ -375,7 +402,10 @@ rule_entailed p r head.Never sound m e atoms = (
 )
 
 -- where all supports are false, so are their bodies
-pub bodies_fail : (p : Program) (S : Atoms) → IsReadBy p S → (q : Body → Bool) (bs : List Body) → AllByRecursion (λ b. list_any (body_eq b) (bodies_of p) ≡ true) bs → hits (values p S) (map (λ c. complement (literal_of_form p c)) (filter q bs)) ≡ true → AllByRecursion (λ b. q b ≡ true → body_holds S b ≡ false) bs
+pub bodies_fail : (p : Program) (S : Atoms) → IsReadBy p S → (q : Body → Bool) (bs : List Body) →
+    AllByRecursion (λ b. list_any (body_eq b) (bodies_of p) ≡ true) bs →
+    hits (values p S) (map (λ c. complement (literal_of_form p c)) (filter q bs)) ≡ true →
+    AllByRecursion (λ b. q b ≡ true → body_holds S b ≡ false) bs
 bodies_fail p S read q [] stand h = tt
 bodies_fail p S read q (b ∷ bs) stand h = cases (q b) refl (bodies_fail p S read q bs stand.1)
   where
@@ -383,10 +413,17 @@ bodies_fail p S read q (b ∷ bs) stand h = cases (q b) refl (bodies_fail p S re
     not_true true e = absurd (false≢true e)
     not_true false e = refl
 
-    cases : (t : Bool) → t ≡ q b → (hits (values p S) (map (λ c. complement (literal_of_form p c)) (filter q bs)) ≡ true → AllByRecursion (λ c. q c ≡ true → body_holds S c ≡ false) bs) → (q b ≡ true → body_holds S b ≡ false) × AllByRecursion (λ c. q c ≡ true → body_holds S c ≡ false) bs
+    cases : (t : Bool) → t ≡ q b →
+        (hits (values p S) (map (λ c. complement (literal_of_form p c)) (filter q bs)) ≡ true →
+        AllByRecursion (λ c. q c ≡ true → body_holds S c ≡ false) bs) → (q b ≡ true → body_holds S b ≡ false) ×
+        AllByRecursion (λ c. q c ≡ true → body_holds S c ≡ false) bs
     cases true e f =
-        let whole : (is_true (values p S) (complement (literal_of_form p b)) && hits (values p S) (map (λ c. complement (literal_of_form p c)) (filter q bs))) ≡ true = ap (λ t. hits (values p S) (map (λ c. complement (literal_of_form p c)) (cond t (b ∷ filter q bs) (filter q bs)))) e ∙ h in (
-          λ _. not_true (body_holds S b) (sym (form-false p S read b stand.0) ∙ and_left (is_true (values p S) (complement (literal_of_form p b))) (hits (values p S) (map (λ c. complement (literal_of_form p c)) (filter q bs))) whole),
+        let whole : (is_true (values p S) (complement (literal_of_form p b))
+        && hits (values p S) (map (λ c. complement (literal_of_form p c)) (filter q bs))) ≡ true =
+        ap (λ t. hits (values p S) (map (λ c. complement (literal_of_form p c)) (cond t (b ∷ filter q bs) (filter q bs)))) e ∙ h in (
+          λ _. not_true (body_holds S b) (sym (form-false p S read b stand.0)
+              ∙ and_left (is_true (values p S) (complement (literal_of_form p b)))
+              (hits (values p S) (map (λ c. complement (literal_of_form p c)) (filter q bs))) whole),
           f (and_right (is_true (values p S) (complement (literal_of_form p b))) (hits (values p S) (map (λ c. complement (literal_of_form p c)) (filter q bs))) whole),
         )
     cases false e f = (
@@ -403,12 +440,16 @@ atom_entailed p a sound stands = never p _ (λ S stable h. broken S stable h)
         let atom : Literal = T (var_of_atom p a) in
         let others : List Literal = map (λ c. complement (literal_of_form p c)) (support_bodies p a) in
         let in_set : has S a ≡ true = sym (atom-true p S a stands) ∙ and_left (is_true (values p S) atom) (hits (values p S) others) h in
-        let all_fail : AllByRecursion (λ b. test b ≡ true → body_holds S b ≡ false) (bodies_of p) = bodies_fail p S (stable-read p S sound stable) test (bodies_of p) (bodies_of-themselves p) (and_right (is_true (values p S) atom) (hits (values p S) others) h) in
+        let all_fail : AllByRecursion (λ b. test b ≡ true → body_holds S b ≡ false) (bodies_of p) =
+        bodies_fail p S (stable-read p S sound stable) test (bodies_of p) (bodies_of-themselves p)
+        (and_right (is_true (values p S) atom) (hits (values p S) others) h) in
         let derived : list_any (λ r. has (derived_heads S S r) a) (rules_in_force p) ≡ true = sym (stable-derived p S a sound stable) ∙ in_set in
         one_passes ⊥ (λ r. has (derived_heads S S r) a) (rules_in_force p)
         (each_weaker (Among (rules_in_force p)) (λ r. has (derived_heads S S r) a ≡ true → ⊥) (λ r m e.
         let parts = derived-parts S r a e in
-        let tested : test (normal r.body) ≡ true = m (λ s. has (head_atoms s.head) a && body_eq (normal s.body) (normal r.body)) (and_from (has (head_atoms r.head) a) (body_eq (normal r.body) (normal r.body)) parts.1 (body_eq-itself (normal r.body))) in
+        let tested : test (normal r.body) ≡ true =
+        m (λ s. has (head_atoms s.head) a && body_eq (normal s.body) (normal r.body))
+        (and_from (has (head_atoms r.head) a) (body_eq (normal r.body) (normal r.body)) parts.1 (body_eq-itself (normal r.body))) in
         let fails : body_holds S (normal r.body) ≡ false = one_passes (body_holds S (normal r.body) ≡ false) (body_eq (normal r.body)) (bodies_of p)
         (each_weaker (λ b. test b ≡ true → body_holds S b ≡ false) (λ b. body_eq (normal r.body) b ≡ true → body_holds S (normal r.body) ≡ false) (λ b f same.
         let eq : normal r.body ≡ b = same_body (normal r.body) b same in
@@ -426,7 +467,11 @@ completion_entailed p sound =
     (each_weaker (λ b. (list_any (body_eq b) (bodies_of p) ≡ true) × Stands (atoms_of p) b) (λ b. AllByRecursion (Entailed p) (body_nogoods p b)) (λ b h. body_entailed p b sound h.0 h.1) (bodies_of p)
     (each_both (λ b. list_any (body_eq b) (bodies_of p) ≡ true) (Stands (atoms_of p)) (bodies_of p) (bodies_of-themselves p) (bodies_of-stand p))))
     (each-flat_map (Entailed p) (λ (r : Rule). rule_nogoods p (literal_of_body p r.body) r.head) (rules_in_force p)
-    (each_weaker (λ r. Among (rules_in_force p) r × HasAll (atoms_of p) (head_atoms r.head)) (λ r. AllByRecursion (Entailed p) (rule_nogoods p (literal_of_body p r.body) r.head)) (λ r h. rule_entailed p r r.head sound h.0 refl h.1) (rules_in_force p)
+    (each_weaker (λ r. Among (rules_in_force p) r × HasAll (atoms_of p) (head_atoms r.head))
+    (λ r. AllByRecursion (Entailed p) (rule_nogoods p (literal_of_body p r.body) r.head)) (λ r h. rule_entailed p r r.head sound h.0 refl h.1)
+    (rules_in_force p)
     (each_both (Among (rules_in_force p)) (λ r. HasAll (atoms_of p) (head_atoms r.head)) (rules_in_force p) (each_among (rules_in_force p)) (rules_in_force-heads p)))))
     (each-flat_map (Entailed p) (atom_nogoods p) (atoms_of p)
-    (each_weaker (λ a. has (atoms_of p) a ≡ true) (λ a. AllByRecursion (Entailed p) (atom_nogoods p a)) (λ a h. each_unless (Entailed p) (has_literal (atom_nogood p a) (F (var_of_atom p a))) (atom_nogood p a) (atom_entailed p a sound h)) (atoms_of p) (HasAll-itself (atoms_of p))))
+    (each_weaker (λ a. has (atoms_of p) a ≡ true) (λ a. AllByRecursion (Entailed p) (atom_nogoods p a))
+    (λ a h. each_unless (Entailed p) (has_literal (atom_nogood p a) (F (var_of_atom p a))) (atom_nogood p a) (atom_entailed p a sound h))
+    (atoms_of p) (HasAll-itself (atoms_of p))))

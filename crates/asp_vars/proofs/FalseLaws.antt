@@ -65,15 +65,18 @@ code_within f l a are is h = let small = half f l.var a is h in omega (arith, sm
 read_at : (f : List Bool) (i j : ℕ) (b : Bool) → i ≡ j → j < length f → b ≡ get_or f i b → b ≡ get_or f j false
 read_at f i j b same h e = get_or_read f j b h (e ∙ ap (λ (k : ℕ). get_or f k b) same) false
 
-pub says_of : (f : List Bool) (l : Literal) (code : ℕ) (b : Bool) (a : List (Option Bool)) → AreFalses f → values_of f ≡ a → l.var < length a → code ≡ code_of (complement l) → b ≡ get_or f code b → b ≡ holds_in a l
+pub says_of : (f : List Bool) (l : Literal) (code : ℕ) (b : Bool) (a : List (Option Bool)) → AreFalses f → values_of f ≡ a → l.var < length a →
+    code ≡ code_of (complement l) → b ≡ get_or f code b → b ≡ holds_in a l
 says_of f l code b a are is h same e =
     read_at f code (code_of (complement l)) b same (code_within f (complement l) a are is h) e ∙ (holds_by f l are (half f l.var a is h) ∙ ap (λ (x : List (Option Bool)). holds_in x l) is)
 
-pub denies_of : (f : List Bool) (l : Literal) (code : ℕ) (b : Bool) (a : List (Option Bool)) → AreFalses f → values_of f ≡ a → l.var < length a → code ≡ code_of l → b ≡ get_or f code b → b ≡ holds_in a (complement l)
+pub denies_of : (f : List Bool) (l : Literal) (code : ℕ) (b : Bool) (a : List (Option Bool)) → AreFalses f → values_of f ≡ a → l.var < length a →
+    code ≡ code_of l → b ≡ get_or f code b → b ≡ holds_in a (complement l)
 denies_of f l code b a are is h same e =
     read_at f code (code_of l) b same (code_within f l a are is h) e ∙ (denied_by f l are (half f l.var a is h) ∙ ap (λ (x : List (Option Bool)). holds_in x (complement l)) is)
 
-pub value_of_two : (f : List Bool) (v i j : ℕ) (x y : Bool) (a : List (Option Bool)) → AreFalses f → values_of f ≡ a → v < length a → i ≡ 2 * v → j ≡ 2 * v + 1 → x ≡ get_or f i x → y ≡ get_or f j y → value_by x y ≡ value_of a v
+pub value_of_two : (f : List Bool) (v i j : ℕ) (x y : Bool) (a : List (Option Bool)) → AreFalses f → values_of f ≡ a → v < length a → i ≡ 2 * v →
+    j ≡ 2 * v + 1 → x ≡ get_or f i x → y ≡ get_or f j y → value_by x y ≡ value_of a v
 value_of_two f v i j x y a are is h at next p q =
     let small = half f v a is h in
     let first = read_at f i (2 * v) x at (omega (arith, small, are.even)) p in

@@ -70,7 +70,8 @@ filtered_among test b (c ∷ bs) w e = cases (body_eq b c) (test c) refl refl (f
     skip true t h = refl
     skip false t h = h
 
-    cases : (t u : Bool) → t ≡ body_eq b c → u ≡ test c → (list_any (body_eq b) bs ≡ true → list_any (body_eq b) (filter test bs) ≡ true) → list_any (body_eq b) (cond u (c ∷ filter test bs) (filter test bs)) ≡ true
+    cases : (t u : Bool) → t ≡ body_eq b c → u ≡ test c → (list_any (body_eq b) bs ≡ true → list_any (body_eq b) (filter test bs) ≡ true) →
+        list_any (body_eq b) (cond u (c ∷ filter test bs) (filter test bs)) ≡ true
     cases true true q v later = ap (λ t. t || rest) (sym q)
     cases true false q v later = absurd (false≢true (v ∙ ap test (sym (same_body b c (sym q))) ∙ w))
     cases false true q v later = skip (body_eq b c) rest (later (ap (λ t. t || list_any (body_eq b) bs) q ∙ e))
@@ -98,7 +99,8 @@ named p (body.All ls) a more e = first_passing (defines p (body.All ls)) (atoms_
 named p (body.AtLeast bound items) a more e = absurd (cc e)
 
 -- ---- the first place at which a test passes
-pub get_or-place_of : {X : Type 0} (test f : X → Bool) (xs : List X) (ys : List Bool) (v : Bool) → ((x : X) → test x ≡ true → f x ≡ v) → list_any test xs ≡ true → get_or (map f xs ++ ys) (place_of test xs) false ≡ v
+pub get_or-place_of : {X : Type 0} (test f : X → Bool) (xs : List X) (ys : List Bool) (v : Bool) → ((x : X) → test x ≡ true → f x ≡ v) →
+    list_any test xs ≡ true → get_or (map f xs ++ ys) (place_of test xs) false ≡ v
 get_or-place_of test f [] ys v at e = absurd (false≢true e)
 get_or-place_of test f (x ∷ xs) ys v at e = cases (test x) refl (get_or-place_of test f xs ys v at)
   where
@@ -119,7 +121,9 @@ value-atom p S a h =
 pub own_var : (p : Program) (b : Body) → is_apart p b ≡ true → var_of_form p b ≡ suc (length (atoms_of p) + place_of (body_eq b) (apart_bodies p))
 own_var p b h = nameless (names p b) (and_parts (is_wide b) (is_nameless (names p b)) h).1
   where
-    nameless : (more : List ℕ) → is_nameless more ≡ true → named_or (atoms_of p) (suc (length (atoms_of p) + place_of (body_eq b) (apart_bodies p))) more ≡ suc (length (atoms_of p) + place_of (body_eq b) (apart_bodies p))
+    nameless : (more : List ℕ) → is_nameless more ≡ true →
+        named_or (atoms_of p) (suc (length (atoms_of p) + place_of (body_eq b) (apart_bodies p))) more ≡ suc
+        (length (atoms_of p) + place_of (body_eq b) (apart_bodies p))
     nameless [] e = refl
     nameless (a ∷ more) e = absurd (false≢true e)
 

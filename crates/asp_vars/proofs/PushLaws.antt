@@ -2,7 +2,8 @@
 use Rattle.std.proofs.Common.{◌≡◌, ℕ, ◌+◌, ◌<◌, ◌≤◌, List, [], ◌∷◌, ◌++◌, map, flat_map, take, get_or, length, append_assoc, sym, ap, ◌∙◌}
 use Rattle.std.proofs.lemmas.List.{map_more, flat_map_more, take_more, take_all}
 
-pub more_behind : {X Y : Type 0} (f : X → Y) (xs : List X) (i : ℕ) (d : X) (y : Y) (first old new : List Y) → i < length xs → old ≡ first ++ map f (take i xs) → new ≡ old ++ y ∷ [] → y ≡ f (get_or xs i d) → new ≡ first ++ map f (take (i + 1) xs)
+pub more_behind : {X Y : Type 0} (f : X → Y) (xs : List X) (i : ℕ) (d : X) (y : Y) (first old new : List Y) → i < length xs →
+    old ≡ first ++ map f (take i xs) → new ≡ old ++ y ∷ [] → y ≡ f (get_or xs i d) → new ≡ first ++ map f (take (i + 1) xs)
 more_behind f xs i d y first old new lt e made is =
     made
     ∙ ap (λ ys. ys ++ y ∷ []) e
@@ -14,7 +15,8 @@ pub whole_behind : {X Y : Type 0} (f : X → Y) (xs : List X) (i : ℕ) (first m
 whole_behind f xs i first made le e = e ∙ ap (λ zs. first ++ map f zs) (take_all i xs le)
 
 -- each item itself
-pub item_behind : {X : Type 0} (xs : List X) (i : ℕ) (d y : X) (first old new : List X) → i < length xs → old ≡ first ++ take i xs → new ≡ old ++ y ∷ [] → y ≡ get_or xs i d → new ≡ first ++ take (i + 1) xs
+pub item_behind : {X : Type 0} (xs : List X) (i : ℕ) (d y : X) (first old new : List X) → i < length xs → old ≡ first ++ take i xs →
+    new ≡ old ++ y ∷ [] → y ≡ get_or xs i d → new ≡ first ++ take (i + 1) xs
 item_behind xs i d y first old new lt e made is =
     made
     ∙ ap (λ ys. ys ++ y ∷ []) e
@@ -26,7 +28,8 @@ pub items_behind : {X : Type 0} (xs : List X) (i : ℕ) (first made : List X) �
 items_behind xs i first made le e = e ∙ ap (λ zs. first ++ zs) (take_all i xs le)
 
 -- a list for each item
-pub lists_behind : {X Y : Type 0} (f : X → List Y) (xs : List X) (i : ℕ) (d : X) (ys first old new : List Y) → i < length xs → old ≡ first ++ flat_map f (take i xs) → new ≡ old ++ ys → ys ≡ f (get_or xs i d) → new ≡ first ++ flat_map f (take (i + 1) xs)
+pub lists_behind : {X Y : Type 0} (f : X → List Y) (xs : List X) (i : ℕ) (d : X) (ys first old new : List Y) → i < length xs →
+    old ≡ first ++ flat_map f (take i xs) → new ≡ old ++ ys → ys ≡ f (get_or xs i d) → new ≡ first ++ flat_map f (take (i + 1) xs)
 lists_behind f xs i d ys first old new lt e made is =
     made
     ∙ ap (λ zs. zs ++ ys) e

@@ -60,7 +60,8 @@ head_vars p b =
     each-map (IsAtomVar p) (var_of_atom p) (flat_map heads (rules_in_force p))
     (each-flat_map (λ a. IsAtomVar p (var_of_atom p a)) heads (rules_in_force p)
     (each_weaker (λ (r : Rule). AllByRecursion (λ a. has (atoms_of p) a ≡ true) (head_atoms r.head)) (λ r. AllByRecursion (λ a. IsAtomVar p (var_of_atom p a)) (heads r)) (λ r h.
-    cases r (body_eq (normal r.body) b) (each_weaker (λ a. has (atoms_of p) a ≡ true) (λ a. IsAtomVar p (var_of_atom p a)) (atom_var p) (head_atoms r.head) h)) (rules_in_force p) (rules_in_force-heads p)))
+    cases r (body_eq (normal r.body) b) (each_weaker (λ a. has (atoms_of p) a ≡ true) (λ a. IsAtomVar p (var_of_atom p a)) (atom_var p)
+    (head_atoms r.head) h)) (rules_in_force p) (rules_in_force-heads p)))
   where
     cases : (r : Rule) (t : Bool) → AllByRecursion (λ a. IsAtomVar p (var_of_atom p a)) (head_atoms r.head) → AllByRecursion (λ a. IsAtomVar p (var_of_atom p a)) (cond t (head_atoms r.head) [])
     cases r true h = h
@@ -73,6 +74,7 @@ support_numbers p a =
     (each-filter (λ b. IsBodyNumber p (number_of_form p b)) test (bodies_of p)
     (each_weaker (λ b. list_any (body_eq b) (bodies_of p) ≡ true) (λ b. IsBodyNumber p (number_of_form p b)) (form_number p) (bodies_of p) (bodies_of-themselves p)))
 
-pub rule_body_at : (p : Program) (places : List ℕ) (i d : ℕ) → places ≡ map (λ r. place_of_body p r.body) (rules_in_force p) → i < length (rules_in_force p) → get_or places i d ≡ place_of_body p (nth_rule p i).body
+pub rule_body_at : (p : Program) (places : List ℕ) (i d : ℕ) → places ≡ map (λ r. place_of_body p r.body) (rules_in_force p) →
+    i < length (rules_in_force p) → get_or places i d ≡ place_of_body p (nth_rule p i).body
 rule_body_at p places i d e lt =
     ap (λ (xs : List ℕ). get_or xs i d) e ∙ get_or-map (λ (r : Rule). place_of_body p r.body) (rules_in_force p) i (record { head = head.Never; body = body.All [] }) d lt

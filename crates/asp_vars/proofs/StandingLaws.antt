@@ -76,7 +76,9 @@ list_any-add_body b c bs = cases (list_any (body_eq c) bs) refl
     cases false q =
         list_any-append (body_eq b) bs (c ∷ []) ∙ ap (λ x. list_any (body_eq b) bs || x) (sym (or_false (body_eq b c)))
 
-pub list_any-distinct : (b : Body) (bs cs : List Body) → list_any (body_eq b) (fold (λ bs b. cond (list_any (body_eq b) bs) bs (bs ++ b ∷ [])) bs cs) ≡ (list_any (body_eq b) bs || list_any (body_eq b) cs)
+pub list_any-distinct : (b : Body) (bs cs : List Body) →
+    list_any (body_eq b) (fold (λ bs b. cond (list_any (body_eq b) bs) bs (bs ++ b ∷ [])) bs cs) ≡
+    (list_any (body_eq b) bs || list_any (body_eq b) cs)
 list_any-distinct b bs [] = or_false (list_any (body_eq b) bs)
 list_any-distinct b bs (c ∷ cs) =
     list_any-distinct b (cond (list_any (body_eq c) bs) bs (bs ++ c ∷ [])) cs
@@ -118,7 +120,8 @@ each-with_weight P i (j ∷ js) h a = cases (int_lt i.0 j.0) (int_lt j.0 i.0) (e
     cases false true rest = (a.0, rest)
     cases false false rest = (a.0, a.1)
 
-each-fold_items : (P : ℤ → Type 0) (js is : List (ℤ × ℤ)) → AllByRecursion (λ j. P j.0) js → AllByRecursion (λ j. P j.0) is → AllByRecursion (λ j. P j.0) (fold (λ js i. cond (int_eq i.1 (pos 0)) js (with_weight i js)) js is)
+each-fold_items : (P : ℤ → Type 0) (js is : List (ℤ × ℤ)) → AllByRecursion (λ j. P j.0) js → AllByRecursion (λ j. P j.0) is →
+    AllByRecursion (λ j. P j.0) (fold (λ js i. cond (int_eq i.1 (pos 0)) js (with_weight i js)) js is)
 each-fold_items P js [] a b = a
 each-fold_items P js (i ∷ is) a b = each-fold_items P (cond (int_eq i.1 (pos 0)) js (with_weight i js)) is (cases (int_eq i.1 (pos 0))) b.1
   where
@@ -165,7 +168,8 @@ rules_in_force-bodies p =
     each_weaker (λ a. has standing a ≡ true) (λ a. has (atoms_of p) a ≡ true) (λ a e. has-set_of standing a ∙ e) (body_atoms r.body)
     (of_rules (body_atoms r.body) (back-append (λ a. has A a ≡ true) (head_atoms r.head) (body_atoms r.body) h))) p.rules (HasAll-flat_map heads_and_bodies p.rules))
     (each-flat_map (λ (r : Rule). HasAll (atoms_of p) (body_atoms r.body)) (λ a. external_rule a (last_value p.externals a)) (open_atoms p)
-    (each_of (λ a. AllByRecursion (λ (r : Rule). HasAll (atoms_of p) (body_atoms r.body)) (external_rule a (last_value p.externals a))) (λ a. external_bodies (atoms_of p) a (last_value p.externals a)) (open_atoms p)))
+    (each_of (λ a. AllByRecursion (λ (r : Rule). HasAll (atoms_of p) (body_atoms r.body)) (external_rule a (last_value p.externals a)))
+    (λ a. external_bodies (atoms_of p) a (last_value p.externals a)) (open_atoms p)))
 
 -- the atoms of each of them
 pub bodies_of-stand : (p : Program) → AllByRecursion (Stands (atoms_of p)) (bodies_of p)
@@ -181,7 +185,8 @@ bodies_of-stand p =
 pub form-stands : (p : Program) (b : Body) → list_any (body_eq b) (bodies_of p) ≡ true → Stands (atoms_of p) b
 form-stands p b =
     one_passes (Stands (atoms_of p) b) (body_eq b) (bodies_of p)
-    (each_weaker (Stands (atoms_of p)) (λ c. body_eq b c ≡ true → Stands (atoms_of p) b) (λ c s same. subst (λ (x : Body). Stands (atoms_of p) x) (sym (same_body b c same)) s) (bodies_of p) (bodies_of-stand p))
+    (each_weaker (Stands (atoms_of p)) (λ c. body_eq b c ≡ true → Stands (atoms_of p) b)
+    (λ c s same. subst (λ (x : Body). Stands (atoms_of p) x) (sym (same_body b c same)) s) (bodies_of p) (bodies_of-stand p))
 
 pub bodies_of-themselves : (p : Program) → AllByRecursion (λ b. list_any (body_eq b) (bodies_of p) ≡ true) (bodies_of p)
 bodies_of-themselves p =

@@ -90,7 +90,8 @@ form_in p q b (c ∷ bs) e t = elim (either (body_eq b c) (list_any (body_eq b) 
   | inl h ↦
       let same : b ≡ c = same_body b c h in
       let passes : q c ≡ true = ap q (sym same) ∙ t in
-      rw passes (or_left (eqb (number_of_form p c) (number_of_form p b)) (has (map (number_of_form p) (filter q bs)) (number_of_form p b)) (eq-eqb (number_of_form p c) (number_of_form p b) (ap (number_of_form p) (sym same))))
+      rw passes (or_left (eqb (number_of_form p c) (number_of_form p b)) (has (map (number_of_form p) (filter q bs)) (number_of_form p b))
+      (eq-eqb (number_of_form p c) (number_of_form p b) (ap (number_of_form p) (sym same))))
   | inr h ↦ later (q c) (form_in p q b bs h t)
 ]
   where
@@ -98,14 +99,17 @@ form_in p q b (c ∷ bs) e t = elim (either (body_eq b c) (list_any (body_eq b) 
     later true h = or_right (eqb (number_of_form p c) (number_of_form p b)) (has (map (number_of_form p) (filter q bs)) (number_of_form p b)) h
     later false h = h
 
-pub in_forms : (p : Program) (a v : ℕ) → has (supports p a) v ≡ true → (b : Body) × (((list_any (body_eq b) (bodies_of p) ≡ true) × Stands (atoms_of p) b) × (list_any (λ (r : Rule). has (head_atoms r.head) a && body_eq (normal r.body) b) (rules_in_force p) ≡ true)) × (number_of_form p b ≡ v)
+pub in_forms : (p : Program) (a v : ℕ) → has (supports p a) v ≡ true → (b : Body) ×
+    (((list_any (body_eq b) (bodies_of p) ≡ true) × Stands (atoms_of p) b) ×
+    (list_any (λ (r : Rule). has (head_atoms r.head) a && body_eq (normal r.body) b) (rules_in_force p) ≡ true)) × (number_of_form p b ≡ v)
 in_forms p a v e =
     let test : Body → Bool = λ c. list_any (λ (r : Rule). has (head_atoms r.head) a && body_eq (normal r.body) c) (rules_in_force p) in
     in_map (λ b. ((list_any (body_eq b) (bodies_of p) ≡ true) × Stands (atoms_of p) b) × (test b ≡ true)) (number_of_form p) (filter test (bodies_of p)) v
     (each-filter (λ b. (list_any (body_eq b) (bodies_of p) ≡ true) × Stands (atoms_of p) b) test (bodies_of p)
     (both (bodies_of p) (bodies_of-themselves p) (bodies_of-stand p))) e
   where
-    both : (bs : List Body) → AllByRecursion (λ b. list_any (body_eq b) (bodies_of p) ≡ true) bs → AllByRecursion (Stands (atoms_of p)) bs → AllByRecursion (λ b. (list_any (body_eq b) (bodies_of p) ≡ true) × Stands (atoms_of p) b) bs
+    both : (bs : List Body) → AllByRecursion (λ b. list_any (body_eq b) (bodies_of p) ≡ true) bs → AllByRecursion (Stands (atoms_of p)) bs →
+        AllByRecursion (λ b. (list_any (body_eq b) (bodies_of p) ≡ true) × Stands (atoms_of p) b) bs
     both [] h k = tt
     both (b ∷ bs) h k = ((h.0, k.0), both bs h.1 k.1)
 
@@ -136,7 +140,9 @@ of_supports {X = X} p f a =
     let test : Body → Bool = λ b. list_any (λ (r : Rule). has (head_atoms r.head) a && body_eq (normal r.body) b) (rules_in_force p) in
     alike (filter test (bodies_of p)) (each-filter (λ b. list_any (body_eq b) (bodies_of p) ≡ true) test (bodies_of p) (bodies_of-themselves p))
   where
-    alike : (bs : List Body) → AllByRecursion (λ b. (list_any (body_eq b) (bodies_of p) ≡ true) × (list_any (λ (r : Rule). has (head_atoms r.head) a && body_eq (normal r.body) b) (rules_in_force p) ≡ true)) bs → map (λ n. f (form_at p n)) (map (number_of_form p) bs) ≡ map f bs
+    alike : (bs : List Body) → AllByRecursion (λ b. (list_any (body_eq b) (bodies_of p) ≡ true) ×
+        (list_any (λ (r : Rule). has (head_atoms r.head) a && body_eq (normal r.body) b) (rules_in_force p) ≡ true)) bs →
+        map (λ n. f (form_at p n)) (map (number_of_form p) bs) ≡ map f bs
     alike [] h = refl
     alike (b ∷ bs) h =
         ap (λ (x : Body). f x ∷ map (λ n. f (form_at p n)) (map (number_of_form p) bs)) (form_at-number p b h.0.0)

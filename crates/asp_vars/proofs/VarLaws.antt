@@ -31,11 +31,13 @@ body_vars : (p : Program) (b : Body) → list_any (body_eq b) (bodies_of p) ≡ 
 body_vars p (body.All ls) listed stand =
     let b = form_literal p (body.All ls) listed in
     let literals : Each p (map (literal_of p) ls) =
-    each-map (IsLiteral p) (literal_of p) ls (each_weaker (λ l. has (atoms_of p) (atom_of l) ≡ true) (λ l. IsLiteral p (literal_of p l)) (λ l h. atom_literal p (atom_of l) (is_positive l) h) ls stand) in
+    each-map (IsLiteral p) (literal_of p) ls (each_weaker (λ l. has (atoms_of p) (atom_of l) ≡ true) (λ l. IsLiteral p (literal_of p l))
+    (λ l h. atom_literal p (atom_of l) (is_positive l) h) ls stand) in
     each_of_body (Each p) p ls (λ _. literals) (
       (b, literals),
       each-map (Each p) (λ l. literal_of_form p (body.All ls) ∷ complement (literal_of p l) ∷ []) ls
-          (each_weaker (λ l. has (atoms_of p) (atom_of l) ≡ true) (λ l. Each p (literal_of_form p (body.All ls) ∷ complement (literal_of p l) ∷ [])) (λ l h. (b, (atom_literal p (atom_of l) (not (is_positive l)) h, tt))) ls stand),
+          (each_weaker (λ l. has (atoms_of p) (atom_of l) ≡ true) (λ l. Each p (literal_of_form p (body.All ls) ∷ complement (literal_of p l) ∷ []))
+          (λ l h. (b, (atom_literal p (atom_of l) (not (is_positive l)) h, tt))) ls stand),
     )
 body_vars p (body.AtLeast bound items) listed stand = tt
 
@@ -63,7 +65,11 @@ completion_vars p =
     (each_weaker (λ b. (list_any (body_eq b) (bodies_of p) ≡ true) × Stands (atoms_of p) b) (λ b. AllByRecursion (Each p) (body_nogoods p b)) (λ b h. body_vars p b h.0 h.1) (bodies_of p)
     (each_both (λ b. list_any (body_eq b) (bodies_of p) ≡ true) (Stands (atoms_of p)) (bodies_of p) (bodies_of-themselves p) (bodies_of-stand p))))
     (each-flat_map (Each p) (λ (r : Rule). rule_nogoods p (literal_of_body p r.body) r.head) (rules_in_force p)
-    (each_weaker (λ r. Among (rules_in_force p) r × HasAll (atoms_of p) (head_atoms r.head)) (λ r. AllByRecursion (Each p) (rule_nogoods p (literal_of_body p r.body) r.head)) (λ r h. rule_vars p (literal_of_body p r.body) r.head (form_literal p (normal r.body) (rule_has_form p r h.0)) h.1) (rules_in_force p)
+    (each_weaker (λ r. Among (rules_in_force p) r × HasAll (atoms_of p) (head_atoms r.head))
+    (λ r. AllByRecursion (Each p) (rule_nogoods p (literal_of_body p r.body) r.head))
+    (λ r h. rule_vars p (literal_of_body p r.body) r.head (form_literal p (normal r.body) (rule_has_form p r h.0)) h.1) (rules_in_force p)
     (each_both (Among (rules_in_force p)) (λ r. HasAll (atoms_of p) (head_atoms r.head)) (rules_in_force p) (each_among (rules_in_force p)) (rules_in_force-heads p)))))
     (each-flat_map (Each p) (atom_nogoods p) (atoms_of p)
-    (each_weaker (λ a. has (atoms_of p) a ≡ true) (λ a. AllByRecursion (Each p) (atom_nogoods p a)) (λ a h. each_unless (Each p) (has_literal (atom_nogood p a) (F (var_of_atom p a))) (atom_nogood p a) (atom_vars p a h)) (atoms_of p) (HasAll-itself (atoms_of p))))
+    (each_weaker (λ a. has (atoms_of p) a ≡ true) (λ a. AllByRecursion (Each p) (atom_nogoods p a))
+    (λ a h. each_unless (Each p) (has_literal (atom_nogood p a) (F (var_of_atom p a))) (atom_nogood p a) (atom_vars p a h)) (atoms_of p)
+    (HasAll-itself (atoms_of p))))

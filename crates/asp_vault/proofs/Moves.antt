@@ -189,7 +189,8 @@ module _ {T D E : Type 0} (about_of : T → D) (entries : T → List E) (maker :
   take_step slots id me live free s r wide at small = takes_go slots id me live free s r at r.taken refl
 
   module _ (slots id : ℕ) (v : View D E) (x : T) (n : ℕ) where
-    give_at : v.live ≡ true → v.holds ≡ true → Some (about_of x) ≡ v.about → IsPrefix v.seen (entries x) → OnlyBy maker v.number (drop (length v.seen) (entries x)) → sound x → n ≡ 2 * length (entries x)
+    give_at : v.live ≡ true → v.holds ≡ true → Some (about_of x) ≡ v.about → IsPrefix v.seen (entries x) →
+        OnlyBy maker v.number (drop (length v.seen) (entries x)) → sound x → n ≡ 2 * length (entries x)
         → Allows Rule slots id (v, (0, Some x) ∷ []) 0 (λ _. n) (λ _. gave entries (step slots 0 n 0 maybe.none) (v, (0, Some x) ∷ []) n)
     give_at live held for more only good is s r wide at small = (
       w,
@@ -280,13 +281,15 @@ module _ {T D E : Type 0} (about_of : T → D) (entries : T → List E) (maker :
     held = λ e. let h = r.held e in dite (ℕ_discrete r.holder id)
         (λ (same : r.holder ≡ id). let is : h.0 ≡ v = one_view s.views id h.0 v (subst (λ (k : ℕ). get_elem? s.views k ≡ some h.0) same h.1) at in (
           parted v,
-          subst (λ (k : ℕ). get_elem? (set s.views id (parted v) ++ fresh v ∷ []) k ≡ some (parted v)) (sym same) (at_longer (set s.views id (parted v)) (fresh v ∷ []) id (parted v) (put_there s.views id v (parted v) at)),
+          subst (λ (k : ℕ). get_elem? (set s.views id (parted v) ++ fresh v ∷ []) k ≡ some (parted v)) (sym same)
+              (at_longer (set s.views id (parted v)) (fresh v ∷ []) id (parted v) (put_there s.views id v (parted v) at)),
           live,
           sym (ap (λ (z : View D E). z.holds) is) ∙ h.3,
         ))
         (λ apart. (h.0, at_longer (set s.views id (parted v)) (fresh v ∷ []) r.holder h.0 (set_else s.views id r.holder (parted v) apart ∙ h.1), h.2, h.3));
     holding_is = λ j u e up holds. ⊎_elim
-        (λ e'. each_set (λ j u. u.live ≡ true → u.holds ≡ true → (r.taken ≡ true) × (j ≡ r.holder) × (u.seen ≡ r.log)) s.views id (parted v) (λ _ holds'. r.holding_is id v at live holds') (λ j' u' _ e''. r.holding_is j' u' e'') j u e' up holds)
+        (λ e'. each_set (λ j u. u.live ≡ true → u.holds ≡ true → (r.taken ≡ true) × (j ≡ r.holder) × (u.seen ≡ r.log)) s.views id (parted v)
+        (λ _ holds'. r.holding_is id v at live holds') (λ j' u' _ e''. r.holding_is j' u' e'') j u e' up holds)
         (λ (t : (j ≡ length (set s.views id (parted v))) × (fresh v ≡ u)). absurd (off (ap (λ (z : View D E). z.holds) t.1 ∙ holds)))
         (at_end (set s.views id (parted v)) (fresh v) u j e);
   }
@@ -303,13 +306,21 @@ module _ {T D E : Type 0} (about_of : T → D) (entries : T → List E) (maker :
     word = r.word;
     home = r.home;
     held = λ e. let h = r.held e in dite (ℕ_discrete r.holder other)
-        (λ (same : r.holder ≡ other). absurd (off (sym free ∙ (ap (λ (z : View D E). z.holds) (one_view s.views other w h.0 there (subst (λ (k : ℕ). get_elem? s.views k ≡ some h.0) same h.1)) ∙ h.3))))
+        (λ (same : r.holder ≡ other). absurd (off (sym free
+        ∙ (ap (λ (z : View D E). z.holds)
+        (one_view s.views other w h.0 there (subst (λ (k : ℕ). get_elem? s.views k ≡ some h.0) same h.1)) ∙ h.3))))
         (λ not. let past = set_else (set s.views id (joined v w)) other r.holder spent not in dite (ℕ_discrete r.holder id)
-        (λ (same : r.holder ≡ id). let is : h.0 ≡ v = one_view s.views id h.0 v (subst (λ (k : ℕ). get_elem? s.views k ≡ some h.0) same h.1) at in
-        (joined v w, past ∙ subst (λ (k : ℕ). get_elem? (set s.views id (joined v w)) k ≡ some (joined v w)) (sym same) (put_there s.views id v (joined v w) at), live, sym (ap (λ (z : View D E). z.holds) is) ∙ h.3))
+        (λ (same : r.holder ≡ id). let is : h.0 ≡ v = one_view s.views id h.0 v (subst (λ (k : ℕ). get_elem? s.views k ≡ some h.0) same h.1) at in (
+          joined v w,
+          past ∙ subst (λ (k : ℕ). get_elem? (set s.views id (joined v w)) k ≡ some (joined v w)) (sym same)
+              (put_there s.views id v (joined v w) at),
+          live,
+          sym (ap (λ (z : View D E). z.holds) is) ∙ h.3,
+        ))
         (λ else. (h.0, past ∙ (set_else s.views id r.holder (joined v w) else ∙ h.1), h.2, h.3)));
     holding_is = each_set (λ j u. u.live ≡ true → u.holds ≡ true → (r.taken ≡ true) × (j ≡ r.holder) × (u.seen ≡ r.log)) (set s.views id (joined v w)) other spent (λ e. absurd (off e))
-        (λ j u _ e. each_set (λ j u. u.live ≡ true → u.holds ≡ true → (r.taken ≡ true) × (j ≡ r.holder) × (u.seen ≡ r.log)) s.views id (joined v w) (λ _ holds. still holds) (λ j' u' _ e''. r.holding_is j' u' e'') j u e);
+        (λ j u _ e. each_set (λ j u. u.live ≡ true → u.holds ≡ true → (r.taken ≡ true) × (j ≡ r.holder) × (u.seen ≡ r.log)) s.views id (joined v w)
+        (λ _ holds. still holds) (λ j' u' _ e''. r.holding_is j' u' e'') j u e);
   }
     where
       there : get_elem? s.views other ≡ some w
@@ -346,19 +357,33 @@ module _ {T D E : Type 0} (about_of : T → D) (entries : T → List E) (maker :
       word = r.word;
       home = r.home;
       held = λ e. let h = r.held e in dite (ℕ_discrete r.holder id)
-          (λ (same : r.holder ≡ id). let is : h.0 ≡ me.0 = one_view s.views id h.0 me.0 (subst (λ (k : ℕ). get_elem? s.views k ≡ some h.0) same h.1) at in
-          (compared me.0, subst (λ (k : ℕ). get_elem? (set s.views id (compared me.0)) k ≡ some (compared me.0)) (sym same) (put_there s.views id me.0 (compared me.0) at), live, sym (ap (λ (z : View D E). z.holds) is) ∙ h.3))
+          (λ (same : r.holder ≡ id). let is : h.0 ≡ me.0 = one_view s.views id h.0 me.0 (subst (λ (k : ℕ). get_elem? s.views k ≡ some h.0) same h.1) at in (
+            compared me.0,
+            subst (λ (k : ℕ). get_elem? (set s.views id (compared me.0)) k ≡ some (compared me.0)) (sym same)
+                (put_there s.views id me.0 (compared me.0) at),
+            live,
+            sym (ap (λ (z : View D E). z.holds) is) ∙ h.3,
+          ))
           (λ apart. (h.0, set_else s.views id r.holder (compared me.0) apart ∙ h.1, h.2, h.3));
-      holding_is = each_set (λ j u. u.live ≡ true → u.holds ≡ true → (r.taken ≡ true) × (j ≡ r.holder) × (u.seen ≡ r.log)) s.views id (compared me.0) (λ _ holds. r.holding_is id me.0 at live holds) (λ j' u' _ e''. r.holding_is j' u' e'');
+      holding_is = each_set (λ j u. u.live ≡ true → u.holds ≡ true → (r.taken ≡ true) × (j ≡ r.holder) × (u.seen ≡ r.log)) s.views id (compared me.0)
+          (λ _ holds. r.holding_is id me.0 at live holds) (λ j' u' _ e''. r.holding_is j' u' e'');
     },
-    (refl, refl, prefix_shorter me.0.told me.0.seen r.log mine.told_is mine.seen_is mine.told_less, λ first. (roll_guests maker r.about r.log s.views r.roll id me.0 at live first).1, mine.own_seen, mine.own_placed),
+    (
+      refl,
+      refl,
+      prefix_shorter me.0.told me.0.seen r.log mine.told_is mine.seen_is mine.told_less,
+      λ first. (roll_guests maker r.about r.log s.views r.roll id me.0 at live first).1,
+      mine.own_seen,
+      mine.own_placed,
+    ),
   )
     where
       mine : Member maker r.log r.about r.roll.given r.roll.owner id me.0
       mine = r.roll.each id me.0 at live
 
   pub close_step : (id : ℕ) (v : View D E) (ws : List ℕ) (ys : List (Option T)) (y : Option T) → v.live ≡ true → v.number ≡ 0 → v.splits ≡ v.joins → v.holds ≡ false → Final (Seen Rule id v) ws ys
-      → get_elem? ys 0 ≡ some y → (x : T) × (y ≡ Some x) × IsPrefix v.seen (entries x) × ((n : ℕ) → of maker n (entries x) ≡ of maker n v.seen) × Guests maker v (entries x) × (Some (about_of x) ≡ v.about) × sound x
+      → get_elem? ys 0 ≡ some y → (x : T) × (y ≡ Some x) × IsPrefix v.seen (entries x) × ((n : ℕ) → of maker n (entries x) ≡ of maker n v.seen) ×
+      Guests maker v (entries x) × (Some (about_of x) ≡ v.about) × sound x
   close_step id v ws ys y live first all free f at = close_go r.taken refl
     where
       r : Rule f.0
@@ -370,7 +395,8 @@ module _ {T D E : Type 0} (about_of : T → D) (entries : T → List E) (maker :
       closed : ((j : ℕ) (u : View D E) → get_elem? f.0.views j ≡ some u → u.live ≡ true → j ≡ id) × ((n : ℕ) → of maker n r.log ≡ of maker n v.seen)
       closed = roll_closed maker r.about r.log f.0.views r.roll id v f.1.1 live first all
 
-      close_go : (b : Bool) → r.taken ≡ b → (x : T) × (y ≡ Some x) × IsPrefix v.seen (entries x) × ((n : ℕ) → of maker n (entries x) ≡ of maker n v.seen) × Guests maker v (entries x) × (Some (about_of x) ≡ v.about) × sound x
+      close_go : (b : Bool) → r.taken ≡ b → (x : T) × (y ≡ Some x) × IsPrefix v.seen (entries x) ×
+          ((n : ℕ) → of maker n (entries x) ≡ of maker n v.seen) × Guests maker v (entries x) × (Some (about_of x) ≡ v.about) × sound x
       close_go false is = let h = r.home is in (
         h.0,
         some-injective y (Some h.0) (sym at ∙ f.4 0 (Some h.0) h.1),

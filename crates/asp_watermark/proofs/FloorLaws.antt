@@ -35,7 +35,8 @@ use Rattle.asp_watermark.proofs.BelowLaws.{part-before}
 use Rattle.asp_watermark.proofs.LeafLaws.{CameFrom, IsHit, all-closed, came-from, closed_or_not, cube-stays, first-cube, longer, nodes-stay, second-cube, some-hit}
 
 -- ---- below a floor all is delivered
-low-excused : (b : Board) (x S : Atoms) (leaf : ℕ) → IsAscending x → StaysFrom b x leaf → is_answer b.task S ≡ true → hits (values b.task.program S) (cube_of b.nodes leaf) ≡ true → is_below (Some x) S ≡ true → is_excused b S ≡ true
+low-excused : (b : Board) (x S : Atoms) (leaf : ℕ) → IsAscending x → StaysFrom b x leaf → is_answer b.task S ≡ true →
+    hits (values b.task.program S) (cube_of b.nodes leaf) ≡ true → is_below (Some x) S ≡ true → is_excused b S ≡ true
 low-excused b x S leaf up stays answer hit below = here (is_excused b S) refl
   where
     here : (y : Bool) → y ≡ is_excused b S → y ≡ true
@@ -52,11 +53,13 @@ below-excused b (Some x) S is low answer below =
     let at : IsHit (values b.task.program S) b.nodes = some-hit (values b.task.program S) b.nodes (omega (arith, is.covered S parts.1)) in
     here at parts.0 (closed_or_not (status_of b.nodes at.leaf) at.is)
   where
-    here : (at : IsHit (values b.task.program S) b.nodes) → is_stable b.task.program S ≡ true → ((status_of b.nodes at.leaf ≡ status.Closed) ⊎ (is_unclosed (status_of b.nodes at.leaf) ≡ true)) → is_excused b S ≡ true
+    here : (at : IsHit (values b.task.program S) b.nodes) → is_stable b.task.program S ≡ true →
+        ((status_of b.nodes at.leaf ≡ status.Closed) ⊎ (is_unclosed (status_of b.nodes at.leaf) ≡ true)) → is_excused b S ≡ true
     here at stable (inl closed) = (at_each (IsSettled b) b.nodes at.leaf nowhere is.settled at.within closed).excused S stable at.hit
     here at stable (inr open_leaf) = low-excused b x S at.leaf low.0 (low.1 at.leaf open_leaf) answer at.hit below
 
-excused-delivered : (m : Goal) (p : Program) (A : List Atoms) (best : Option Atoms) (S : Atoms) → sought m ≡ None → lists_by m p S ≡ true → is_done p (used_up (sought m) p (showing m p A)) (bound_by m p best) S ≡ true → list_any (same_set S) A ≡ true
+excused-delivered : (m : Goal) (p : Program) (A : List Atoms) (best : Option Atoms) (S : Atoms) → sought m ≡ None → lists_by m p S ≡ true →
+    is_done p (used_up (sought m) p (showing m p A)) (bound_by m p best) S ≡ true → list_any (same_set S) A ≡ true
 excused-delivered goal.Enum p A best S none lists done = here (or_cases (list_any (same_set S) A) false done)
   where
     here : ((list_any (same_set S) A ≡ true) ⊎ (false ≡ true)) → list_any (same_set S) A ≡ true
@@ -70,7 +73,8 @@ excused-delivered (goal.Ties c) p A best S none lists done = here (or_cases (lis
     here (inr h) = absurd (false≢true (sym (not_true (costs_bound p c S) lists) ∙ h))
 excused-delivered (goal.Consequences r n) p A best S none lists done = absurd (let f : ⊥ = cc in f)
 
-pub below-delivered : (b : Board) (floor : Option Atoms) (S : Atoms) → IsBoard b → sought b.task.goal ≡ None → IsFloor b floor → is_answer b.task S ≡ true → lists b.task S ≡ true → is_below floor S ≡ true → list_any (same_set S) b.answers ≡ true
+pub below-delivered : (b : Board) (floor : Option Atoms) (S : Atoms) → IsBoard b → sought b.task.goal ≡ None → IsFloor b floor →
+    is_answer b.task S ≡ true → lists b.task S ≡ true → is_below floor S ≡ true → list_any (same_set S) b.answers ≡ true
 below-delivered b floor S is none low answer lists below = excused-delivered b.task.goal b.task.program b.answers b.best S none lists (below-excused b floor S is low answer below)
 
 -- ---- so these are a front of the list
@@ -89,7 +93,9 @@ and_turn false false = refl
 
 pub passed-listed : (b : Board) (floor : Option Atoms) → IsBoard b → sought b.task.goal ≡ None → IsFloor b floor → passed b floor ≡ filter (is_below floor) (listed b.task)
 passed-listed b floor is none low =
-    rise-same (passed b floor) (filter (is_below floor) (listed b.task)) (rise-filter (is_below floor) (sorted_once b.answers) (sorted-rise [] b.answers tt)) (rise-filter (is_below floor) (listed b.task) (listed-rise b.task))
+    rise-same (passed b floor) (filter (is_below floor) (listed b.task))
+    (rise-filter (is_below floor) (sorted_once b.answers) (sorted-rise [] b.answers tt))
+    (rise-filter (is_below floor) (listed b.task) (listed-rise b.task))
     (λ S.
     has-filter (is_below floor) (sorted_once b.answers) S
     ∙ ap (λ x. is_below floor S && x) (sorted-has [] b.answers S)
@@ -108,13 +114,17 @@ not-excused b e S g h = here (is_excused b S) refl
     here false q = refl
 
 -- by a node whose cube is hit by all that hits the other's
-IsLow-happens : (b : Board) (e : Event) (was leaf : ℕ) (low : Atoms) → Guard b e → ((v : List Bool) → hits v (cube_of (happens b e).nodes leaf) ≡ true → hits v (cube_of b.nodes was) ≡ true) → IsLow b was low → IsLow (happens b e) leaf low
+IsLow-happens : (b : Board) (e : Event) (was leaf : ℕ) (low : Atoms) → Guard b e →
+    ((v : List Bool) → hits v (cube_of (happens b e).nodes leaf) ≡ true → hits v (cube_of b.nodes was) ≡ true) → IsLow b was low →
+    IsLow (happens b e) leaf low
 IsLow-happens b e was leaf low g hit is =
     let same : (happens b e).task ≡ b.task = (Grows-happens b e g).task in
     record {
       rising = is.rising;
       contained = λ S answer h fresh.
-          is.contained S (ap (λ (t : Task). is_answer t S) (sym same) ∙ answer) (hit (values b.task.program S) (ap (λ (t : Task). hits (values t.program S) (cube_of (happens b e).nodes leaf)) (sym same) ∙ h)) (not-excused b e S g fresh);
+          is.contained S (ap (λ (t : Task). is_answer t S) (sym same) ∙ answer)
+          (hit (values b.task.program S) (ap (λ (t : Task). hits (values t.program S) (cube_of (happens b e).nodes leaf)) (sym same) ∙ h))
+          (not-excused b e S g fresh);
     }
 
 no-leaf : (b : Board) (e : Event) (leaf : ℕ) → Guard b e → all_closed b.nodes ≡ true → is_unclosed (status_of (happens b e).nodes leaf) ≡ true → ⊥
@@ -144,7 +154,8 @@ IsLow-run b (e ∷ journal) leaf low lawful lt is =
     IsLow-run (happens b e) journal leaf low lawful.1 (nodes-stay b e leaf lt) (IsLow-happens b e leaf leaf low lawful.0 (λ v h. ap (hits v) (sym (cube-stays b e leaf lt)) ∙ h) is)
 
 -- ---- what was passed stays so
-pub passed-run : (b : Board) (journal : List Event) (floor : Option Atoms) → IsBoard b → IsLawful b journal → sought b.task.goal ≡ None → IsFloor b floor → passed (run b journal) floor ≡ passed b floor
+pub passed-run : (b : Board) (journal : List Event) (floor : Option Atoms) → IsBoard b → IsLawful b journal → sought b.task.goal ≡ None →
+    IsFloor b floor → passed (run b journal) floor ≡ passed b floor
 passed-run b journal floor is lawful none low =
     let c : Board = run b journal in
     let same : c.task ≡ b.task = task-run b journal in
@@ -162,7 +173,9 @@ pub IsFloor-closed : (b : Board) (x : Atoms) → all_closed b.nodes ≡ true →
 IsFloor-closed b x closed up = (up, λ leaf h. absurd (all-closed b.nodes leaf closed h))
 
 -- an atom that each answer has that is still to come
-pub IsLow-with_atom : (b : Board) (leaf a : ℕ) (low : Atoms) → IsLow b leaf low → ((S : Atoms) → is_answer b.task S ≡ true → hits (values b.task.program S) (cube_of b.nodes leaf) ≡ true → is_excused b S ≡ false → has S a ≡ true) → IsLow b leaf (with_atom a low)
+pub IsLow-with_atom : (b : Board) (leaf a : ℕ) (low : Atoms) → IsLow b leaf low →
+    ((S : Atoms) → is_answer b.task S ≡ true → hits (values b.task.program S) (cube_of b.nodes leaf) ≡ true → is_excused b S ≡ false → has S a ≡ true)
+    → IsLow b leaf (with_atom a low)
 IsLow-with_atom b leaf a low is each = record {
   rising = IsAscending-with_atom a low is.rising;
   contained = λ S answer hit fresh c h. here S c (each S answer hit fresh) (is.contained S answer hit fresh) (or_cases (eqb a c) (has low c) (sym (has-with_atom a c low) ∙ h));
@@ -172,7 +185,8 @@ IsLow-with_atom b leaf a low is each = record {
     here S c there part (inl e) = ap (has S) (sym (eqb-true a c e)) ∙ there
     here S c there part (inr h) = part c h
 
-pub IsLow-cube : (b : Board) (leaf a : ℕ) (low : Atoms) → IsLow b leaf low → has (atoms_of b.task.program) a ≡ true → has_literal (cube_of b.nodes leaf) (T (var_of_atom b.task.program a)) ≡ true → IsLow b leaf (with_atom a low)
+pub IsLow-cube : (b : Board) (leaf a : ℕ) (low : Atoms) → IsLow b leaf low → has (atoms_of b.task.program) a ≡ true →
+    has_literal (cube_of b.nodes leaf) (T (var_of_atom b.task.program a)) ≡ true → IsLow b leaf (with_atom a low)
 IsLow-cube b leaf a low is atom there =
     IsLow-with_atom b leaf a low is
     (λ S answer hit fresh. sym (atom-true b.task.program S a atom) ∙ hits-has (values b.task.program S) (cube_of b.nodes leaf) (T (var_of_atom b.task.program a)) hit there)
@@ -181,4 +195,5 @@ pub IsLow-first : (b : Board) (s leaf : ℕ) (l : Literal) (low : Atoms) → Gua
 IsLow-first b s leaf l low g is = IsLow-happens b (event.Split s leaf l) leaf (length b.nodes) low g (λ v h. longer v (cube_of b.nodes leaf) l (ap (hits v) (sym (first-cube b.nodes leaf l)) ∙ h)) is
 
 pub IsLow-second : (b : Board) (s leaf : ℕ) (l : Literal) (low : Atoms) → Guard b (event.Split s leaf l) → IsLow b leaf low → IsLow (happens b (event.Split s leaf l)) (length b.nodes + 1) low
-IsLow-second b s leaf l low g is = IsLow-happens b (event.Split s leaf l) leaf (length b.nodes + 1) low g (λ v h. longer v (cube_of b.nodes leaf) (complement l) (ap (hits v) (sym (second-cube b.nodes leaf l)) ∙ h)) is
+IsLow-second b s leaf l low g is = IsLow-happens b (event.Split s leaf l) leaf (length b.nodes + 1) low g
+    (λ v h. longer v (cube_of b.nodes leaf) (complement l) (ap (hits v) (sym (second-cube b.nodes leaf l)) ∙ h)) is

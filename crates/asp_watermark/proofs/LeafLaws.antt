@@ -77,7 +77,8 @@ pub record CameFrom (old new : List Node) (leaf : ℕ) : Type 0 where
   pub unclosed : is_unclosed (status_of old was) ≡ true
   pub hit : (v : List Bool) → hits v (cube_of new leaf) ≡ true → hits v (cube_of old was) ≡ true
 
-came-with_status : (nodes : List Node) (n : ℕ) (new : Status) (leaf : ℕ) → (is_unclosed new ≡ true → is_unclosed (status_of nodes n) ≡ true) → is_unclosed (status_of (with_status nodes n new) leaf) ≡ true → CameFrom nodes (with_status nodes n new) leaf
+came-with_status : (nodes : List Node) (n : ℕ) (new : Status) (leaf : ℕ) → (is_unclosed new ≡ true → is_unclosed (status_of nodes n) ≡ true) →
+    is_unclosed (status_of (with_status nodes n new) leaf) ≡ true → CameFrom nodes (with_status nodes n new) leaf
 came-with_status nodes n new leaf was h = record {
   was = leaf;
   unclosed = here (unclosed-set nodes n (record { cube = cube_of nodes n; status = new }) leaf h);
@@ -91,14 +92,17 @@ came-with_status nodes n new leaf was h = record {
 pub longer : (v : List Bool) (cube : List Literal) (l : Literal) → hits v (cube ++ l ∷ []) ≡ true → hits v cube ≡ true
 longer v cube l h = (and_parts (hits v cube) (hits v (l ∷ [])) (sym (hits-append v cube (l ∷ [])) ∙ h)).0
 
-came-split : (nodes : List Node) (n : ℕ) (l : Literal) (leaf : ℕ) → is_unclosed (status_of nodes n) ≡ true → is_unclosed (status_of (split nodes n l) leaf) ≡ true → CameFrom nodes (split nodes n l) leaf
+came-split : (nodes : List Node) (n : ℕ) (l : Literal) (leaf : ℕ) → is_unclosed (status_of nodes n) ≡ true →
+    is_unclosed (status_of (split nodes n l) leaf) ≡ true → CameFrom nodes (split nodes n l) leaf
 came-split nodes n l leaf was h =
-    here (stood (with_status nodes n status.Forked) (record { cube = cube_of nodes n ++ l ∷ []; status = status_of nodes n }) (record { cube = cube_of nodes n ++ complement l ∷ []; status = status.Open }) leaf)
+    here (stood (with_status nodes n status.Forked) (record { cube = cube_of nodes n ++ l ∷ []; status = status_of nodes n })
+    (record { cube = cube_of nodes n ++ complement l ∷ []; status = status.Open }) leaf)
   where
     forked : (is_unclosed status.Forked ≡ true) → is_unclosed (status_of nodes n) ≡ true
     forked e = was
 
-    here : Stood (with_status nodes n status.Forked) (record { cube = cube_of nodes n ++ l ∷ []; status = status_of nodes n }) (record { cube = cube_of nodes n ++ complement l ∷ []; status = status.Open }) leaf → CameFrom nodes (split nodes n l) leaf
+    here : Stood (with_status nodes n status.Forked) (record { cube = cube_of nodes n ++ l ∷ []; status = status_of nodes n })
+        (record { cube = cube_of nodes n ++ complement l ∷ []; status = status.Open }) leaf → CameFrom nodes (split nodes n l) leaf
     here (inl e) =
         let from : CameFrom nodes (with_status nodes n status.Forked) leaf = came-with_status nodes n status.Forked leaf forked (ap (λ (x : Node). is_unclosed x.status) (sym e) ∙ h) in
         record { was = from.was; unclosed = from.unclosed; hit = λ v hit. from.hit v (ap (λ (x : Node). hits v x.cube) (sym e) ∙ hit) }
@@ -136,7 +140,14 @@ pub nodes-stay : (b : Board) (e : Event) (node : ℕ) → node < length b.nodes 
 nodes-stay b (event.Take s n) node lt = set-longer b.nodes n node (record { cube = cube_of b.nodes n; status = status.Held s }) lt
 nodes-stay b (event.Split s n l) node lt =
     let forked : Node = record { cube = cube_of b.nodes n; status = status.Forked } in
-    omega (arith, lt, length-set b.nodes n forked, length-append (set b.nodes n forked) (record { cube = cube_of b.nodes n ++ l ∷ []; status = status_of b.nodes n } ∷ record { cube = cube_of b.nodes n ++ complement l ∷ []; status = status.Open } ∷ []))
+    omega (
+      arith,
+      lt,
+      length-set b.nodes n forked,
+      length-append (set b.nodes n forked)
+          (record { cube = cube_of b.nodes n ++ l ∷ []; status = status_of b.nodes n } ∷ record
+          { cube = cube_of b.nodes n ++ complement l ∷ []; status = status.Open } ∷ []),
+    )
 nodes-stay b (event.Deliver s S) node lt = lt
 nodes-stay b (event.Improve s S) node lt = lt
 nodes-stay b (event.Close s n c) node lt = set-longer b.nodes n node (record { cube = cube_of b.nodes n; status = status.Closed }) lt
@@ -149,10 +160,13 @@ pub first-cube : (nodes : List Node) (n : ℕ) (l : Literal) → cube_of (split 
 first-cube nodes n l =
     let forked : Node = record { cube = cube_of nodes n; status = status.Forked } in
     ap (λ k. cube_of (split nodes n l) k) (sym (length-set nodes n forked))
-    ∙ ap (λ (x : Node). x.cube) (get_or-append_seam (set nodes n forked) (record { cube = cube_of nodes n ++ l ∷ []; status = status_of nodes n }) (record { cube = cube_of nodes n ++ complement l ∷ []; status = status.Open } ∷ []) nowhere)
+    ∙ ap (λ (x : Node). x.cube) (get_or-append_seam (set nodes n forked) (record { cube = cube_of nodes n ++ l ∷ []; status = status_of nodes n })
+    (record { cube = cube_of nodes n ++ complement l ∷ []; status = status.Open } ∷ []) nowhere)
 
 pub second-cube : (nodes : List Node) (n : ℕ) (l : Literal) → cube_of (split nodes n l) (length nodes + 1) ≡ cube_of nodes n ++ complement l ∷ []
 second-cube nodes n l =
     let forked : Node = record { cube = cube_of nodes n; status = status.Forked } in
     ap (λ k. cube_of (split nodes n l) (k + 1)) (sym (length-set nodes n forked))
-    ∙ ap (λ (x : Node). x.cube) (get_or-append-add (set nodes n forked) (record { cube = cube_of nodes n ++ l ∷ []; status = status_of nodes n } ∷ record { cube = cube_of nodes n ++ complement l ∷ []; status = status.Open } ∷ []) 1 nowhere)
+    ∙ ap (λ (x : Node). x.cube) (get_or-append-add (set nodes n forked)
+    (record { cube = cube_of nodes n ++ l ∷ []; status = status_of nodes n } ∷ record
+    { cube = cube_of nodes n ++ complement l ∷ []; status = status.Open } ∷ []) 1 nowhere)

@@ -26,7 +26,8 @@ passed-front b floor is none low =
     let Front : List Atoms → Type 0 = λ L. IsPrefix L (listed b.task) in
     subst Front (sym (passed-listed b floor is none low)) (front-below floor (listed b.task) (listed-rise b.task))
 
-gone-passed : (b : Board) (floor : Option Atoms) (gone : List Atoms) → IsBoard b → sought b.task.goal ≡ None → IsFloor b floor → IsPrefix gone (listed b.task) → length (passed b floor) ≡ length gone → gone ≡ passed b floor
+gone-passed : (b : Board) (floor : Option Atoms) (gone : List Atoms) → IsBoard b → sought b.task.goal ≡ None → IsFloor b floor →
+    IsPrefix gone (listed b.task) → length (passed b floor) ≡ length gone → gone ≡ passed b floor
 gone-passed b floor gone is none low front count = same-front gone (passed b floor) (listed b.task) front (passed-front b floor is none low) (sym count)
 
 -- ---- the next part, and the rest

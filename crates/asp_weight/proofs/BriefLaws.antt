@@ -64,7 +64,8 @@ gathered_small side a start sum n at w row x from within is weight small =
     )
 
 -- ---- what is gathered says
-pub brief_variable : (a : List (Option Bool)) (s : Shape) (row : List Item) (l : Literal) (side : Bool) (need : ℕ) (first all : List Literal) → l.var ≡ s.var → side ≡ l.truth → need ≡ need_of side s → first ≡ complement l ∷ [] →
+pub brief_variable : (a : List (Option Bool)) (s : Shape) (row : List Item) (l : Literal) (side : Bool) (need : ℕ) (first all : List Literal) →
+    l.var ≡ s.var → side ≡ l.truth → need ≡ need_of side s → first ≡ complement l ∷ [] →
     IsEnough side a need 0 row first all → IsBrief a s row l all
 brief_variable a s row l side need first all var truth much one e = record {
   rest = e.rest;
@@ -87,7 +88,8 @@ brief_variable a s row l side need first all var truth much one e = record {
     whole : all ≡ complement l ∷ e.rest
     whole = e.whole ∙ ap (λ (ls : List Literal). ls ++ e.rest) one
 
-pub brief_item : (a : List (Option Bool)) (s : Shape) (row : List Item) (l : Literal) (side : Bool) (at need start : ℕ) (k head : Literal) (first all : List Literal) → at < length row → start ≡ (item_at row at).weight →
+pub brief_item : (a : List (Option Bool)) (s : Shape) (row : List Item) (l : Literal) (side : Bool) (at need start : ℕ) (k head : Literal)
+    (first all : List Literal) → at < length row → start ≡ (item_at row at).weight →
     head ≡ head_of side s → k ≡ complement l → need ≡ need_of side s → first ≡ k ∷ head ∷ [] → IsBy side a s l (item_at row at) → IsEnough side a need start row first all → IsBrief a s row l all
 brief_item a s row l side at need start k head first all within begin the_head ruled much two by e = record {
   rest = head_of side s ∷ e.rest;

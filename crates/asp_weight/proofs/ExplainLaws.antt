@@ -92,8 +92,10 @@ pub record IsOwn (p : Program) (t : Trailed) (place w : ℕ) (s : Shape) (row : 
 pub within_at : (p q : Program) (es : List Entry) (place w : ℕ) → p ≡ q → ((e : Entry) → IsExplained q (take place es) (get_or es place e).lit w) → w < length (weighed_bodies p)
 within_at p q es place w same x = subst (λ (y : Program). w < length (weighed_bodies y)) (sym same) (x (record { lit = d.lit; level = 0; reason = None })).within
 
-pub own_at : (p q : Program) (shapes : List Shape) (rows : List (List Item)) (t : Trailed) (place w : ℕ) (s : Shape) (row : List Item) (l : Literal) → AreRows p (weighed_bodies p) shapes rows → p ≡ q → t.vars ≡ var_count q →
-    ((e : Entry) → IsExplained q (take place t.entries) (get_or t.entries place e).lit w) → ((e : Entry) → l ≡ (get_or t.entries place e).lit) → s ≡ get_or shapes w s → row ≡ row_at rows w → IsOwn p t place w s row l
+pub own_at : (p q : Program) (shapes : List Shape) (rows : List (List Item)) (t : Trailed) (place w : ℕ) (s : Shape) (row : List Item) (l : Literal) →
+    AreRows p (weighed_bodies p) shapes rows → p ≡ q → t.vars ≡ var_count q →
+    ((e : Entry) → IsExplained q (take place t.entries) (get_or t.entries place e).lit w) → ((e : Entry) → l ≡ (get_or t.entries place e).lit) →
+    s ≡ get_or shapes w s → row ≡ row_at rows w → IsOwn p t place w s row l
 own_at p q shapes rows t place w s row l r same v f is i j = record {
   vars = vars;
   within = x.within;
@@ -157,7 +159,8 @@ has_later k l n h ne = cases (literal_eq k l) refl h
     cases false q e = e
 
 -- a nogood of the literal's complement and of literals that hold is its reason
-reason_by : (vars : ℕ) (es : List Entry) (l : Literal) (rest lits : List Literal) → IsOrdered vars es → lits ≡ complement l ∷ rest → list_all (holds_in (assignment vars es)) rest ≡ true → IsReason es (length es) l lits
+reason_by : (vars : ℕ) (es : List Entry) (l : Literal) (rest lits : List Literal) → IsOrdered vars es → lits ≡ complement l ∷ rest →
+    list_all (holds_in (assignment vars es)) rest ≡ true → IsReason es (length es) l lits
 reason_by vars es l rest lits o whole hold = record {
   has = ap (λ (ls : List Literal). has_literal ls (complement l)) whole ∙ has_first (complement l) rest;
   others = λ k h ne.
@@ -176,7 +179,8 @@ reason_before vars es l x side s row o says rules =
     let but = holds_but x side (assignment vars es) s row says in
     reason_by vars es l but.0 (spoken_as x side (assignment vars es) s row) o (but.1 ∙ ap (λ (m : Literal). m ∷ but.0) (sym rules)) but.2
 
-pub reason_as : {E : Type 0} (t : Trailed) (place : ℕ) (l : Literal) (x : Speech) (s : Shape) (row : List Item) (r : Result Nogood E) → IsOrdered t.vars t.entries → place < length t.entries → Speaks x (before t place) s row →
+pub reason_as : {E : Type 0} (t : Trailed) (place : ℕ) (l : Literal) (x : Speech) (s : Shape) (row : List Item) (r : Result Nogood E) →
+    IsOrdered t.vars t.entries → place < length t.entries → Speaks x (before t place) s row →
     complement l ≡ ruled_out x.open x.side s row → ((e : Entry) → l ≡ (get_or t.entries place e).lit) → IfOk r (λ n. n.lits ≡ spoken x (before t place) s row) →
     IfOk r (λ n. (e : Entry) → IsReason t.entries place (get_or t.entries place e).lit n.lits)
 reason_as t place l x s row (Err f) o h says rules is lits = tt
@@ -200,7 +204,8 @@ reasoned p es l w sound o x =
     )
 
 -- ---- the reason that is gathered from the literals that hold
-pub brief_excluded : (p : Program) (t : Trailed) (place w : ℕ) (s : Shape) (row : List Item) (l : Literal) (n : Nogood) → IsSound p → IsOwn p t place w s row l → IsBrief (before t place) s row l n.lits → n.base ≡ base.Pure → IsExcluded p n
+pub brief_excluded : (p : Program) (t : Trailed) (place w : ℕ) (s : Shape) (row : List Item) (l : Literal) (n : Nogood) → IsSound p →
+    IsOwn p t place w s row l → IsBrief (before t place) s row l n.lits → n.base ≡ base.Pure → IsExcluded p n
 brief_excluded p t place w s row l n sound o b pure =
     let shown : Excludes p (nth_weighed p w) n.lits = record {
       stands = (in_program p w o.within).0;
@@ -208,7 +213,8 @@ brief_excluded p t place w s row l n sound o b pure =
     } in
     record { base = pure; entailed = excluded_entailed p (nth_weighed p w) n.lits (in_program p w o.within).1 shown; excluded = (nth_weighed p w, shown) }
 
-pub brief_reason : (t : Trailed) (place : ℕ) (l : Literal) (s : Shape) (row : List Item) (n : Nogood) → IsOrdered t.vars t.entries → place < length t.entries → IsBrief (before t place) s row l n.lits →
+pub brief_reason : (t : Trailed) (place : ℕ) (l : Literal) (s : Shape) (row : List Item) (n : Nogood) → IsOrdered t.vars t.entries →
+    place < length t.entries → IsBrief (before t place) s row l n.lits →
     ((e : Entry) → l ≡ (get_or t.entries place e).lit) → (e : Entry) → IsReason t.entries place (get_or t.entries place e).lit n.lits
 brief_reason t place l s row n o h b is e =
     subst (λ (m : Literal). IsReason t.entries place m n.lits) (is e)

@@ -27,7 +27,8 @@ pub vars_same : (p : Program) (t : Trailed) (a : List (Option Bool)) → length 
 vars_same p t a h q = omega (arith, h, ap (length {A = Option Bool}) q, length_assigned t.vars t.entries)
 
 -- a body speaks, so that not all are silent
-pub one_speaks_at : (p : Program) (a b : List (Option Bool)) (shapes also : List Shape) (rows : List (List Item)) (places : List (List Place)) (tallies : List Tally) (w : ℕ) (x : Speech) → IsKept p a shapes rows places tallies →
+pub one_speaks_at : (p : Program) (a b : List (Option Bool)) (shapes also : List Shape) (rows : List (List Item)) (places : List (List Place))
+    (tallies : List Tally) (w : ℕ) (x : Speech) → IsKept p a shapes rows places tallies →
     b ≡ a → also ≡ shapes → (w < length rows) × Speaks x b (shape_at also w) (row_at rows w) → is_silent p a ≡ false
 one_speaks_at p a b shapes also rows places tallies w x k e f h =
     not_silent p a shapes rows places tallies w x k h.0
@@ -36,10 +37,12 @@ one_speaks_at p a b shapes also rows places tallies w x k e f h =
 pub few_at : (p : Program) (shapes : List Shape) (rows : List (List Item)) (w : ℕ) → var_count p < 2 ^ 31 → AreRows p (weighed_bodies p) shapes rows → w < length rows → w + 1 < 2 ^ 31
 few_at p shapes rows w few r h = omega (arith, r.whole, few_rows p, few, h)
 
-pub shape_read : (p : Program) (shapes : List Shape) (rows : List (List Item)) (w : ℕ) (s : Shape) → AreRows p (weighed_bodies p) shapes rows → w < length rows → s ≡ get_or shapes w s → s ≡ shape_at shapes w
+pub shape_read : (p : Program) (shapes : List Shape) (rows : List (List Item)) (w : ℕ) (s : Shape) → AreRows p (weighed_bodies p) shapes rows →
+    w < length rows → s ≡ get_or shapes w s → s ≡ shape_at shapes w
 shape_read p shapes rows w s r h i = get_or_read shapes w s (omega (arith, h, r.shaped, r.whole)) i (record { var = 0; reach = 0; miss = 0 })
 
-pub ready_at : (p : Program) (a b : List (Option Bool)) (shapes : List Shape) (rows : List (List Item)) (places : List (List Place)) (tallies : List Tally) (w : ℕ) (s : Shape) (row : List Item) → IsKept p a shapes rows places tallies →
+pub ready_at : (p : Program) (a b : List (Option Bool)) (shapes : List Shape) (rows : List (List Item)) (places : List (List Place))
+    (tallies : List Tally) (w : ℕ) (s : Shape) (row : List Item) → IsKept p a shapes rows places tallies →
     b ≡ a → w < length rows → s ≡ get_or shapes w s → row ≡ row_at rows w → IsReady b s row
 ready_at p a b shapes rows places tallies w s row k e h i j =
     subst (λ (v : List (Option Bool)). IsReady v s row) (sym e)
@@ -47,7 +50,8 @@ ready_at p a b shapes rows places tallies w s row k e h i j =
     (subst (λ (y : List Item). IsReady a (shape_at shapes w) y) (sym j) ((are_ready p a shapes rows places tallies k).each w h)))
 
 -- a literal that follows by a body is explained
-pub implied_at : (p : Program) (a b : List (Option Bool)) (t : Trailed) (shapes : List Shape) (rows : List (List Item)) (places : List (List Place)) (tallies : List Tally) (w : ℕ) (s : Shape) (row : List Item) (l : Literal) →
+pub implied_at : (p : Program) (a b : List (Option Bool)) (t : Trailed) (shapes : List Shape) (rows : List (List Item)) (places : List (List Place))
+    (tallies : List Tally) (w : ℕ) (s : Shape) (row : List Item) (l : Literal) →
     IsKept p a shapes rows places tallies → a ≡ assignment t.vars t.entries → b ≡ a → w < length rows → s ≡ get_or shapes w s → row ≡ row_at rows w → Follows b s row l →
     IsImplied (record { program = p; values = a }) t.entries l w
 implied_at p a b t shapes rows places tallies w s row l k q e h i j f = record {

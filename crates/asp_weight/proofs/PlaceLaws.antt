@@ -86,7 +86,8 @@ sum_in-put_row b ps (i ∷ row) u w truth a =
     ∙ (one_item (eqb i.lit.var u) (eqb b w) (beq i.lit.truth truth) i.weight (sum_at (record { var = u; truth = truth }) row) (sum_in w truth (places_at ps u))
     ∙ ap (λ m. sum_in w truth (places_at ps u) + cond (eqb b w) m 0) (sym (sum_by-cons (weight_at (record { var = u; truth = truth })) i row))))
 
-touches-put_row : (b : ℕ) (ps : List (List Place)) (row : List Item) (u w : ℕ) → All (λ i. i.lit.var < length ps) row → touches w (places_at ps u) ≡ true → touches w (places_at (put_row b ps row) u) ≡ true
+touches-put_row : (b : ℕ) (ps : List (List Place)) (row : List Item) (u w : ℕ) → All (λ i. i.lit.var < length ps) row →
+    touches w (places_at ps u) ≡ true → touches w (places_at (put_row b ps row) u) ≡ true
 touches-put_row b ps [] u w a t = t
 touches-put_row b ps (i ∷ row) u w a t =
     touches-put_row b (put i.lit.var ps (place_of b i)) row u w (fits_put i.lit.var ps (place_of b i) row (All-tail (λ (x : Item). x.lit.var < length ps) i row a))
@@ -120,7 +121,8 @@ or_right : (a b : Bool) → b ≡ true → (a || b) ≡ true
 or_right true b h = refl
 or_right false b h = h
 
-pub placed_more : (shapes : List Shape) (rows : List (List Item)) (ps : List (List Place)) (s : Shape) (row : List Item) (n : ℕ) → ArePlaces shapes rows ps → n ≡ length rows → length shapes ≡ length rows →
+pub placed_more : (shapes : List Shape) (rows : List (List Item)) (ps : List (List Place)) (s : Shape) (row : List Item) (n : ℕ) →
+    ArePlaces shapes rows ps → n ≡ length rows → length shapes ≡ length rows →
     All (λ i. i.lit.var < length ps) row → s.var < length ps → ArePlaces (shapes ++ s ∷ []) (rows ++ row ∷ []) (put s.var (put_row n ps row) (own_of n))
 placed_more shapes rows ps s row n a e f h v = record {
   sums = λ w u truth.
@@ -188,7 +190,8 @@ placed_next shapes rows ps qs vars n s row room l size a e f q = (
   subst (λ (xs : List (List Place)). ArePlaces (take (n + 1) shapes) (take (n + 1) rows) xs) (sym q)
       (subst (λ (ss : List Shape). ArePlaces ss (take (n + 1) rows) (put s.var (put_row n ps row) (own_of n))) (sym next_shapes)
       (subst (λ (rs : List (List Item)). ArePlaces (take n shapes ++ s ∷ []) rs (put s.var (put_row n ps row) (own_of n))) (sym next_rows)
-      (placed_more (take n shapes) (take n rows) ps s row n a (sym (length-take-le n rows (omega (arith, l)))) (length-take-le n shapes (omega (arith, l, room.shaped)) ∙ sym (length-take-le n rows (omega (arith, l))))
+      (placed_more (take n shapes) (take n rows) ps s row n a (sym (length-take-le n rows (omega (arith, l))))
+      (length-take-le n shapes (omega (arith, l, room.shaped)) ∙ sym (length-take-le n rows (omega (arith, l))))
       (subst (λ (xs : List Item). All (λ i. i.lit.var < length ps) xs) (sym f) (λ k d h. omega (arith, room.within n l k d h, size)))
       (omega (arith, room.own n l, size, ap (λ (x : Shape). x.var) e))))),
 )

@@ -178,7 +178,9 @@ pub spoken_vars : (n : ℕ) (x : Option ℕ) (side : Bool) (a : List (Option Boo
     All (λ l. IsVar n l.var) (spoken_as x side a s row)
 spoken_vars n None side a s row h v w = All-cons (λ (l : Literal). IsVar n l.var) (head_of side s) (gathered side a (need_of side s) 0 row) v (gathered_vars n side a (need_of side s) 0 row w)
 spoken_vars n (Some j) side a s row h v w =
-    All-cons (λ (l : Literal). IsVar n l.var) (on side (item_at row j).lit) (head_of side s ∷ gathered side a (need_of side s) (item_at row j).weight row) (subst (λ u. IsVar n u) (sym (on_var side (item_at row j).lit)) (w j (record { weight = 0; lit = record { var = 0; truth = false } }) h.0))
+    All-cons (λ (l : Literal). IsVar n l.var) (on side (item_at row j).lit)
+    (head_of side s ∷ gathered side a (need_of side s) (item_at row j).weight row)
+    (subst (λ u. IsVar n u) (sym (on_var side (item_at row j).lit)) (w j (record { weight = 0; lit = record { var = 0; truth = false } }) h.0))
     (All-cons (λ (l : Literal). IsVar n l.var) (head_of side s) (gathered side a (need_of side s) (item_at row j).weight row) v (gathered_vars n side a (need_of side s) (item_at row j).weight row w))
 
 -- ---- the definition excludes it
@@ -243,9 +245,17 @@ needed (Some j) side a s row v h e =
     let later = and_right (is_true v (on side i.lit)) (hits v (head_of side s ∷ gathered side a (need_of side s) i.weight row)) e in
     let enough = counted_enough side a v (need_of side s) i.weight row h.3 (and_right (is_true v (head_of side s)) _ later) in
     let left_out : counted side a v i ≡ 0 = ap (λ b. cond b (weight_if (is_true v) side i) 0) (open_false side a i.lit h.1) in
-    let weighs : weight_if (is_true v) side i ≡ i.weight = ap (λ b. cond b i.weight 0) (and_left (is_true v (on side i.lit)) (hits v (head_of side s ∷ gathered side a (need_of side s) i.weight row)) e) in (
+    let weighs : weight_if (is_true v) side i ≡ i.weight =
+    ap (λ b. cond b i.weight 0) (and_left (is_true v (on side i.lit)) (hits v (head_of side s ∷ gathered side a (need_of side s) i.weight row)) e)
+    in (
       and_left (is_true v (head_of side s)) _ later,
-      omega (arith, enough, weighs, sum_le_but (counted side a v) (weight_if (is_true v) side) row j (record { weight = 0; lit = record { var = 0; truth = false } }) (counted-le side a v) h.0 left_out),
+      omega (
+        arith,
+        enough,
+        weighs,
+        sum_le_but (counted side a v) (weight_if (is_true v) side) row j
+            (record { weight = 0; lit = record { var = 0; truth = false } }) (counted-le side a v) h.0 left_out,
+      ),
     )
 
 reaches : (bound : ℤ) (w : ℕ) → clamped bound ≤ w → int_le bound (pos w) ≡ true
@@ -297,7 +307,8 @@ spoken_excluded p b x side a s row e w r h v f =
     side_broken p b side s row v e w r n.0 n.1
 
 -- ---- stable models keep the definition
-weight_that-holds : (p : Program) (S : Atoms) (items : List (ℤ × ℤ)) → AllByRecursion (λ i. has (atoms_of p) (atom_of i.0) ≡ true) items → weight_that (is_true (values p S)) p items ≡ weight_of S items
+weight_that-holds : (p : Program) (S : Atoms) (items : List (ℤ × ℤ)) → AllByRecursion (λ i. has (atoms_of p) (atom_of i.0) ≡ true) items →
+    weight_that (is_true (values p S)) p items ≡ weight_of S items
 weight_that-holds p S [] h = refl
 weight_that-holds p S (i ∷ items) h =
     ap (λ b. cond b i.1 (pos 0) +ℤ weight_that (is_true (values p S)) p items) (literal-holds p S i.0 h.0)

@@ -60,7 +60,8 @@ or_parts true b e = absurd (false≢true (sym e))
 or_parts false b e = (refl, e)
 
 -- in a body that the variable's places don't touch it doesn't stand, so the literals have the values that they have with any value of it
-alike_untouched : (p : Program) (a b : List (Option Bool)) (shapes : List Shape) (rows : List (List Item)) (places : List (List Place)) (v w : ℕ) → AreRows p (weighed_bodies p) shapes rows → ArePlaces shapes rows places →
+alike_untouched : (p : Program) (a b : List (Option Bool)) (shapes : List Shape) (rows : List (List Item)) (places : List (List Place)) (v w : ℕ) →
+    AreRows p (weighed_bodies p) shapes rows → ArePlaces shapes rows places →
     ((u : ℕ) → u ≢ v → value_of a u ≡ value_of b u) → w < length rows → touches w (places_at places v) ≡ false → All (λ i. value_of a i.lit.var ≡ value_of b i.lit.var) (row_at rows w)
 alike_untouched p a b shapes rows places v w r pl alike h un k d l = alike (get_or (row_at rows w) k d).lit.var (absent k d l)
   where
@@ -70,23 +71,38 @@ alike_untouched p a b shapes rows places v w r pl alike h un k d l = alike (get_
         (sym (pl.sums w v true) ∙ sum_in-untouched w true (places_at places v) un) (sym (pl.sums w v false) ∙ sum_in-untouched w false (places_at places v) un)
 
 -- and it is as silent
-silence_untouched : (p : Program) (a b : List (Option Bool)) (shapes : List Shape) (rows : List (List Item)) (places : List (List Place)) (v w : ℕ) → AreRows p (weighed_bodies p) shapes rows → ArePlaces shapes rows places →
-    ((u : ℕ) → u ≢ v → value_of a u ≡ value_of b u) → w < length rows → touches w (places_at places v) ≡ false → is_silent_row a (shape_at shapes w) (row_at rows w) ≡ is_silent_row b (shape_at shapes w) (row_at rows w)
+silence_untouched : (p : Program) (a b : List (Option Bool)) (shapes : List Shape) (rows : List (List Item)) (places : List (List Place)) (v w : ℕ) →
+    AreRows p (weighed_bodies p) shapes rows → ArePlaces shapes rows places →
+    ((u : ℕ) → u ≢ v → value_of a u ≡ value_of b u) → w < length rows → touches w (places_at places v) ≡ false →
+    is_silent_row a (shape_at shapes w) (row_at rows w) ≡ is_silent_row b (shape_at shapes w) (row_at rows w)
 silence_untouched p a b shapes rows places v w r pl alike h un =
     silence_alike a b (shape_at shapes w) (row_at rows w) (alike (shape_at shapes w).var other) (alike_untouched p a b shapes rows places v w r pl alike h un)
   where
     other : (shape_at shapes w).var ≢ v
     other e = false≢true (sym un ∙ (ap (λ u. touches w (places_at places u)) (sym e) ∙ pl.own w h))
 
-within_tallies : (rows : List (List Item)) (places : List Place) (tallies : List Tally) → length tallies ≡ length rows → All (λ o. o.body < length rows) places → All (λ o. o.body < length tallies) places
+within_tallies : (rows : List (List Item)) (places : List Place) (tallies : List Tally) → length tallies ≡ length rows →
+    All (λ o. o.body < length rows) places → All (λ o. o.body < length tallies) places
 within_tallies rows places tallies e a k d h = omega (arith, e, a k d h)
 
 pub can_raise : (p : Program) (a : List (Option Bool)) (shapes : List Shape) (rows : List (List Item)) (places : List (List Place)) (tallies : List Tally) (v : ℕ) (t : Bool) →
     IsKept p a shapes rows places tallies → v ≤ var_count p → value_of a v ≡ None → CanRaise t tallies (places_at places v)
 can_raise p a shapes rows places tallies v t k h n = record {
   within = within_tallies rows (places_at places v) tallies k.counted.whole (k.placed.within v);
-  reached = λ w l. omega (arith, k.counted.reached w, sums_more p a shapes rows places v w t true k.placed small n, sum_where-le-total (holds_in (set a v (Some t))) true (row_at rows w), fits_anywhere p shapes rows w k.rowed (omega (arith, l, k.counted.whole)));
-  missed = λ w l. omega (arith, k.counted.missed w, sums_more p a shapes rows places v w t false k.placed small n, sum_where-le-total (holds_in (set a v (Some t))) false (row_at rows w), fits_anywhere p shapes rows w k.rowed (omega (arith, l, k.counted.whole)));
+  reached = λ w l. omega (
+    arith,
+    k.counted.reached w,
+    sums_more p a shapes rows places v w t true k.placed small n,
+    sum_where-le-total (holds_in (set a v (Some t))) true (row_at rows w),
+    fits_anywhere p shapes rows w k.rowed (omega (arith, l, k.counted.whole)),
+  );
+  missed = λ w l. omega (
+    arith,
+    k.counted.missed w,
+    sums_more p a shapes rows places v w t false k.placed small n,
+    sum_where-le-total (holds_in (set a v (Some t))) false (row_at rows w),
+    fits_anywhere p shapes rows w k.rowed (omega (arith, l, k.counted.whole)),
+  );
 }
   where
     small : v < length a
@@ -102,10 +118,14 @@ assigned p a shapes rows places tallies v t k h n = record {
   placed = k.placed;
   counted = record {
     whole = length-raise_all t tallies (places_at places v) ∙ k.counted.whole;
-    reached = λ w. raise_all-reached t tallies (places_at places v) w within ∙ (ap (λ m. m + sum_in w t (places_at places v)) (k.counted.reached w) ∙ sym (sums_more p a shapes rows places v w t true k.placed small n));
-    missed = λ w. raise_all-missed t tallies (places_at places v) w within ∙ (ap (λ m. m + sum_in w (not t) (places_at places v)) (k.counted.missed w) ∙ sym (sums_more p a shapes rows places v w t false k.placed small n));
+    reached = λ w. raise_all-reached t tallies (places_at places v) w within
+        ∙ (ap (λ m. m + sum_in w t (places_at places v)) (k.counted.reached w) ∙ sym (sums_more p a shapes rows places v w t true k.placed small n));
+    missed = λ w. raise_all-missed t tallies (places_at places v) w within
+        ∙ (ap (λ m. m + sum_in w (not t) (places_at places v)) (k.counted.missed w)
+        ∙ sym (sums_more p a shapes rows places v w t false k.placed small n));
     passed = λ w l.
-        subst (ArePassed (set a v (Some t)) (row_at rows w)) (sym (raise_all-start t tallies (places_at places v) w within)) (passed_more a v t (row_at rows w) (tally_at tallies w).start small (k.counted.passed w l));
+        subst (ArePassed (set a v (Some t)) (row_at rows w)) (sym (raise_all-start t tallies (places_at places v) w within))
+        (passed_more a v t (row_at rows w) (tally_at tallies w).start small (k.counted.passed w l));
   };
   silence = λ w l q.
       let parts = or_parts (touches w (places_at places v)) (tally_at tallies w).queued (sym (raise_all-queued t tallies (places_at places v) w within) ∙ q) in
@@ -163,7 +183,8 @@ undone p a shapes rows places tallies l k h e = record {
     whole = length-lower_all l.truth tallies (places_at places l.var) ∙ k.counted.whole;
     reached = λ w. omega (arith, lower_all-reached l.truth tallies (places_at places l.var) w within, k.counted.reached w, sums_less p a shapes rows places l w true k.placed small e);
     missed = λ w. omega (arith, lower_all-missed l.truth tallies (places_at places l.var) w within, k.counted.missed w, sums_less p a shapes rows places l w false k.placed small e);
-    passed = λ w m. subst (ArePassed (set a l.var None) (row_at rows w)) (sym (lower_all-start l.truth tallies (places_at places l.var) w within)) (passed w m (touches w (places_at places l.var)) refl);
+    passed = λ w m. subst (ArePassed (set a l.var None) (row_at rows w)) (sym (lower_all-start l.truth tallies (places_at places l.var) w within))
+        (passed w m (touches w (places_at places l.var)) refl);
   };
   silence = λ w m q.
       let parts = or_parts (touches w (places_at places l.var)) (tally_at tallies w).queued (sym (lower_all-queued l.truth tallies (places_at places l.var) w within) ∙ q) in
@@ -211,7 +232,8 @@ length-fresh : (n : ℕ) → length (replicate n fresh) ≡ n
 length-fresh n = grind (arith, common_steps)
 
 pub begun : (p : Program) (a : List (Option Bool)) (shapes : List Shape) (rows : List (List Item)) (places : List (List Place)) (tallies : List Tally) (n : ℕ) → IsSound p → var_count p < 2 ^ 31 →
-    AreRows p (weighed_bodies p) shapes rows → ArePlaces shapes rows places → a ≡ replicate (var_count p + 1) None → tallies ≡ replicate n fresh → n ≡ length shapes → IsKept p a shapes rows places tallies
+    AreRows p (weighed_bodies p) shapes rows → ArePlaces shapes rows places → a ≡ replicate (var_count p + 1) None → tallies ≡ replicate n fresh →
+    n ≡ length shapes → IsKept p a shapes rows places tallies
 begun p a shapes rows places tallies n sound few r pl e f g = record {
   sound = sound;
   few = few;
@@ -231,7 +253,8 @@ begun p a shapes rows places tallies n sound few r pl e f g = record {
     all_none v = ap (λ b. value_of b v) e ∙ no_values (var_count p + 1) v
 
 -- ---- a look
-pub are_ready : (p : Program) (a : List (Option Bool)) (shapes : List Shape) (rows : List (List Item)) (places : List (List Place)) (tallies : List Tally) → IsKept p a shapes rows places tallies → AreReady a shapes rows
+pub are_ready : (p : Program) (a : List (Option Bool)) (shapes : List Shape) (rows : List (List Item)) (places : List (List Place))
+    (tallies : List Tally) → IsKept p a shapes rows places tallies → AreReady a shapes rows
 are_ready p a shapes rows places tallies k = record {
   shaped = k.rowed.shaped ∙ sym k.rowed.whole;
   each = λ w h.
@@ -246,7 +269,8 @@ are_ready p a shapes rows places tallies k = record {
       };
 }
 
-pub looked : (p : Program) (a b : List (Option Bool)) (shapes : List Shape) (rows : List (List Item)) (places : List (List Place)) (tallies more : List Tally) → IsKept p a shapes rows places tallies → b ≡ a →
+pub looked : (p : Program) (a b : List (Option Bool)) (shapes : List Shape) (rows : List (List Item)) (places : List (List Place))
+    (tallies more : List Tally) → IsKept p a shapes rows places tallies → b ≡ a →
     AreCounted b rows more → AreSilentRows b shapes rows more → IsKept p a shapes rows places more
 looked p a b shapes rows places tallies more k e c q = record {
   sound = k.sound;
@@ -260,25 +284,29 @@ looked p a b shapes rows places tallies more k e c q = record {
 
 pub in_program : (p : Program) (w : ℕ) → w < length (weighed_bodies p) → (list_any (body_eq (nth_weighed p w)) (bodies_of p) ≡ true) × Stands (atoms_of p) (nth_weighed p w)
 in_program p w h = (
-  All-from_recursion (λ b. list_any (body_eq b) (bodies_of p) ≡ true) (weighed_bodies p) (each-filter (λ b. list_any (body_eq b) (bodies_of p) ≡ true) is_weighed (bodies_of p) (bodies_of-themselves p)) w (body.All []) h,
+  All-from_recursion (λ b. list_any (body_eq b) (bodies_of p) ≡ true) (weighed_bodies p)
+      (each-filter (λ b. list_any (body_eq b) (bodies_of p) ≡ true) is_weighed (bodies_of p) (bodies_of-themselves p)) w (body.All []) h,
   All-from_recursion (Stands (atoms_of p)) (weighed_bodies p) (each-filter (Stands (atoms_of p)) is_weighed (bodies_of p) (bodies_of-stand p)) w (body.All []) h,
 )
 
 -- what is said of a body its definition excludes
-pub excluded_by : (p : Program) (w : ℕ) (s : Shape) (row : List Item) (x : Speech) (a : List (Option Bool)) → IsSound p → w < length (weighed_bodies p) → IsRow p (nth_weighed p w) s row → Speaks x a s row →
+pub excluded_by : (p : Program) (w : ℕ) (s : Shape) (row : List Item) (x : Speech) (a : List (Option Bool)) → IsSound p →
+    w < length (weighed_bodies p) → IsRow p (nth_weighed p w) s row → Speaks x a s row →
     Excludes p (nth_weighed p w) (spoken x a s row)
 excluded_by p w s row x a sound h r says = record {
   stands = (in_program p w h).0;
   broken = λ v hit. spoken_excluded p (nth_weighed p w) x.open x.side a s row (weighed_at p w h) (positive_at p w sound h) r says v hit;
 }
 
-pub given : (p : Program) (a : List (Option Bool)) (shapes : List Shape) (rows : List (List Item)) (w : ℕ) (x : Speech) (n : Nogood) → IsSound p → AreRows p (weighed_bodies p) shapes rows → w < length rows →
+pub given : (p : Program) (a : List (Option Bool)) (shapes : List Shape) (rows : List (List Item)) (w : ℕ) (x : Speech) (n : Nogood) → IsSound p →
+    AreRows p (weighed_bodies p) shapes rows → w < length rows →
     Speaks x a (shape_at shapes w) (row_at rows w) → n.lits ≡ spoken x a (shape_at shapes w) (row_at rows w) → n.base ≡ base.Pure → IsGiven (record { program = p; values = a }) n
 given p a shapes rows w x n sound r h s e f =
     record {
       base = f;
       entailed = subst (Entailed p) (sym e) (excluded_entailed p (nth_weighed p w) _ (in_program p w l).1 shown);
-      within = subst (λ (ls : List Literal). All (λ l. IsVar (var_count p) l.var) ls) (sym e) (spoken_vars (var_count p) x.open x.side a (shape_at shapes w) (row_at rows w) s row.small row.ordered.within);
+      within = subst (λ (ls : List Literal). All (λ l. IsVar (var_count p) l.var) ls) (sym e)
+          (spoken_vars (var_count p) x.open x.side a (shape_at shapes w) (row_at rows w) s row.small row.ordered.within);
       wanted = ap (is_at_fixpoint a) e ∙ spoken_wanted x.open x.side a (shape_at shapes w) (row_at rows w) s;
       excluded = (nth_weighed p w, subst (Excludes p (nth_weighed p w)) (sym e) shown);
     }
@@ -293,7 +321,8 @@ given p a shapes rows w x n sound r h s e f =
     shown = excluded_by p w (shape_at shapes w) (row_at rows w) x a sound l row s
 
 -- ---- in the form of the code
-pub kept_as : (p : Program) (a b : List (Option Bool)) (shapes : List Shape) (rows : List (List Item)) (places : List (List Place)) (tallies more : List Tally) → IsKept p a shapes rows places tallies → b ≡ a → more ≡ tallies →
+pub kept_as : (p : Program) (a b : List (Option Bool)) (shapes : List Shape) (rows : List (List Item)) (places : List (List Place))
+    (tallies more : List Tally) → IsKept p a shapes rows places tallies → b ≡ a → more ≡ tallies →
     IsKept p b shapes rows places more
 kept_as p a b shapes rows places tallies more k e f =
     subst (λ (ts : List Tally). IsKept p b shapes rows places ts) (sym f) (subst (λ (x : List (Option Bool)). IsKept p x shapes rows places tallies) (sym e) k)
@@ -314,7 +343,8 @@ few_rows p = fewer (bodies_of p)
     fewer [] = omega arith
     fewer (b ∷ bs) = one_more b bs (fewer bs)
 
-pub have_room : (p : Program) (vars : ℕ) (shapes also : List Shape) (rows : List (List Item)) → var_count p < 2 ^ 31 → AreRows p (weighed_bodies p) shapes rows → vars ≡ var_count p → also ≡ shapes → HaveRoom vars also rows
+pub have_room : (p : Program) (vars : ℕ) (shapes also : List Shape) (rows : List (List Item)) → var_count p < 2 ^ 31 →
+    AreRows p (weighed_bodies p) shapes rows → vars ≡ var_count p → also ≡ shapes → HaveRoom vars also rows
 have_room p vars shapes also rows few r e f = subst (λ (ss : List Shape). HaveRoom vars ss rows) (sym f) (record {
   shaped = r.shaped ∙ sym r.whole;
   few = omega (arith, r.whole, few_rows p, few);
@@ -322,31 +352,38 @@ have_room p vars shapes also rows few r e f = subst (λ (ss : List Shape). HaveR
   within = λ w h k d l. omega (arith, ((r.row w (omega (arith, h, r.whole))).ordered.within k d l).1, e);
 })
 
-pub begun_as : (p q : Program) (a : List (Option Bool)) (shapes also : List Shape) (rows : List (List Item)) (places : List (List Place)) (tallies : List Tally) (n vars : ℕ) → IsSound p → var_count p < 2 ^ 31 →
-    AreRows p (weighed_bodies p) shapes rows → ArePlaces also rows places → also ≡ shapes → a ≡ replicate (vars + 1) None → vars ≡ var_count p → tallies ≡ replicate n fresh → n ≡ length shapes → q ≡ p →
+pub begun_as : (p q : Program) (a : List (Option Bool)) (shapes also : List Shape) (rows : List (List Item)) (places : List (List Place))
+    (tallies : List Tally) (n vars : ℕ) → IsSound p → var_count p < 2 ^ 31 →
+    AreRows p (weighed_bodies p) shapes rows → ArePlaces also rows places → also ≡ shapes → a ≡ replicate (vars + 1) None → vars ≡ var_count p →
+    tallies ≡ replicate n fresh → n ≡ length shapes → q ≡ p →
     IsKept q a shapes rows places tallies
 begun_as p q a shapes also rows places tallies n vars sound few r pl s e v f g same =
     subst (λ (x : Program). IsKept x a shapes rows places tallies) (sym same)
     (begun p a shapes rows places tallies n sound few r (subst (λ (ss : List Shape). ArePlaces ss rows places) s pl) (e ∙ ap (λ m. replicate (m + 1) None) v) f g)
 
 -- with no body queued all are silent
-pub silent_when_none : (p : Program) (a : List (Option Bool)) (shapes : List Shape) (rows : List (List Item)) (places : List (List Place)) (tallies : List Tally) → IsKept p a shapes rows places tallies →
+pub silent_when_none : (p : Program) (a : List (Option Bool)) (shapes : List Shape) (rows : List (List Item)) (places : List (List Place))
+    (tallies : List Tally) → IsKept p a shapes rows places tallies →
     All (λ t. t.queued ≡ false) tallies → is_silent p a ≡ true
 silent_when_none p a shapes rows places tallies k none_queued =
     all_silent p a shapes rows k.sound k.rowed (λ w h. k.silence w h (none_queued w (record { reached = 0; missed = 0; start = 0; queued = false }) (omega (arith, h, k.counted.whole))))
 
-pub not_silent : (p : Program) (a : List (Option Bool)) (shapes : List Shape) (rows : List (List Item)) (places : List (List Place)) (tallies : List Tally) (w : ℕ) (x : Speech) → IsKept p a shapes rows places tallies →
+pub not_silent : (p : Program) (a : List (Option Bool)) (shapes : List Shape) (rows : List (List Item)) (places : List (List Place))
+    (tallies : List Tally) (w : ℕ) (x : Speech) → IsKept p a shapes rows places tallies →
     w < length rows → Speaks x a (shape_at shapes w) (row_at rows w) → is_silent p a ≡ false
 not_silent p a shapes rows places tallies w x k h s = one_speaks p a shapes rows w k.sound k.rowed h (speaks_not_silent x a (shape_at shapes w) (row_at rows w) s)
 
-pub none_said : (p : Program) (a b : List (Option Bool)) (shapes also : List Shape) (rows : List (List Item)) (places : List (List Place)) (tallies more : List Tally) → IsKept p a shapes rows places tallies → b ≡ a → also ≡ shapes →
+pub none_said : (p : Program) (a b : List (Option Bool)) (shapes also : List Shape) (rows : List (List Item)) (places : List (List Place))
+    (tallies more : List Tally) → IsKept p a shapes rows places tallies → b ≡ a → also ≡ shapes →
     AreCounted b rows more → AreSilentRows b also rows more → All (λ t. t.queued ≡ false) more → is_silent p a ≡ true
 none_said p a b shapes also rows places tallies more k e f c q none_queued =
     silent_when_none p a shapes rows places more (looked p a b shapes rows places tallies more k e c (subst (λ (ss : List Shape). AreSilentRows b ss rows more) f q)) none_queued
 
 -- what was said of a body is a nogood of the program
-pub one_said : (p : Program) (a b : List (Option Bool)) (shapes also : List Shape) (rows : List (List Item)) (places : List (List Place)) (tallies : List Tally) (w : ℕ) (x : Speech) (s : Shape) (row : List Item) (n : Nogood) →
-    IsKept p a shapes rows places tallies → b ≡ a → also ≡ shapes → (w < length rows) × Speaks x b (shape_at also w) (row_at rows w) → s ≡ get_or shapes w s → row ≡ row_at rows w → n.lits ≡ spoken x b s row → n.base ≡ base.Pure →
+pub one_said : (p : Program) (a b : List (Option Bool)) (shapes also : List Shape) (rows : List (List Item)) (places : List (List Place))
+    (tallies : List Tally) (w : ℕ) (x : Speech) (s : Shape) (row : List Item) (n : Nogood) →
+    IsKept p a shapes rows places tallies → b ≡ a → also ≡ shapes → (w < length rows) × Speaks x b (shape_at also w) (row_at rows w) →
+    s ≡ get_or shapes w s → row ≡ row_at rows w → n.lits ≡ spoken x b s row → n.base ≡ base.Pure →
     (is_silent p a ≡ false) × IsGiven (record { program = p; values = a }) n
 one_said p a b shapes also rows places tallies w x s row n k e f h i j l m =
     (not_silent p a shapes rows places tallies w x k h.0 said, given p a shapes rows w x n k.sound k.rowed h.0 said lits m)

@@ -137,14 +137,17 @@ sum_at-absent v row a t f k d h e = both (get_or row k d).lit.truth (get_or row 
     both false c q = omega (arith, a k d h, f, weighs false q, get_or-le-sum_by (weight_at (record { var = v; truth = false })) row k d h)
 
 -- where the values agree on the body's variables it is as silent
-pub silence_alike : (a b : List (Option Bool)) (s : Shape) (row : List Item) → value_of a s.var ≡ value_of b s.var → All (λ i. value_of a i.lit.var ≡ value_of b i.lit.var) row → is_silent_row a s row ≡ is_silent_row b s row
+pub silence_alike : (a b : List (Option Bool)) (s : Shape) (row : List Item) → value_of a s.var ≡ value_of b s.var →
+    All (λ i. value_of a i.lit.var ≡ value_of b i.lit.var) row → is_silent_row a s row ≡ is_silent_row b s row
 silence_alike a b s row e r = ap (λ o. is_silent_row_as o a s row) e ∙ cases (value_of b s.var)
   where
     sums : (side : Bool) (xs : List Item) → All (λ i. value_of a i.lit.var ≡ value_of b i.lit.var) xs → sum_where (holds_in a) side xs ≡ sum_where (holds_in b) side xs
     sums side [] q = refl
     sums side (i ∷ xs) q =
         sum_by-cons (weight_if (holds_in a) side) i xs
-        ∙ (ap (λ n. n + sum_where (holds_in a) side xs) (ap (λ c. cond c i.weight 0) (ap (λ o. agrees o (on side i.lit)) (same side i (All-head (λ (x : Item). value_of a x.lit.var ≡ value_of b x.lit.var) i xs q))))
+        ∙ (ap (λ n. n + sum_where (holds_in a) side xs)
+        (ap (λ c. cond c i.weight 0) (ap (λ o. agrees o (on side i.lit))
+        (same side i (All-head (λ (x : Item). value_of a x.lit.var ≡ value_of b x.lit.var) i xs q))))
         ∙ (ap (λ n. weight_if (holds_in b) side i + n) (sums side xs (All-tail (λ (x : Item). value_of a x.lit.var ≡ value_of b x.lit.var) i xs q))
         ∙ sym (sum_by-cons (weight_if (holds_in b) side) i xs)))
       where

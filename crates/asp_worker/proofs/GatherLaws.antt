@@ -44,7 +44,7 @@ use Rattle.asp_crew_laws.specs.Working.{IsAtWork, IsSought}
 use Rattle.asp_crew_laws.proofs.WorkLaws.{work-on, work-delivered, may-list}
 use Rattle.asp_worker.proofs.StepLaws.{settled-same}
 use Rattle.asp_worker.specs.Seats.{IsRun, IsSettled, IsTidy, Idles}
-use Rattle.asp_worker.specs.Working.{GoesOn, IsOn, Finds, IsNew, AreNew, Gathers}
+use Rattle.asp_worker.specs.Working.{GoesOn, IsDone, IsOn, Finds, IsNew, AreNew, Gathers}
 use Rattle.asp_worker.proofs.OwnLaws.{By, behaves-call}
 use Rattle.asp_worker.proofs.SeatLaws.{board-task, settled-board, holds-idles, cube-idles}
 use Rattle.asp_worker.proofs.RecordLaws.{not-dear}

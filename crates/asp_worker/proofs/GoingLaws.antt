@@ -238,5 +238,3 @@ best-then m b s t r x e is at now = subst (λ (k : Mode). TakesBest k b s t) (sy
 
 pub best-seen : (v w : Knows) (before : List Event) → Stays v w → IsCall v w before [] → (r : Option (List ℤ)) → r ≡ option_map (cost (replay (task_of v) before).task.program) (replay (task_of v) before).best → r ≡ option_map (cost (seen_board w).task.program) (seen_board w).best
 best-seen v w before stays call r e = e ∙ ap (λ (b : Board). option_map (cost b.task.program) b.best) (sym (seen-after v w before [] stays call))
-
--- ---- a cube that is settled stays so

@@ -23,7 +23,8 @@ returns-clause-reached g c =
     let end = c.in_ok-point.ensures.traced in
     let on = all_on c.args.trail.now.vars es c.args.lits.now c.len-len.ensures.ordered c.requires.contained in
     subst (λ (x : Nogood). (used : List Used) × IsReached es given used x × All (IsNamed says es) used) (sym c.conclude.ensures.nogood)
-    (subst (λ (b : Base). let x : Nogood = record { lits = c.in_ok-lits.lits; base = c.trace_back.new.base } in (used : List Used) × IsReached es (record { lits = c.args.lits.now; base = b }) used x × All (IsNamed says es) used) c.in_ok-base.ensures
+    (subst (λ (b : Base). let x : Nogood = record { lits = c.in_ok-lits.lits; base = c.trace_back.new.base } in (used : List Used) ×
+    IsReached es (record { lits = c.args.lits.now; base = b }) used x × All (IsNamed says es) used) c.in_ok-base.ensures
     (left_reached es says from end.top c.trace_back.new.marks c.trace_back.new.base record { lits = c.in_ok-lits.lits; base = c.trace_back.new.base } on end.way c.in_ok-lits.ensures refl))
 
 pub returns-clause-contained : goal.returns-clause-contained
@@ -31,7 +32,8 @@ returns-clause-contained g c =
     let es = c.args.trail.now.entries in
     let end = c.in_ok-point.ensures.traced in
     subst (λ (x : Nogood). AreContained c.args.trail.now.vars es x.lits) (sym c.conclude.ensures.nogood)
-    (subst (λ (ls : List Literal). AreContained c.args.trail.now.vars es ls) (sym c.in_ok-lits.ensures) (left_contained es end.top c.args.trail.now.vars c.trace_back.new.marks c.len-len.ensures.ordered end.way.marked))
+    (subst (λ (ls : List Literal). AreContained c.args.trail.now.vars es ls) (sym c.in_ok-lits.ensures)
+    (left_contained es end.top c.args.trail.now.vars c.trace_back.new.marks c.len-len.ensures.ordered end.way.marked))
 
 pub returns-clause-assumed : goal.returns-clause-assumed
 returns-clause-assumed g c =

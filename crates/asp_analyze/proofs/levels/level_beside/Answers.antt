@@ -14,7 +14,8 @@ loop-k-preserved c =
     let i = c.loop-k.k-index in
     elim c.if-other-level.branch [
       | then-other-level w ↦ record {
-        below = below_push f n i c.k-item.result c.loop-k.level c.if-other-level.level (omega arith) c.k-item.is c.loop-k.invariant.below (omega (arith, w.level-is, w.if-other-level.true)) (omega (arith, w.level-is, c.level_unless-other.ensures));
+        below = below_push f n i c.k-item.result c.loop-k.level c.if-other-level.level (omega arith) c.k-item.is c.loop-k.invariant.below
+            (omega (arith, w.level-is, w.if-other-level.true)) (omega (arith, w.level-is, c.level_unless-other.ensures));
         attained = λ p. (
           c.k-item.result,
           subst (λ (l : Literal). has_literal n l ≡ true) (sym c.k-item.is) (has_at n i c.k-item.result (omega arith)),
@@ -22,7 +23,8 @@ loop-k-preserved c =
         );
       }
       | else-other-level w ↦ record {
-        below = below_push f n i c.k-item.result c.loop-k.level c.if-other-level.level (omega arith) c.k-item.is c.loop-k.invariant.below (omega (arith, w.level-is)) (omega (arith, w.level-is, w.if-other-level.false, c.level_unless-other.ensures));
+        below = below_push f n i c.k-item.result c.loop-k.level c.if-other-level.level (omega arith) c.k-item.is c.loop-k.invariant.below
+            (omega (arith, w.level-is)) (omega (arith, w.level-is, w.if-other-level.false, c.level_unless-other.ensures));
         attained = λ p. let a = c.loop-k.invariant.attained (omega (arith, p, w.level-is)) in (a.0, a.1, a.2 ∙ sym w.level-is);
       }
     ]

@@ -138,14 +138,17 @@ returns-in_ok-push-in-Some-find_other-2-clause-path g c =
     let clean : is_clean (mark_of m.marks other.lit.var) ≡ true = c.may_follow.ensures c.if-may_follow.true in
     let goes : Goes es m c.add.new.self = goes_needed es top m c.add.new.self other.lit a is.on clean c.add.ensures in
     let P : Look → Type 0 = λ f. CanGo es top c.add.new.self f.lit in
-    let front : All P c.pop.new.self.items = λ i d h. can_later es top m c.add.new.self _ goes (can_front es top m c.args.path.now.items c.pop.new.self.items last c.in-Some.ensures.items c.requires.path i d h) in
+    let front : All P c.pop.new.self.items =
+    λ i d h. can_later es top m c.add.new.self _ goes
+    (can_front es top m c.args.path.now.items c.pop.new.self.items last c.in-Some.ensures.items c.requires.path i d h) in
     let first : Look = record { lit = last.lit; next = other.next } in
     let second : Look = record { lit = other.lit; next = 0 } in
     let marked : is_clean (mark_of c.add.new.self.marks other.lit.var) ≡ false =
     ap (λ (x : Marked). is_clean (mark_of x.marks other.lit.var)) c.add.ensures ∙ ap is_clean (mark_set_same m.marks other.lit.var mark.Needed (a.small other.lit is.on)) in
     subst (λ (xs : List Look). All P xs) (sym {A = List Look} c.in_ok-push-in-Some-find_other-2.ensures.items)
     (All-push P c.push.new.self.items second
-    (subst (λ (xs : List Look). All P xs) (sym {A = List Look} c.in_ok-push-in-Some-find_other.ensures.items) (All-push P c.pop.new.self.items first front (can_later es top m c.add.new.self last.lit goes can)))
+    (subst (λ (xs : List Look). All P xs) (sym {A = List Look} c.in_ok-push-in-Some-find_other.ensures.items)
+    (All-push P c.pop.new.self.items first front (can_later es top m c.add.new.self last.lit goes can)))
     record { on = is.on; low = is.low; high = high; marked = marked })
 
 pub returns-in_ok-push-in-Some-find_other-2-clause-goes :

@@ -69,4 +69,6 @@ returns-clause-opened g c =
     let made : mid ≡ record old { marks = set old.marks c.args.lit.var mark.Resolved } = rw c.var.ensures at c.change.ensures in
     let n : Nogood = c.args.reason.now in
     let k = c.requires.said in
-    opened_marks a.ordered.0 es says c.args.top old mid c.note_all.new.marks c.args.lit c.args.id n a.ordered.1 c.requires.reasons a c.requires.on c.requires.reason k made (subst (λ (ls : List Literal). Noted es mid c.note_all.new.marks ls) c.as_slice.ensures.value c.note_all.ensures.noted)
+    opened_marks a.ordered.0 es says c.args.top old mid c.note_all.new.marks c.args.lit c.args.id n a.ordered.1 c.requires.reasons a c.requires.on
+    c.requires.reason k made (subst (λ (ls : List Literal). Noted es mid c.note_all.new.marks ls) c.as_slice.ensures.value
+    c.note_all.ensures.noted)

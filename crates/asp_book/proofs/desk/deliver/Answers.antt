@@ -13,40 +13,99 @@ pub deliver-reply-requires-clause-listed : goal.deliver-reply-requires-clause-li
 deliver-reply-requires-clause-listed g c =
     let v : Knows = view c.args.seat.now in
     let u : Knows = view c.take-book.new.seat in
-    let has : HasTaken v u c.take-book.result c.number.result = record { misses = u.misses; took = c.take-book.ensures.view; learnt = c.take-book.ensures.learnt; about = c.take-book.ensures.about; sound = c.take-book.ensures.sound; number = c.number.ensures } in
+    let has : HasTaken v u c.take-book.result c.number.result =
+    record {
+      misses = u.misses;
+      took = c.take-book.ensures.view;
+      learnt = c.take-book.ensures.learnt;
+      about = c.take-book.ensures.about;
+      sound =
+          c.take-book.ensures.sound;
+      number = c.number.ensures;
+    } in
     subst (λ (t : Task). IsTrue (lists t c.args.set)) (task-since v u c.take-book.result c.number.result has) c.requires.listed
 
 pub deliver-reply-requires-clause-answer : goal.deliver-reply-requires-clause-answer
 deliver-reply-requires-clause-answer g c =
     let v : Knows = view c.args.seat.now in
     let u : Knows = view c.take-book.new.seat in
-    let has : HasTaken v u c.take-book.result c.number.result = record { misses = u.misses; took = c.take-book.ensures.view; learnt = c.take-book.ensures.learnt; about = c.take-book.ensures.about; sound = c.take-book.ensures.sound; number = c.number.ensures } in
+    let has : HasTaken v u c.take-book.result c.number.result =
+    record {
+      misses = u.misses;
+      took = c.take-book.ensures.view;
+      learnt = c.take-book.ensures.learnt;
+      about = c.take-book.ensures.about;
+      sound =
+          c.take-book.ensures.sound;
+      number = c.number.ensures;
+    } in
     subst (λ (t : Task). IsTrue (is_answer t c.args.set)) (task-since v u c.take-book.result c.number.result has) c.requires.answer
 
 pub give-requires-clause-adds : goal.give-requires-clause-adds
 give-requires-clause-adds g c =
     let v : Knows = view c.args.seat.now in
     let u : Knows = view c.take-book.new.seat in
-    let has : HasTaken v u c.take-book.result c.number.result = record { misses = u.misses; took = c.take-book.ensures.view; learnt = c.take-book.ensures.learnt; about = c.take-book.ensures.about; sound = c.take-book.ensures.sound; number = c.number.ensures } in
-    adds v u c.take-book.result c.number.result has c.deliver-reply.new.self (λ k r. delivered k c.args.set r) (delivered-by c.args.set) c.deliver-reply.result c.deliver-reply.ensures.journal c.deliver-reply.ensures.err
+    let has : HasTaken v u c.take-book.result c.number.result =
+    record {
+      misses = u.misses;
+      took = c.take-book.ensures.view;
+      learnt = c.take-book.ensures.learnt;
+      about = c.take-book.ensures.about;
+      sound =
+          c.take-book.ensures.sound;
+      number = c.number.ensures;
+    } in
+    adds v u c.take-book.result c.number.result has c.deliver-reply.new.self (λ k r. delivered k c.args.set r) (delivered-by c.args.set)
+    c.deliver-reply.result c.deliver-reply.ensures.journal c.deliver-reply.ensures.err
 
 pub returns-clause-stays : goal.returns-clause-stays
 returns-clause-stays g c =
     let v : Knows = view c.args.seat.now in
     let u : Knows = view c.take-book.new.seat in
-    let has : HasTaken v u c.take-book.result c.number.result = record { misses = u.misses; took = c.take-book.ensures.view; learnt = c.take-book.ensures.learnt; about = c.take-book.ensures.about; sound = c.take-book.ensures.sound; number = c.number.ensures } in
-    stays v u c.take-book.result c.number.result has (view c.give.new.seat) c.deliver-reply.new.self c.give.ensures.view (λ k r. delivered k c.args.set r) c.deliver-reply.result c.deliver-reply.ensures.journal c.deliver-reply.ensures.err
+    let has : HasTaken v u c.take-book.result c.number.result =
+    record {
+      misses = u.misses;
+      took = c.take-book.ensures.view;
+      learnt = c.take-book.ensures.learnt;
+      about = c.take-book.ensures.about;
+      sound =
+          c.take-book.ensures.sound;
+      number = c.number.ensures;
+    } in
+    stays v u c.take-book.result c.number.result has (view c.give.new.seat) c.deliver-reply.new.self c.give.ensures.view
+    (λ k r. delivered k c.args.set r) c.deliver-reply.result c.deliver-reply.ensures.journal c.deliver-reply.ensures.err
 
 pub returns-clause-ok : goal.returns-clause-ok
 returns-clause-ok g c =
     let v : Knows = view c.args.seat.now in
     let u : Knows = view c.take-book.new.seat in
-    let has : HasTaken v u c.take-book.result c.number.result = record { misses = u.misses; took = c.take-book.ensures.view; learnt = c.take-book.ensures.learnt; about = c.take-book.ensures.about; sound = c.take-book.ensures.sound; number = c.number.ensures } in
-    replies v u c.take-book.result c.number.result has (view c.give.new.seat) c.deliver-reply.new.self c.give.ensures.view (λ k r. delivered k c.args.set r) (λ b r. r ≡ not (is_enough b)) c.deliver-reply.result c.give.ensures.lawful c.deliver-reply.ensures.journal c.deliver-reply.ensures.err c.deliver-reply.ensures.enough
+    let has : HasTaken v u c.take-book.result c.number.result =
+    record {
+      misses = u.misses;
+      took = c.take-book.ensures.view;
+      learnt = c.take-book.ensures.learnt;
+      about = c.take-book.ensures.about;
+      sound =
+          c.take-book.ensures.sound;
+      number = c.number.ensures;
+    } in
+    replies v u c.take-book.result c.number.result has (view c.give.new.seat) c.deliver-reply.new.self c.give.ensures.view
+    (λ k r. delivered k c.args.set r) (λ b r. r ≡ not (is_enough b)) c.deliver-reply.result c.give.ensures.lawful c.deliver-reply.ensures.journal
+    c.deliver-reply.ensures.err c.deliver-reply.ensures.enough
 
 pub returns-clause-err : goal.returns-clause-err
 returns-clause-err g c =
     let v : Knows = view c.args.seat.now in
     let u : Knows = view c.take-book.new.seat in
-    let has : HasTaken v u c.take-book.result c.number.result = record { misses = u.misses; took = c.take-book.ensures.view; learnt = c.take-book.ensures.learnt; about = c.take-book.ensures.about; sound = c.take-book.ensures.sound; number = c.number.ensures } in
-    refuses v u c.take-book.result c.number.result has (view c.give.new.seat) c.deliver-reply.new.self c.give.ensures.view (λ k r. delivered k c.args.set r) c.deliver-reply.result c.give.ensures.lawful c.deliver-reply.ensures.journal c.deliver-reply.ensures.err
+    let has : HasTaken v u c.take-book.result c.number.result =
+    record {
+      misses = u.misses;
+      took = c.take-book.ensures.view;
+      learnt = c.take-book.ensures.learnt;
+      about = c.take-book.ensures.about;
+      sound =
+          c.take-book.ensures.sound;
+      number = c.number.ensures;
+    } in
+    refuses v u c.take-book.result c.number.result has (view c.give.new.seat) c.deliver-reply.new.self c.give.ensures.view
+    (λ k r. delivered k c.args.set r) c.deliver-reply.result c.give.ensures.lawful c.deliver-reply.ensures.journal c.deliver-reply.ensures.err

@@ -14,21 +14,48 @@ pub list_all-reply-requires-clause-goal : goal.list_all-reply-requires-clause-go
 list_all-reply-requires-clause-goal g c =
     let v : Knows = view c.args.seat.now in
     let u : Knows = view c.take-book.new.seat in
-    let has : HasTaken v u c.take-book.result c.number.result = record { misses = u.misses; took = c.take-book.ensures.view; learnt = c.take-book.ensures.learnt; about = c.take-book.ensures.about; sound = c.take-book.ensures.sound; number = c.number.ensures } in
+    let has : HasTaken v u c.take-book.result c.number.result =
+    record {
+      misses = u.misses;
+      took = c.take-book.ensures.view;
+      learnt = c.take-book.ensures.learnt;
+      about = c.take-book.ensures.about;
+      sound =
+          c.take-book.ensures.sound;
+      number = c.number.ensures;
+    } in
     subst (λ (t : Task). sought t.goal ≡ None) (task-since v u c.take-book.result c.number.result has) c.requires.goal
 
 pub list_all-reply-requires-clause-found : goal.list_all-reply-requires-clause-found
 list_all-reply-requires-clause-found g c =
     let v : Knows = view c.args.seat.now in
     let u : Knows = view c.take-book.new.seat in
-    let has : HasTaken v u c.take-book.result c.number.result = record { misses = u.misses; took = c.take-book.ensures.view; learnt = c.take-book.ensures.learnt; about = c.take-book.ensures.about; sound = c.take-book.ensures.sound; number = c.number.ensures } in
+    let has : HasTaken v u c.take-book.result c.number.result =
+    record {
+      misses = u.misses;
+      took = c.take-book.ensures.view;
+      learnt = c.take-book.ensures.learnt;
+      about = c.take-book.ensures.about;
+      sound =
+          c.take-book.ensures.sound;
+      number = c.number.ensures;
+    } in
     subst (λ (t : Task). AllByRecursion (IsListing t) c.args.found.items) (task-since v u c.take-book.result c.number.result has) c.requires.found
 
 pub give-requires-clause-adds : goal.give-requires-clause-adds
 give-requires-clause-adds g c =
     let v : Knows = view c.args.seat.now in
     let u : Knows = view c.take-book.new.seat in
-    let has : HasTaken v u c.take-book.result c.number.result = record { misses = u.misses; took = c.take-book.ensures.view; learnt = c.take-book.ensures.learnt; about = c.take-book.ensures.about; sound = c.take-book.ensures.sound; number = c.number.ensures } in
+    let has : HasTaken v u c.take-book.result c.number.result =
+    record {
+      misses = u.misses;
+      took = c.take-book.ensures.view;
+      learnt = c.take-book.ensures.learnt;
+      about = c.take-book.ensures.about;
+      sound =
+          c.take-book.ensures.sound;
+      number = c.number.ensures;
+    } in
     let e = c.list_all-reply.ensures in
     adds_surely v u c.take-book.result c.number.result has c.list_all-reply.new.self deliveries deliveries-by e.0 e.2
 
@@ -36,7 +63,16 @@ pub returns-clause-stays : goal.returns-clause-stays
 returns-clause-stays g c =
     let v : Knows = view c.args.seat.now in
     let u : Knows = view c.take-book.new.seat in
-    let has : HasTaken v u c.take-book.result c.number.result = record { misses = u.misses; took = c.take-book.ensures.view; learnt = c.take-book.ensures.learnt; about = c.take-book.ensures.about; sound = c.take-book.ensures.sound; number = c.number.ensures } in
+    let has : HasTaken v u c.take-book.result c.number.result =
+    record {
+      misses = u.misses;
+      took = c.take-book.ensures.view;
+      learnt = c.take-book.ensures.learnt;
+      about = c.take-book.ensures.about;
+      sound =
+          c.take-book.ensures.sound;
+      number = c.number.ensures;
+    } in
     let e = c.list_all-reply.ensures in
     stays_surely v u c.take-book.result c.number.result has (view c.give.new.seat) c.list_all-reply.new.self c.give.ensures.view deliveries e.0 e.2
 
@@ -44,9 +80,19 @@ pub returns-clause-call : goal.returns-clause-call
 returns-clause-call g c =
     let v : Knows = view c.args.seat.now in
     let u : Knows = view c.take-book.new.seat in
-    let has : HasTaken v u c.take-book.result c.number.result = record { misses = u.misses; took = c.take-book.ensures.view; learnt = c.take-book.ensures.learnt; about = c.take-book.ensures.about; sound = c.take-book.ensures.sound; number = c.number.ensures } in
+    let has : HasTaken v u c.take-book.result c.number.result =
+    record {
+      misses = u.misses;
+      took = c.take-book.ensures.view;
+      learnt = c.take-book.ensures.learnt;
+      about = c.take-book.ensures.about;
+      sound =
+          c.take-book.ensures.sound;
+      number = c.number.ensures;
+    } in
     let e = c.list_all-reply.ensures in
     let n : c.number.result ≡ v.number = number-is v u c.take-book.result c.number.result has in
-    let r = answers v u c.take-book.result c.number.result has (view c.give.new.seat) c.list_all-reply.new.self c.give.ensures.view deliveries (λ b front. Lists v.number b c.args.found.items c.list_all-reply.result front) e.0 c.give.ensures.lawful e.2
+    let r = answers v u c.take-book.result c.number.result has (view c.give.new.seat) c.list_all-reply.new.self c.give.ensures.view deliveries
+    (λ b front. Lists v.number b c.args.found.items c.list_all-reply.result front) e.0 c.give.ensures.lawful e.2
     (subst (λ k. Lists k (board c.take-book.result) c.args.found.items c.list_all-reply.result e.0) n e.1) in
     (r.0, e.0, r.1, r.2)

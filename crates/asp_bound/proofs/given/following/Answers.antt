@@ -16,7 +16,9 @@ pub find-requires-clause-room : goal.find-requires-clause-room
 find-requires-clause-room c = sums-room c.args.priced.now.origin.value c.args.values.now c.args.priced.now.rows c.args.priced.now.columns c.args.priced.now.vars.items c.args.sums.now c.requires.kept
 
 pub find-requires-clause-within : goal.find-requires-clause-within
-find-requires-clause-within c = columns-within c.args.priced.now.origin.value c.args.values.now c.args.priced.now.rows c.args.priced.now.columns c.args.priced.now.vars.items c.args.sums.now c.requires.kept
+find-requires-clause-within c =
+    columns-within c.args.priced.now.origin.value c.args.values.now c.args.priced.now.rows c.args.priced.now.columns c.args.priced.now.vars.items
+    c.args.sums.now c.requires.kept
 
 pub find-requires-clause-most : goal.find-requires-clause-most
 find-requires-clause-most c = λ j lt. (c.requires.kept.columned.each j lt).small
@@ -30,5 +32,8 @@ returns-clause-follows c =
     let x = c.in-Some.implied in
     let shown = c.requires.shown ∙ ap (λ (n : ℕ). assignment n c.args.trail.now.entries) c.requires.vars in
     let reaches = subst (λ (l : List ℤ). Reaches c.args.values.now c.args.priced.now.rows c.args.sums.now l x) c.as_slice-limits.ensures c.in-Some.ensures.reaches in
-    let explained = implied_explained c.args.priced.now.origin.value c.args.values.now c.args.priced.now.rows c.args.priced.now.columns c.args.priced.now.vars.items c.args.sums.now c.requires.kept c.args.trail.now.entries c.args.cost.now x (complement x.lit) shown reaches c.in-Some.ensures.within refl in
+    let explained =
+    implied_explained c.args.priced.now.origin.value c.args.values.now c.args.priced.now.rows c.args.priced.now.columns
+    c.args.priced.now.vars.items c.args.sums.now c.requires.kept c.args.trail.now.entries c.args.cost.now x (complement x.lit) shown reaches
+    c.in-Some.ensures.within refl in
     subst (λ (i : SaidImplied). IsExplained p (Some c.args.cost.now) c.args.trail.now.entries i.lit × (i.name + 1 ≡ 2 ^ 31)) (sym c.follows.ensures) (explained, refl)

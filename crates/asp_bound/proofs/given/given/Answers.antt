@@ -26,7 +26,9 @@ pub find-requires-clause-room : goal.find-requires-clause-room
 find-requires-clause-room c = sums-room c.args.priced.now.origin.value c.args.values.now c.args.priced.now.rows c.args.priced.now.columns c.args.priced.now.vars.items c.args.sums.now c.requires.kept
 
 pub find-requires-clause-within : goal.find-requires-clause-within
-find-requires-clause-within c = columns-within c.args.priced.now.origin.value c.args.values.now c.args.priced.now.rows c.args.priced.now.columns c.args.priced.now.vars.items c.args.sums.now c.requires.kept
+find-requires-clause-within c =
+    columns-within c.args.priced.now.origin.value c.args.values.now c.args.priced.now.rows c.args.priced.now.columns c.args.priced.now.vars.items
+    c.args.sums.now c.requires.kept
 
 pub find-requires-clause-most : goal.find-requires-clause-most
 find-requires-clause-most c = λ j lt. (c.requires.kept.columned.each j lt).small
@@ -43,34 +45,42 @@ raising-requires-clause-rows c = omega (arith, c.requires.kept.rowed.count, c.re
 
 pub raising-requires-clause-within : goal.raising-requires-clause-within
 raising-requires-clause-within c =
-    All-weaker (λ v. (0 < v) × (v < length c.args.values.now)) (λ v. v ≤ c.args.trail.now.vars) (λ v h. omega (arith, h.1, c.requires.kept.sized, c.requires.vars)) c.args.raisers.now c.requires.raisers.within
+    All-weaker (λ v. (0 < v) × (v < length c.args.values.now)) (λ v. v ≤ c.args.trail.now.vars)
+    (λ v h. omega (arith, h.1, c.requires.kept.sized, c.requires.vars)) c.args.raisers.now c.requires.raisers.within
 
 pub nogood_by-requires : goal.nogood_by-requires
 nogood_by-requires c =
     let q : Priced = c.args.priced.now in
     let a : List (Option Bool) = c.args.values.now in
-    let moved = found_now c.args.trail.now c.len.result a q.rows c.in-Some.depth c.args.raisers.now c.in_ok-found.found.items c.as_slice.result.now c.len.ensures.len c.requires.shown c.in_ok-found.ensures c.as_slice.ensures.value in
+    let moved = found_now c.args.trail.now c.len.result a q.rows c.in-Some.depth c.args.raisers.now c.in_ok-found.found.items c.as_slice.result.now
+    c.len.ensures.len c.requires.shown c.in_ok-found.ensures c.as_slice.ensures.value in
     let es = c.as_mut_slice-left.ensures.value ∙ c.in_ok-copy.ensures.items_if_clones_equal (λ x y q. q) in
     may_fall q.origin.value a q.rows q.columns q.vars.items c.as_mut_slice-left.result.now c.as_slice.result.now (subst (IsPriced q a) (sym es) c.requires.kept)
-    (found-held q.origin.value a q.rows q.columns q.vars.items c.args.sums.now c.args.raisers.now c.in-Some.depth c.as_slice.result.now c.requires.kept (raisers_have a q.rows c.args.raisers.now c.requires.raisers) moved)
+    (found-held q.origin.value a q.rows q.columns q.vars.items c.args.sums.now c.args.raisers.now c.in-Some.depth c.as_slice.result.now
+    c.requires.kept (raisers_have a q.rows c.args.raisers.now c.requires.raisers) moved)
 
 pub returns-in-Some-clause-silent : goal.returns-in-Some-clause-silent
 returns-in-Some-clause-silent c =
     let reached : Some c.in-Some.depth ≡ reach (lifted (λ j. 0) c.args.sums.now) c.as_slice-limits.result.now = c.in-Some.ensures in
-    loud_now_as c.args.priced.now.origin.value c.args.values.now c.args.priced.now.rows c.args.priced.now.columns c.args.priced.now.vars.items c.args.sums.now c.requires.kept (Some c.args.cost.now) c.args.cost.now c.args.sums.now c.as_slice-limits.result.now c.in-Some.depth refl refl c.as_slice-limits.ensures reached
+    loud_now_as c.args.priced.now.origin.value c.args.values.now c.args.priced.now.rows c.args.priced.now.columns c.args.priced.now.vars.items
+    c.args.sums.now c.requires.kept (Some c.args.cost.now) c.args.cost.now c.args.sums.now c.as_slice-limits.result.now c.in-Some.depth refl refl
+    c.as_slice-limits.ensures reached
 
 pub returns-in-Some-clause-said : goal.returns-in-Some-clause-said
 returns-in-Some-clause-said c =
     let q : Priced = c.args.priced.now in
     let a : List (Option Bool) = c.args.values.now in
-    let moved = found_now c.args.trail.now c.len.result a q.rows c.in-Some.depth c.args.raisers.now c.in_ok-found.found.items c.as_slice.result.now c.len.ensures.len c.requires.shown c.in_ok-found.ensures c.as_slice.ensures.value in
+    let moved = found_now c.args.trail.now c.len.result a q.rows c.in-Some.depth c.args.raisers.now c.in_ok-found.found.items c.as_slice.result.now
+    c.len.ensures.len c.requires.shown c.in_ok-found.ensures c.as_slice.ensures.value in
     let left = c.as_mut_slice-left.result.now in
     let found = c.as_slice.result.now in
     let reached : Some c.in-Some.depth ≡ reach (lifted (λ j. 0) c.args.sums.now) c.as_slice-limits.result.now = c.in-Some.ensures in
     let same = c.as_mut_slice-left.ensures.value ∙ c.in_ok-copy.ensures.items_if_clones_equal (λ x y q. q) in (
       c.args.cost.now,
       refl,
-      given_now_as q.origin.value a q.rows q.columns q.vars.items c.args.sums.now c.requires.kept c.args.raisers.now (raisers_have a q.rows c.args.raisers.now c.requires.raisers) c.args.cost.now c.args.sums.now c.as_slice-limits.result.now c.in-Some.depth c.in_ok-nogood.nogood
+      given_now_as q.origin.value a q.rows q.columns q.vars.items c.args.sums.now c.requires.kept c.args.raisers.now
+          (raisers_have a q.rows c.args.raisers.now c.requires.raisers) c.args.cost.now c.args.sums.now c.as_slice-limits.result.now c.in-Some.depth
+          c.in_ok-nogood.nogood
           (needed q.rows c.args.cost.now c.in-Some.depth left found) found left
           refl c.as_slice-limits.ensures reached moved same
           (ap (λ (l : List ℤ). needed q.rows l c.in-Some.depth left found) (sym c.as_slice-limits.ensures)) c.in_ok-nogood.ensures,
@@ -80,11 +90,15 @@ returns-in-Some-clause-said c =
 pub returns-in_default-find-clause-silent : goal.returns-in_default-find-clause-silent
 returns-in_default-find-clause-silent c =
     let none : None ≡ reach (lifted (λ j. 0) c.args.sums.now) c.as_slice-limits.result.now = c.in_default.ensures in
-    silent_now_as c.args.priced.now.origin.value c.args.values.now c.args.priced.now.rows c.args.priced.now.columns c.args.priced.now.vars.items c.args.sums.now c.requires.kept (Some c.args.cost.now) c.args.cost.now c.args.sums.now c.as_slice-limits.result.now refl refl c.as_slice-limits.ensures none c.in_default-find.ensures.pass
+    silent_now_as c.args.priced.now.origin.value c.args.values.now c.args.priced.now.rows c.args.priced.now.columns c.args.priced.now.vars.items
+    c.args.sums.now c.requires.kept (Some c.args.cost.now) c.args.cost.now c.args.sums.now c.as_slice-limits.result.now refl refl
+    c.as_slice-limits.ensures none c.in_default-find.ensures.pass
 
 pub returns-clause-silent : goal.returns-clause-silent
 returns-clause-silent c =
-    loud_with_as c.args.priced.now.origin.value c.args.values.now c.args.priced.now.rows c.args.priced.now.columns c.args.priced.now.vars.items c.args.sums.now c.requires.kept (Some c.args.cost.now) c.args.cost.now c.args.sums.now c.as_slice-limits.result.now c.in-Some-find.implied refl refl c.as_slice-limits.ensures
+    loud_with_as c.args.priced.now.origin.value c.args.values.now c.args.priced.now.rows c.args.priced.now.columns c.args.priced.now.vars.items
+    c.args.sums.now c.requires.kept (Some c.args.cost.now) c.args.cost.now c.args.sums.now c.as_slice-limits.result.now c.in-Some-find.implied
+    refl refl c.as_slice-limits.ensures
     c.in-Some-find.ensures.reaches c.in-Some-find.ensures.within
 
 pub returns-clause-said : goal.returns-clause-said
@@ -93,5 +107,7 @@ returns-clause-said c =
     let x = c.in-Some-find.implied in
     let shown = c.requires.shown ∙ ap (λ (n : ℕ). assignment n c.args.trail.now.entries) c.requires.vars in
     let reaches = subst (λ (l : List ℤ). Reaches c.args.values.now c.args.priced.now.rows c.args.sums.now l x) c.as_slice-limits.ensures c.in-Some-find.ensures.reaches in
-    let explained = implied_explained p c.args.values.now c.args.priced.now.rows c.args.priced.now.columns c.args.priced.now.vars.items c.args.sums.now c.requires.kept c.args.trail.now.entries c.args.cost.now x (complement x.lit) shown reaches c.in-Some-find.ensures.within refl in
+    let explained =
+    implied_explained p c.args.values.now c.args.priced.now.rows c.args.priced.now.columns c.args.priced.now.vars.items c.args.sums.now
+    c.requires.kept c.args.trail.now.entries c.args.cost.now x (complement x.lit) shown reaches c.in-Some-find.ensures.within refl in
     subst (λ (i : SaidImplied). IsExplained p (Some c.args.cost.now) c.args.trail.now.entries i.lit × (i.name + 1 ≡ 2 ^ 31)) (sym c.follows.ensures) (explained, refl)

@@ -21,7 +21,9 @@ row-row-requires c = omega (arith, (c.requires.raisers.within c.args.i 0 c.requi
 pub raise-requires-clause-within : goal.raise-requires-clause-within
 raise-requires-clause-within c =
     subst (λ (r : List Place). All (λ (o : Place). o.level < length c.args.sums.now) r) (sym c.row-row.ensures)
-    (left-within c.args.priced.now.origin.value (only (before c.args.trail.now c.args.place) (take c.args.i c.args.raisers.now)) c.args.priced.now.rows c.args.priced.now.columns c.args.priced.now.vars.items c.args.sums.now c.requires.kept (get_or c.args.raisers.now c.args.i 0))
+    (left-within c.args.priced.now.origin.value (only (before c.args.trail.now c.args.place) (take c.args.i c.args.raisers.now))
+    c.args.priced.now.rows c.args.priced.now.columns c.args.priced.now.vars.items c.args.sums.now c.requires.kept
+    (get_or c.args.raisers.now c.args.i 0))
 
 pub raise-requires-clause-small : goal.raise-requires-clause-small
 raise-requires-clause-small c = λ j lt.
@@ -31,7 +33,9 @@ raise-requires-clause-small c = λ j lt.
     omega (
       arith,
       raised_as c.args.priced.now.rows v c.in-Some.truth c.row-row.result.now v c.in-Some.truth c.row-row.ensures refl refl j,
-      raised-small c.args.priced.now.origin.value (only (before c.args.trail.now c.args.place) (take c.args.i c.args.raisers.now)) c.args.priced.now.rows c.args.priced.now.columns c.args.priced.now.vars.items c.args.sums.now c.requires.kept v j c.in-Some.truth var.0 (omega (arith, high, c.requires.vars)) lt,
+      raised-small c.args.priced.now.origin.value (only (before c.args.trail.now c.args.place) (take c.args.i c.args.raisers.now))
+          c.args.priced.now.rows c.args.priced.now.columns c.args.priced.now.vars.items c.args.sums.now c.requires.kept v j c.in-Some.truth var.0
+          (omega (arith, high, c.requires.vars)) lt,
     )
 
 pub raise-requires-clause-room : goal.raise-requires-clause-room
@@ -43,7 +47,9 @@ raise-requires-clause-room c = λ j lt.
       arith,
       ints,
       raised_as c.args.priced.now.rows v c.in-Some.truth c.row-row.result.now v c.in-Some.truth c.row-row.ensures refl refl j,
-      raise-room c.args.priced.now.origin.value (only (before c.args.trail.now c.args.place) (take c.args.i c.args.raisers.now)) c.args.priced.now.rows c.args.priced.now.columns c.args.priced.now.vars.items c.args.sums.now c.requires.kept v c.in-Some.truth var.0 (omega (arith, high, c.requires.vars)) j lt,
+      raise-room c.args.priced.now.origin.value (only (before c.args.trail.now c.args.place) (take c.args.i c.args.raisers.now))
+          c.args.priced.now.rows c.args.priced.now.columns c.args.priced.now.vars.items c.args.sums.now c.requires.kept v c.in-Some.truth var.0
+          (omega (arith, high, c.requires.vars)) j lt,
     )
 
 pub returns-in-Some : goal.returns-in-Some
@@ -51,10 +57,14 @@ returns-in-Some c =
     let v : ℕ = get_or c.args.raisers.now c.args.i 0 in
     let var = c.requires.raisers.within c.args.i 0 c.requires.within in
     let high : v ≤ c.args.trail.now.vars = var.1 in
-    kept_more c.args.priced.now.origin.value (before c.args.trail.now c.args.place) c.args.priced.now.rows c.args.priced.now.columns c.args.priced.now.vars.items c.args.sums.now c.raise.new.sums c.args.raisers.now c.args.i v c.in-Some.truth c.requires.raisers.once c.requires.within refl
+    kept_more c.args.priced.now.origin.value (before c.args.trail.now c.args.place) c.args.priced.now.rows c.args.priced.now.columns
+    c.args.priced.now.vars.items c.args.sums.now c.raise.new.sums c.args.raisers.now c.args.i v c.in-Some.truth c.requires.raisers.once
+    c.requires.within refl
     var.0 (omega (arith, high, c.requires.vars)) (sym c.in-Some.ensures) c.requires.kept c.raise.auto.sums (λ j lt.
     omega (arith, ints, c.raise.ensures j lt, raised_as c.args.priced.now.rows v c.in-Some.truth c.row-row.result.now v c.in-Some.truth c.row-row.ensures refl refl j))
 
 pub returns-in_default : goal.returns-in_default
 returns-in_default c =
-    kept_same c.args.priced.now.origin.value (before c.args.trail.now c.args.place) c.args.priced.now.rows c.args.priced.now.columns c.args.priced.now.vars.items c.args.sums.now c.args.raisers.now c.args.i (get_or c.args.raisers.now c.args.i 0) c.requires.within refl (sym c.in_default.ensures) c.requires.kept
+    kept_same c.args.priced.now.origin.value (before c.args.trail.now c.args.place) c.args.priced.now.rows c.args.priced.now.columns
+    c.args.priced.now.vars.items c.args.sums.now c.args.raisers.now c.args.i (get_or c.args.raisers.now c.args.i 0) c.requires.within refl
+    (sym c.in_default.ensures) c.requires.kept

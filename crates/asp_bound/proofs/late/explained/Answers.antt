@@ -21,11 +21,13 @@ use Rattle.asp_bound.proofs.late.explained.Goals as goal
 
 pub sums_with-requires-clause-var : goal.sums_with-requires-clause-var
 sums_with-requires-clause-var c =
-    (free c.args.priced.now.origin.value c.args.trail.now c.args.place c.args.cost.now c.lit.result c.complement-lit.result c.requires.vars c.requires.explained c.lit.ensures.lit c.complement-lit.ensures).var
+    (free c.args.priced.now.origin.value c.args.trail.now c.args.place c.args.cost.now c.lit.result c.complement-lit.result c.requires.vars
+    c.requires.explained c.lit.ensures.lit c.complement-lit.ensures).var
 
 pub sums_with-requires-clause-none : goal.sums_with-requires-clause-none
 sums_with-requires-clause-none c =
-    (free c.args.priced.now.origin.value c.args.trail.now c.args.place c.args.cost.now c.lit.result c.complement-lit.result c.requires.vars c.requires.explained c.lit.ensures.lit c.complement-lit.ensures).none
+    (free c.args.priced.now.origin.value c.args.trail.now c.args.place c.args.cost.now c.lit.result c.complement-lit.result c.requires.vars
+    c.requires.explained c.lit.ensures.lit c.complement-lit.ensures).none
 
 pub reach-requires-clause-room : goal.reach-requires-clause-room
 reach-requires-clause-room c =
@@ -87,7 +89,9 @@ returns c =
     let are = raisers_before t c.args.place q.rows c.args.raisers.now c.len-len.ensures.ordered c.requires.raisers in
     let moved = subst (IsPermutation (raising_of b q.rows c.in-Some.depth c.args.raisers.now)) (sym c.as_slice.ensures.value) c.in_ok-found.ensures in
     let i : Implied = record { lit = x; depth = c.in-Some.depth } in
-    let reaches = reaches_by p b q.rows q.columns q.vars.items (optimistic p b) kept c.args.cost.now i left c.as_slice-limits.result.now more c.as_slice-limits.ensures here.var here.none c.in-Some.ensures in
+    let reaches = reaches_by p b q.rows q.columns q.vars.items (optimistic p b) kept c.args.cost.now i left c.as_slice-limits.result.now more
+    c.as_slice-limits.ensures here.var here.none c.in-Some.ensures in
     IfOk-weaker c.nogood_by.result _ _ (λ n made.
-    let both = written p t c.args.place q.rows q.columns q.vars.items (optimistic p b) c.args.raisers.now c.len-len.ensures.ordered kept are c.args.cost.now c.lit.result i n found left c.complement-lit.ensures reaches here.var moved more made in
+    let both = written p t c.args.place q.rows q.columns q.vars.items (optimistic p b) c.args.raisers.now c.len-len.ensures.ordered kept are
+    c.args.cost.now c.lit.result i n found left c.complement-lit.ensures reaches here.var moved more made in
     (both.0, λ d. subst (λ (l : Literal). IsReason t.entries c.args.place l n.lits) (c.lit.ensures.lit d) both.1)) c.nogood_by.ensures

@@ -12,4 +12,5 @@ loop-i-init c =
     let b = before c.args.trail.now c.args.place in
     let copied = c.in_ok-sums.ensures.items_if_clones_equal (λ x y q. q) ∙ c.as_slice.ensures.value in
     subst (IsPriced c.args.priced.now (only b (take 0 c.args.raisers.now))) (sym copied)
-    (kept_first p b c.args.priced.now.rows c.args.priced.now.columns c.args.priced.now.vars.items c.args.priced.now.least.items c.args.raisers.now (omega (arith, length_assigned c.args.trail.now.vars (take c.args.place c.args.trail.now.entries), c.requires.vars)) c.requires.tables)
+    (kept_first p b c.args.priced.now.rows c.args.priced.now.columns c.args.priced.now.vars.items c.args.priced.now.least.items c.args.raisers.now
+    (omega (arith, length_assigned c.args.trail.now.vars (take c.args.place c.args.trail.now.entries), c.requires.vars)) c.requires.tables)

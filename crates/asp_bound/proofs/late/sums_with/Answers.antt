@@ -26,14 +26,18 @@ sums_before-requires-clause-raisers c =
 pub raise-requires-clause-within : goal.raise-requires-clause-within
 raise-requires-clause-within c =
     let q : Priced = c.args.priced.now in
-    let kept = copied_before q c.args.trail.now c.args.place c.in_ok-sums.sums.items c.as_mut_slice.result.now c.args.raisers.now c.requires.vars c.len-len.ensures.ordered c.requires.raisers c.in_ok-sums.ensures c.as_mut_slice.ensures.value in
+    let kept =
+    copied_before q c.args.trail.now c.args.place c.in_ok-sums.sums.items c.as_mut_slice.result.now c.args.raisers.now c.requires.vars
+    c.len-len.ensures.ordered c.requires.raisers c.in_ok-sums.ensures c.as_mut_slice.ensures.value in
     subst (λ (o : List Place). All (λ (k : Place). k.level < length c.as_mut_slice.result.now) o) (sym (c.row-row.ensures ∙ ap (row_at q.rows) c.var.ensures))
     (left-within q.origin.value (before c.args.trail.now c.args.place) q.rows q.columns q.vars.items c.as_mut_slice.result.now kept c.args.lit.var)
 
 pub raise-requires-clause-small : goal.raise-requires-clause-small
 raise-requires-clause-small c = λ j lt.
     let q : Priced = c.args.priced.now in
-    let kept = copied_before q c.args.trail.now c.args.place c.in_ok-sums.sums.items c.as_mut_slice.result.now c.args.raisers.now c.requires.vars c.len-len.ensures.ordered c.requires.raisers c.in_ok-sums.ensures c.as_mut_slice.ensures.value in
+    let kept =
+    copied_before q c.args.trail.now c.args.place c.in_ok-sums.sums.items c.as_mut_slice.result.now c.args.raisers.now c.requires.vars
+    c.len-len.ensures.ordered c.requires.raisers c.in_ok-sums.ensures c.as_mut_slice.ensures.value in
     let x = c.args.lit in
     omega (
       arith,
@@ -44,7 +48,9 @@ raise-requires-clause-small c = λ j lt.
 pub raise-requires-clause-room : goal.raise-requires-clause-room
 raise-requires-clause-room c = λ j lt.
     let q : Priced = c.args.priced.now in
-    let kept = copied_before q c.args.trail.now c.args.place c.in_ok-sums.sums.items c.as_mut_slice.result.now c.args.raisers.now c.requires.vars c.len-len.ensures.ordered c.requires.raisers c.in_ok-sums.ensures c.as_mut_slice.ensures.value in
+    let kept =
+    copied_before q c.args.trail.now c.args.place c.in_ok-sums.sums.items c.as_mut_slice.result.now c.args.raisers.now c.requires.vars
+    c.len-len.ensures.ordered c.requires.raisers c.in_ok-sums.ensures c.as_mut_slice.ensures.value in
     let x = c.args.lit in
     omega (
       arith,
@@ -56,10 +62,13 @@ raise-requires-clause-room c = λ j lt.
 pub returns : goal.returns
 returns c =
     let q : Priced = c.args.priced.now in
-    let kept = copied_before q c.args.trail.now c.args.place c.in_ok-sums.sums.items c.as_mut_slice.result.now c.args.raisers.now c.requires.vars c.len-len.ensures.ordered c.requires.raisers c.in_ok-sums.ensures c.as_mut_slice.ensures.value in
+    let kept =
+    copied_before q c.args.trail.now c.args.place c.in_ok-sums.sums.items c.as_mut_slice.result.now c.args.raisers.now c.requires.vars
+    c.len-len.ensures.ordered c.requires.raisers c.in_ok-sums.ensures c.as_mut_slice.ensures.value in
     let x = c.args.lit in
     let left = c.as_mut_slice.result.now in
-    let more = kept_raised q.origin.value (before c.args.trail.now c.args.place) q.rows q.columns q.vars.items left kept x.var x.truth (row_at q.rows x.var) left c.raise.new.sums c.requires.var.0 c.requires.var.1 c.requires.none refl refl c.raise.auto.sums (λ j lt.
+    let more = kept_raised q.origin.value (before c.args.trail.now c.args.place) q.rows q.columns q.vars.items left kept x.var x.truth
+    (row_at q.rows x.var) left c.raise.new.sums c.requires.var.0 c.requires.var.1 c.requires.none refl refl c.raise.auto.sums (λ j lt.
     omega (arith, ints, c.raise.ensures j lt, raised_as q.rows x.var x.truth c.row-row.result.now c.var.result c.truth.result c.row-row.ensures c.var.ensures c.truth.ensures j)) in
     kept_as q.origin.value _ (set (before c.args.trail.now c.args.place) x.var (Some x.truth)) q.rows q.columns q.vars.items c.raise.new.sums _ refl
     (take_at c.raise.new.sums (drop (length c.raise.new.sums) c.in_ok-sums.sums.items) c.in_ok-sums.sums.len (c.raise.auto.sums ∙ c.as_mut_slice.ensures.len)) more

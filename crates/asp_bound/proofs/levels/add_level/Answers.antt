@@ -40,7 +40,9 @@ add_places-requires-clause-few c =
     let middle : c.as_mut_slice-2.result.now ≡ c.sort_by_var.new.additions = c.as_mut_slice-2.ensures.value ∙ take_at c.sort_by_var.new.additions _ len long in
     let length_is : length c.sort.new.additions ≡ len = c.sort.auto.additions ∙ c.as_mut_slice-2.ensures.len in
     let is : c.as_slice-2.result.now ≡ c.sort.new.additions = c.as_slice-2.ensures.value ∙ take_at c.sort.new.additions _ len length_is in
-    let permuted = permuted-twice (additions_to ws (var_count p)) c.in_ok-taken.taken.additions.items c.as_mut_slice.result.now c.sort_by_var.new.additions c.as_mut_slice-2.result.now c.sort.new.additions
+    let permuted =
+    permuted-twice (additions_to ws (var_count p)) c.in_ok-taken.taken.additions.items c.as_mut_slice.result.now c.sort_by_var.new.additions
+    c.as_mut_slice-2.result.now c.sort.new.additions
     c.in_ok-taken.ensures.additions c.as_mut_slice.ensures.value c.sort_by_var.ensures middle c.sort.ensures.permutation in
     omega (arith, ap length is, additions-few_as ws c.sort.new.additions (var_count p) permuted, c.requires.few)
 
@@ -53,9 +55,12 @@ add_places-requires-clause-vars c =
     let middle : c.as_mut_slice-2.result.now ≡ c.sort_by_var.new.additions = c.as_mut_slice-2.ensures.value ∙ take_at c.sort_by_var.new.additions _ len long in
     let length_is : length c.sort.new.additions ≡ len = c.sort.auto.additions ∙ c.as_mut_slice-2.ensures.len in
     let is : c.as_slice-2.result.now ≡ c.sort.new.additions = c.as_slice-2.ensures.value ∙ take_at c.sort.new.additions _ len length_is in
-    let permuted = permuted-twice (additions_to ws (var_count p)) c.in_ok-taken.taken.additions.items c.as_mut_slice.result.now c.sort_by_var.new.additions c.as_mut_slice-2.result.now c.sort.new.additions
+    let permuted =
+    permuted-twice (additions_to ws (var_count p)) c.in_ok-taken.taken.additions.items c.as_mut_slice.result.now c.sort_by_var.new.additions
+    c.as_mut_slice-2.result.now c.sort.new.additions
     c.in_ok-taken.ensures.additions c.as_mut_slice.ensures.value c.sort_by_var.ensures middle c.sort.ensures.permutation in
-    let within = All-weaker (λ (a : Addition). (0 < a.var) × (a.var ≤ var_count p)) (λ (a : Addition). a.var < length c.args.rows.now) (λ a h. omega (arith, h.1, c.requires.rows)) c.sort.new.additions (additions-vars ws c.sort.new.additions (var_count p) permuted) in
+    let within = All-weaker (λ (a : Addition). (0 < a.var) × (a.var ≤ var_count p)) (λ (a : Addition). a.var < length c.args.rows.now)
+    (λ a h. omega (arith, h.1, c.requires.rows)) c.sort.new.additions (additions-vars ws c.sort.new.additions (var_count p) permuted) in
     subst (All (λ (a : Addition). a.var < length c.args.rows.now)) (sym is) within
 
 pub returns-clause-gathered : goal.returns-clause-gathered
@@ -70,8 +75,12 @@ returns-clause-gathered c =
     let middle : c.as_mut_slice-2.result.now ≡ c.sort_by_var.new.additions = c.as_mut_slice-2.ensures.value ∙ take_at c.sort_by_var.new.additions _ len long in
     let length_is : length c.sort.new.additions ≡ len = c.sort.auto.additions ∙ c.as_mut_slice-2.ensures.len in
     let is : c.as_slice-2.result.now ≡ c.sort.new.additions = c.as_slice-2.ensures.value ∙ take_at c.sort.new.additions _ len length_is in
-    let permuted = permuted-twice (additions_to ws (var_count p)) c.in_ok-taken.taken.additions.items c.as_mut_slice.result.now c.sort_by_var.new.additions c.as_mut_slice-2.result.now c.sort.new.additions
+    let permuted =
+    permuted-twice (additions_to ws (var_count p)) c.in_ok-taken.taken.additions.items c.as_mut_slice.result.now c.sort_by_var.new.additions
+    c.as_mut_slice-2.result.now c.sort.new.additions
     c.in_ok-taken.ensures.additions c.as_mut_slice.ensures.value c.sort_by_var.ensures middle c.sort.ensures.permutation in
     let placed = subst (λ (xs : List Addition). ArePlaced c.args.level xs c.args.rows.now c.add_places.new.rows) is c.in_ok-column.ensures.rows in
     let made = c.in_ok-column.ensures.column ∙ ap (map item_of) is in
-    gathered_as p c.args.level c.args.priority ws c.args.rows.now c.add_places.new.rows c.sort.new.additions c.in_ok-column.column.items _ (var_count p) refl are small permuted c.sort.ensures.falling placed made (to_z-of_z w64 c.in_ok-taken.taken.least (search rules) ∙ c.in_ok-taken.ensures.least)
+    gathered_as p c.args.level c.args.priority ws c.args.rows.now c.add_places.new.rows c.sort.new.additions c.in_ok-column.column.items _
+    (var_count p) refl are small permuted c.sort.ensures.falling placed made
+    (to_z-of_z w64 c.in_ok-taken.taken.least (search rules) ∙ c.in_ok-taken.ensures.least)

@@ -23,6 +23,7 @@ loop-index-preserved c =
     let x : Addition = get_or c.args.additions.now c.loop-index.index none in
     let within : c.loop-index.index < length c.args.additions.now = omega arith in
     let inside : x.var < length c.loop-index.rows = omega (arith, c.requires.vars c.loop-index.index none within, c.loop-index.invariant.0.count) in (
-      placed-more c.args.level c.loop-index.index c.args.additions.now c.args.rows.now c.loop-index.rows c.add_place.new.rows none within inside c.loop-index.invariant.0 c.in_ok-add_place.ensures.rows,
+      placed-more c.args.level c.loop-index.index c.args.additions.now c.args.rows.now c.loop-index.rows c.add_place.new.rows none within inside
+          c.loop-index.invariant.0 c.in_ok-add_place.ensures.rows,
       c.in_ok-add_place.ensures.column ∙ (ap (λ (xs : List Item). xs ++ item_of x ∷ []) c.loop-index.invariant.1 ∙ sym (map_more item_of c.args.additions.now c.loop-index.index none within)),
     )

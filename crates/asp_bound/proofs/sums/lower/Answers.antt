@@ -20,7 +20,8 @@ take-requires-clause-room c =
     let lt : c.loop-place.place-index < length c.args.row.now = omega arith in
     let low : o.level < length c.args.sums.now = c.requires.within c.loop-place.place-index none lt in
     let inside : o.level < length c.loop-place.sums = omega arith in
-    lower-fits c.args.sums.now c.loop-place.sums c.args.row.now c.loop-place.place-index c.args.truth none c.rise_by.result (neg_ℤ (pos (2 ^ 60))) lt inside c.loop-place.invariant c.rise_by.ensures (c.requires.room o.level low)
+    lower-fits c.args.sums.now c.loop-place.sums c.args.row.now c.loop-place.place-index c.args.truth none c.rise_by.result (neg_ℤ (pos (2 ^ 60))) lt
+    inside c.loop-place.invariant c.rise_by.ensures (c.requires.room o.level low)
 
 pub loop-place-preserved : goal.loop-place-preserved
 loop-place-preserved c =
@@ -28,4 +29,5 @@ loop-place-preserved c =
     let lt : c.loop-place.place-index < length c.args.row.now = omega arith in
     let low : o.level < length c.args.sums.now = c.requires.within c.loop-place.place-index none lt in
     let inside : o.level < length c.loop-place.sums = omega arith in
-    lower-more c.args.sums.now c.loop-place.sums c.take.new.sums c.args.row.now c.loop-place.place-index c.args.truth none c.rise_by.result lt inside c.loop-place.invariant c.rise_by.ensures c.take.ensures
+    lower-more c.args.sums.now c.loop-place.sums c.take.new.sums c.args.row.now c.loop-place.place-index c.args.truth none c.rise_by.result lt inside
+    c.loop-place.invariant c.rise_by.ensures c.take.ensures

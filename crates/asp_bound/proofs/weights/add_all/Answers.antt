@@ -7,8 +7,15 @@ use Rattle.asp_bound.proofs.weights.add_all.Goals as goal
 
 pub add-requires-clause-room : goal.add-requires-clause-room
 add-requires-clause-room c =
-    let within : c.code.result < length c.loop-literal.weights = omega (arith, code_within c.lit_of-lit.result (var_count c.args.compiled.now) c.lit_of-lit.ensures.within, c.loop-literal.invariant.0.count, c.code.ensures.code) in
-    weights-room c.args.compiled.now c.args.items.now c.loop-literal.weights c.loop-literal.literal-index c.code.result c.loop-literal.invariant.0 c.loop-literal.invariant.1 (omega arith) c.requires.few within
+    let within : c.code.result < length c.loop-literal.weights =
+    omega (
+      arith,
+      code_within c.lit_of-lit.result (var_count c.args.compiled.now) c.lit_of-lit.ensures.within,
+      c.loop-literal.invariant.0.count,
+      c.code.ensures.code,
+    ) in
+    weights-room c.args.compiled.now c.args.items.now c.loop-literal.weights c.loop-literal.literal-index c.code.result c.loop-literal.invariant.0
+    c.loop-literal.invariant.1 (omega arith) c.requires.few within
 
 pub loop-literal-preserved : goal.loop-literal-preserved
 loop-literal-preserved c =

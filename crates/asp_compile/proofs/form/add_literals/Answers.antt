@@ -12,7 +12,8 @@ loop-literal-preserved c =
     let plain = to_z-of_z w32 (get_or ls i (pos 0)) (search rules) in
     let wide = to_z-of_z w64 c.from.result (search rules) in
     let is : c.from.result ≡ get_or ls i (pos 0) = cc (c.from.ensures, plain) in
-    item_behind ls i (pos 0) c.from.result c.args.key.now.items old c.push.new.self.items c.loop-literal-test.true c.loop-literal.invariant (c.in_ok-push.ensures.items ∙ ap (λ (v : ℤ). old ++ v ∷ []) wide) is
+    item_behind ls i (pos 0) c.from.result c.args.key.now.items old c.push.new.self.items c.loop-literal-test.true c.loop-literal.invariant
+    (c.in_ok-push.ensures.items ∙ ap (λ (v : ℤ). old ++ v ∷ []) wide) is
 
 pub returns : goal.returns
 returns c = items_behind c.args.literals.now c.loop-literal.literal-index c.args.key.now.items c.loop-literal.key.items c.loop-literal-test.false c.loop-literal.invariant

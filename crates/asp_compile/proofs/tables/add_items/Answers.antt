@@ -12,7 +12,8 @@ loop-literal-preserved c =
     let items : List (ℤ × ℤ) = c.args.items.now in
     let i : ℕ = c.loop-literal.literal-index in
     let plain = to_z-of_z w32 (get_or items i (pos 0, pos 0)).0 (search rules) in
-    more_behind f items i (pos 0, pos 0) c.lit.result c.args.row.now.items c.loop-literal.row.items c.push.new.self.items c.loop-literal-test.true c.loop-literal.invariant c.in_ok-push.ensures.items (c.lit.ensures ∙ ap (literal_in c.args.atoms.now) plain)
+    more_behind f items i (pos 0, pos 0) c.lit.result c.args.row.now.items c.loop-literal.row.items c.push.new.self.items c.loop-literal-test.true
+    c.loop-literal.invariant c.in_ok-push.ensures.items (c.lit.ensures ∙ ap (literal_in c.args.atoms.now) plain)
 
 pub returns : goal.returns
 returns c =

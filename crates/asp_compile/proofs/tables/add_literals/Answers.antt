@@ -12,7 +12,8 @@ loop-literal-preserved c =
     let ls : List ℤ = c.args.literals.now in
     let i : ℕ = c.loop-literal.literal-index in
     let plain = to_z-of_z w32 (get_or ls i (pos 0)) (search rules) in
-    more_behind f ls i (pos 0) c.lit.result c.args.row.now.items c.loop-literal.row.items c.push.new.self.items c.loop-literal-test.true c.loop-literal.invariant c.in_ok-push.ensures.items (c.lit.ensures ∙ ap f plain)
+    more_behind f ls i (pos 0) c.lit.result c.args.row.now.items c.loop-literal.row.items c.push.new.self.items c.loop-literal-test.true
+    c.loop-literal.invariant c.in_ok-push.ensures.items (c.lit.ensures ∙ ap f plain)
 
 pub returns : goal.returns
 returns c = whole_behind (literal_in c.args.atoms.now) c.args.literals.now c.loop-literal.literal-index c.args.row.now.items c.loop-literal.row.items c.loop-literal-test.false c.loop-literal.invariant

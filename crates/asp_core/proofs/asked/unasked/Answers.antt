@@ -25,6 +25,8 @@ returns c =
     ∙ ap set_of (c.in_ok-push_conditions.ensures ∙ ap (λ (xs : Atoms). xs ++ flat_map (λ (o : Output). map atom_of o.condition) c.program.result.now.outputs) c.new-asked.ensures.items)
     ∙ ap (λ (x : Program). set_of (flat_map (λ (o : Output). map atom_of o.condition) x.outputs)) c.program.ensures.program in
     c.from_ascending.ensures ∙ c.in_ok-atoms.ensures.items ∙ c.unshown.ensures
-    ∙ ap (λ (k : Knowing). unshown k.reasoning k.program k.sets) (c.in_ok-known.ensures ∙ ap (λ (k : Knowing). let m : Knowing = record k { sets = common_sets k.reasoning k.program (k.sets ++ S ∷ []) } in m) c.in_ok-none.ensures)
+    ∙ ap (λ (k : Knowing). unshown k.reasoning k.program k.sets)
+    (c.in_ok-known.ensures ∙ ap (λ (k : Knowing). let m : Knowing = record k { sets = common_sets k.reasoning k.program (k.sets ++ S ∷ []) } in m)
+    c.in_ok-none.ensures)
     ∙ unshown-common r p (S ∷ [])
     ∙ unshown-asked r p S (λ a. ap (λ (X : Atoms). has X a) asked ∙ outputs-have p.outputs a)

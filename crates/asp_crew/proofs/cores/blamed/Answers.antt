@@ -9,4 +9,6 @@ use Rattle.asp_crew.proofs.cores.blamed.Goals as goal
 
 pub add_blamed-requires : goal.add_blamed-requires
 add_blamed-requires c =
-    subst (AllByRecursion (λ l. has (atoms_of c.args.compiled.now) (atom_of l) ≡ true)) (sym (c.as_slice-assumptions.ensures.value ∙ ap (λ (p : Program). p.assumptions) c.program.ensures.program)) (assumptions-stand c.args.compiled.now)
+    subst (AllByRecursion (λ l. has (atoms_of c.args.compiled.now) (atom_of l) ≡ true))
+    (sym (c.as_slice-assumptions.ensures.value ∙ ap (λ (p : Program). p.assumptions) c.program.ensures.program))
+    (assumptions-stand c.args.compiled.now)

@@ -8,7 +8,9 @@ use Rattle.asp_crew.proofs.cores.refutes.Goals as goal
 
 pub returns-then-not-is_plain : goal.returns-then-not-is_plain
 returns-then-not-is_plain c =
-    let b : Board = board c.args.book.now in sym (ap (λ (x : Bool). x && not (is_enough b) && all_closed b.nodes && (is_nothing b.answers && is_none b.best)) (sym c.is_plain.ensures ∙ c.if-not-is_plain.true))
+    let b : Board = board c.args.book.now in sym
+    (ap (λ (x : Bool). x && not (is_enough b) && all_closed b.nodes && (is_nothing b.answers && is_none b.best))
+    (sym c.is_plain.ensures ∙ c.if-not-is_plain.true))
 
 pub has_nothing-requires : goal.has_nothing-requires
 has_nothing-requires c = ap (λ (b : Board). sought b.task.goal) c.state-state.ensures ∙ c.requires ∙ plain-seeks c.args.mode (sym c.is_plain.ensures ∙ c.if-not-is_plain.false)

@@ -43,11 +43,15 @@ returns-clause-finishes g c =
     leased-is c.args.book.now c.lease.new.self c.requires.idle (pool-fits c.args.book.now c.requires.task c.journal-lawful.ensures.lawful c.requires.fits)
     (c.in_ok-fuel.ensures.journal ∙ ap (λ (u : Units). with_events c.args.book.now (leased_out 0 u)) c.in_ok-fuel.ensures.fuel) in
     record {
-      task = task-after c.args.mode c.lease.new.self c.search_all.new.book c.back.new.self c.in_ok-unpaid.ensures.leaves.0 c.search_all.new.fuel c.in_ok-unpaid.unpaid c.in_ok-unpaid.ensures.leaves.1 leased.pool c.back.ensures ∙ leased.task;
+      task = task-after c.args.mode c.lease.new.self c.search_all.new.book c.back.new.self c.in_ok-unpaid.ensures.leaves.0 c.search_all.new.fuel
+          c.in_ok-unpaid.unpaid c.in_ok-unpaid.ensures.leaves.1 leased.pool c.back.ensures ∙ leased.task;
       adds = adds-trans c.args.book.now c.lease.new.self c.back.new.self leased.adds
-          (adds-after c.args.mode c.lease.new.self c.search_all.new.book c.back.new.self c.in_ok-unpaid.ensures.leaves.0 c.search_all.new.fuel c.in_ok-unpaid.unpaid c.in_ok-unpaid.ensures.leaves.1 leased.pool c.back.ensures);
-      idle = idle-after c.args.mode c.lease.new.self c.search_all.new.book c.back.new.self c.in_ok-unpaid.ensures.leaves.0 c.search_all.new.fuel c.in_ok-unpaid.unpaid c.in_ok-unpaid.ensures.leaves.1 leased.pool c.back.ensures;
-      over = finished c.args.mode c.lease.new.self c.search_all.new.book c.back.new.self c.in_ok-unpaid.ensures.leaves.0 c.search_all.new.fuel c.in_ok-unpaid.unpaid c.in_ok-unpaid.ensures.leaves.1 leased.pool c.back.ensures;
+          (adds-after c.args.mode c.lease.new.self c.search_all.new.book c.back.new.self c.in_ok-unpaid.ensures.leaves.0 c.search_all.new.fuel
+          c.in_ok-unpaid.unpaid c.in_ok-unpaid.ensures.leaves.1 leased.pool c.back.ensures);
+      idle = idle-after c.args.mode c.lease.new.self c.search_all.new.book c.back.new.self c.in_ok-unpaid.ensures.leaves.0 c.search_all.new.fuel
+          c.in_ok-unpaid.unpaid c.in_ok-unpaid.ensures.leaves.1 leased.pool c.back.ensures;
+      over = finished c.args.mode c.lease.new.self c.search_all.new.book c.back.new.self c.in_ok-unpaid.ensures.leaves.0 c.search_all.new.fuel
+          c.in_ok-unpaid.unpaid c.in_ok-unpaid.ensures.leaves.1 leased.pool c.back.ensures;
     }
 
 pub returns-in_err-fuel-clause-heard : goal.returns-in_err-fuel-clause-heard

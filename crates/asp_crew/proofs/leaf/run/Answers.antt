@@ -12,7 +12,8 @@ steps-init g c = record {
 
 pub steps-preserved : goal.steps-preserved
 steps-preserved g c = record {
-  along = along-on c.args.mode c.args.book.now c.steps.book c.advance.new.book c.args.search.now c.steps.search c.advance.new.search c.steps.fuel c.advance.new.fuel c.in_ok-course.course c.steps.invariant.along c.in_ok-course.ensures;
+  along = along-on c.args.mode c.args.book.now c.steps.book c.advance.new.book c.args.search.now c.steps.search c.advance.new.search c.steps.fuel
+      c.advance.new.fuel c.in_ok-course.course c.steps.invariant.along c.in_ok-course.ensures;
   heard = g.met.W.Watch.goes_on c.args.watch.now c.steps.watch c.tell.new.watch c.steps.invariant.heard c.tell.ensures;
 }
 
@@ -22,7 +23,8 @@ steps-smaller g c =
 
 pub returns-in-Closed-clause-ends : goal.returns-in-Closed-clause-ends
 returns-in-Closed-clause-ends g c =
-    along-closed c.args.mode c.args.book.now c.steps.book c.advance.new.book c.args.search.now c.steps.search c.advance.new.search c.steps.fuel c.advance.new.fuel c.in-Closed.nogood c.steps.invariant.along
+    along-closed c.args.mode c.args.book.now c.steps.book c.advance.new.book c.args.search.now c.steps.search c.advance.new.search c.steps.fuel
+    c.advance.new.fuel c.in-Closed.nogood c.steps.invariant.along
     (subst (λ (how : Course). Goes c.args.mode c.steps.book c.advance.new.book c.steps.search c.advance.new.search c.steps.fuel c.advance.new.fuel how) c.in-Closed.is c.in_ok-course.ensures)
 
 pub returns-in-Closed-clause-heard : goal.returns-in-Closed-clause-heard
@@ -30,7 +32,8 @@ returns-in-Closed-clause-heard g c = g.met.W.Watch.goes_on c.args.watch.now c.st
 
 pub returns-in-Unpaid-clause-ends : goal.returns-in-Unpaid-clause-ends
 returns-in-Unpaid-clause-ends g c =
-    along-stopped c.args.mode c.args.book.now c.steps.book c.advance.new.book c.args.search.now c.steps.search c.advance.new.search c.steps.fuel c.advance.new.fuel c.in-Unpaid.conflict c.steps.invariant.along
+    along-stopped c.args.mode c.args.book.now c.steps.book c.advance.new.book c.args.search.now c.steps.search c.advance.new.search c.steps.fuel
+    c.advance.new.fuel c.in-Unpaid.conflict c.steps.invariant.along
     (subst (λ (how : Course). Goes c.args.mode c.steps.book c.advance.new.book c.steps.search c.advance.new.search c.steps.fuel c.advance.new.fuel how) c.in-Unpaid.is c.in_ok-course.ensures)
 
 pub returns-in-Unpaid-clause-heard : goal.returns-in-Unpaid-clause-heard

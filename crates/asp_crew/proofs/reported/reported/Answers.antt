@@ -33,4 +33,5 @@ returns-in-Ok-clause-proof c = ap (λ (r : Report). r.proof) c.with_core.ensures
 
 pub returns-in-Ok-clause-core : goal.returns-in-Ok-clause-core
 returns-in-Ok-clause-core c =
-    told-core c.args.compiled.now c.args.ask.mode (board c.args.book) c.told-report.result c.with_core.result c.in-Ok.core c.with_core.ensures c.told-report.ensures.mode (run-seeks c.args.ask c.args.book c.requires.task) c.told-report.ensures.told c.in-Ok.ensures
+    told-core c.args.compiled.now c.args.ask.mode (board c.args.book) c.told-report.result c.with_core.result c.in-Ok.core c.with_core.ensures
+    c.told-report.ensures.mode (run-seeks c.args.ask c.args.book c.requires.task) c.told-report.ensures.told c.in-Ok.ensures

@@ -25,7 +25,8 @@ finish_program-requires-clause-fits g c = omega (arith, ap (λ (t : Task). t.bud
 
 pub returns-in-Ok-clause-ties : goal.returns-in-Ok-clause-ties
 returns-in-Ok-clause-ties g c =
-    searched-is (ties_of c.args.compiled.now c.args.ask (cost c.args.compiled.now c.args.best.now) c.args.budget) c.finish_program.new.book c.told.result (c.in-Ok.ensures.finishes.task ∙ c.in_ok-book.ensures.task) c.told.ensures.lawful c.told.ensures.journal c.told.ensures.told
+    searched-is (ties_of c.args.compiled.now c.args.ask (cost c.args.compiled.now c.args.best.now) c.args.budget) c.finish_program.new.book
+    c.told.result (c.in-Ok.ensures.finishes.task ∙ c.in_ok-book.ensures.task) c.told.ensures.lawful c.told.ensures.journal c.told.ensures.told
 
 pub returns-in_err-bound-clause-heard : goal.returns-in_err-bound-clause-heard
 returns-in_err-bound-clause-heard g c = g.met.W.Watch.begins c.args.watch.now

@@ -13,10 +13,13 @@ pub returns-in_err-write_wanted : goal.returns-in_err-write_wanted
 returns-in_err-write_wanted g c =
     let found = found_text c.args.found in
     let wanted = wanted_text c.args.wanted in
-    writes_fails _ _ _ _ _ _ _ (found ++ wanted) (expected_text c.args.found) (writes_then _ _ _ _ _ _ _ _ found wanted c.in_ok-write_found.ensures c.in_err-write_wanted.ensures) c.from_residual-in_err-write_wanted.ensures.1
+    writes_fails _ _ _ _ _ _ _ (found ++ wanted) (expected_text c.args.found)
+    (writes_then _ _ _ _ _ _ _ _ found wanted c.in_ok-write_found.ensures c.in_err-write_wanted.ensures)
+    c.from_residual-in_err-write_wanted.ensures.1
 
 pub returns : goal.returns
 returns g c =
     let found = found_text c.args.found in
     let wanted = wanted_text c.args.wanted in
-    writes_then _ _ _ _ _ _ _ _ (found ++ wanted) (expected_text c.args.found) (writes_then _ _ _ _ _ _ _ _ found wanted c.in_ok-write_found.ensures c.in_ok-write_wanted.ensures) c.write_expected.ensures
+    writes_then _ _ _ _ _ _ _ _ (found ++ wanted) (expected_text c.args.found)
+    (writes_then _ _ _ _ _ _ _ _ found wanted c.in_ok-write_found.ensures c.in_ok-write_wanted.ensures) c.write_expected.ensures

@@ -16,9 +16,12 @@ returns-in_err-write g c =
 pub returns-in_err-write_three : goal.returns-in_err-write_three
 returns-in_err-write_three g c =
     let noun = c.args.noun.now in
-    writes_fails _ _ _ _ _ _ _ (noun ++ middle c.args.low.now) (last c.args.high.now) (writes_then _ _ _ _ _ _ _ _ noun (middle c.args.low.now) c.in_ok-write.ensures c.in_err-write_three.ensures) c.from_residual-in_err-write_three.ensures.1
+    writes_fails _ _ _ _ _ _ _ (noun ++ middle c.args.low.now) (last c.args.high.now)
+    (writes_then _ _ _ _ _ _ _ _ noun (middle c.args.low.now) c.in_ok-write.ensures c.in_err-write_three.ensures)
+    c.from_residual-in_err-write_three.ensures.1
 
 pub returns : goal.returns
 returns g c =
     let noun = c.args.noun.now in
-    writes_then _ _ _ _ _ _ _ _ (noun ++ middle c.args.low.now) (last c.args.high.now) (writes_then _ _ _ _ _ _ _ _ noun (middle c.args.low.now) c.in_ok-write.ensures c.in_ok-write_three.ensures) c.write_both.ensures
+    writes_then _ _ _ _ _ _ _ _ (noun ++ middle c.args.low.now) (last c.args.high.now)
+    (writes_then _ _ _ _ _ _ _ _ noun (middle c.args.low.now) c.in_ok-write.ensures c.in_ok-write_three.ensures) c.write_both.ensures

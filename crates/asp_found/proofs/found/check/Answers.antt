@@ -23,7 +23,8 @@ returns-then-is_stable c =
     let reasoned : list_all (λ a. not (has S a) || is_supported p S a) (atoms_of p) ≡ true =
     subst (λ (o : Option Nogood). MatchOption o (list_all (λ a. not (has S a) || is_supported p S a) (atoms_of p) ≡ true) (IsBroken p S)) c.in_default-3.is c.in_ok-nogood-3.ensures in
     let empty : eqb (length c.in_ok-others.others.items) 0 ≡ true = ap (λ (xs : List ℕ). eqb (length xs) 0) (sym c.as_slice-5.ensures.value) ∙ sym c.is_empty-is_stable.ensures ∙ c.if-is_stable.true in
-    check_stable p S (least_model p S) c.in_ok-others.others.items c.program-program.ensures.sound (subst IsAscending c.as_slice-atoms.ensures.value c.as_slice-atoms.ensures.ascending) kept reasoned refl c.in_ok-others.ensures empty
+    check_stable p S (least_model p S) c.in_ok-others.others.items c.program-program.ensures.sound
+    (subst IsAscending c.as_slice-atoms.ensures.value c.as_slice-atoms.ensures.ascending) kept reasoned refl c.in_ok-others.ensures empty
 
 pub returns : goal.returns
 returns c =
@@ -33,6 +34,8 @@ returns c =
     subst (λ (o : Option Nogood). MatchOption o (list_all (keeps S) (rules_in_force p) ≡ true) (IsBroken p S)) c.in_default-2.is c.in_ok-nogood-2.ensures in
     let reasoned : list_all (λ a. not (has S a) || is_supported p S a) (atoms_of p) ≡ true =
     subst (λ (o : Option Nogood). MatchOption o (list_all (λ a. not (has S a) || is_supported p S a) (atoms_of p) ≡ true) (IsBroken p S)) c.in_default-3.is c.in_ok-nogood-3.ensures in
-    let some : eqb (length c.in_ok-others.others.items) 0 ≡ false = ap (λ (xs : List ℕ). eqb (length xs) 0) (sym c.as_slice-5.ensures.value) ∙ sym c.is_empty-is_stable.ensures ∙ c.if-is_stable.false in
-    let found = check_unfounded p S (least_model p S) c.in_ok-others.others.items c.program-program.ensures.sound (subst IsAscending c.as_slice-atoms.ensures.value c.as_slice-atoms.ensures.ascending) kept reasoned refl c.in_ok-others.ensures some in
+    let some : eqb (length c.in_ok-others.others.items) 0 ≡ false =
+    ap (λ (xs : List ℕ). eqb (length xs) 0) (sym c.as_slice-5.ensures.value) ∙ sym c.is_empty-is_stable.ensures ∙ c.if-is_stable.false in
+    let found = check_unfounded p S (least_model p S) c.in_ok-others.others.items c.program-program.ensures.sound
+    (subst IsAscending c.as_slice-atoms.ensures.value c.as_slice-atoms.ensures.ascending) kept reasoned refl c.in_ok-others.ensures some in
     subst (λ (U : Atoms). HasUnfounded p S U × (is_stable p S ≡ false)) (sym c.from_vec.ensures) found

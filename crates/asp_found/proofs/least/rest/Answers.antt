@@ -25,5 +25,7 @@ returns c =
     let len : c.in_ok-marks.marks.len ≡ length c.in_ok-marks.marks.items = omega (arith, c.in_ok-marks.marks.ok.0) in
     let before = c.in_ok-marks.ensures in
     let written = written_back marks c.in_ok-marks.marks.items c.in_ok-marks.marks.len len (h.size ∙ sym before.size) in
-    IfOk-weaker c.underived-2.result _ _ (λ others is. closed_rest p S c.args.truths.now marks c.close.new.found.items others.items c.program-program.ensures.sound c.requires.kept (values_show p S c.args.truths.now c.requires.truths) h c.in_ok-close.ensures.closed
+    IfOk-weaker c.underived-2.result _ _
+    (λ others is. closed_rest p S c.args.truths.now marks c.close.new.found.items others.items c.program-program.ensures.sound c.requires.kept
+    (values_show p S c.args.truths.now c.requires.truths) h c.in_ok-close.ensures.closed
     (is ∙ ap (λ (m : List Bool). filter (λ a. not (has (shown p m) a)) S) (c.as_slice-3.ensures.value ∙ written))) c.underived-2.ensures

@@ -9,4 +9,5 @@ returns-then-stands_at c =
 
 pub returns-else-stands_at : goal.returns-else-stands_at
 returns-else-stands_at c =
-    c.if-stands_at.false ∙ derived_nowhere c.args.compiled.now c.args.derived.now c.as_slice.result.now c.args.atom (c.as_slice.ensures.value ∙ c.atoms.ensures) (sym c.stands_at.ensures.has ∙ c.if-stands_at.false)
+    c.if-stands_at.false ∙ derived_nowhere c.args.compiled.now c.args.derived.now c.as_slice.result.now c.args.atom
+    (c.as_slice.ensures.value ∙ c.atoms.ensures) (sym c.stands_at.ensures.has ∙ c.if-stands_at.false)

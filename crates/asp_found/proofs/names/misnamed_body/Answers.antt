@@ -15,7 +15,9 @@ returns-then-is_met-holds c =
     let j : ℕ = c.loop-body.body in
     let count = c.body_count-body-end.ensures.count in
     let lt : j < length (bodies_of p) = omega (arith, count, c.loop-body-test.true) in
-    let differs : is_true c.args.truths.now (literal_of_form p (nth_body p j)) ≡ not c.holds-holds.result = ap (is_true c.args.truths.now) (sym c.body_lit.ensures.lit) ∙ sym c.is_met.ensures ∙ differ_is c.is_met.result c.holds-holds.result c.if-is_met-holds.true in
+    let differs : is_true c.args.truths.now (literal_of_form p (nth_body p j)) ≡ not c.holds-holds.result =
+    ap (is_true c.args.truths.now) (sym c.body_lit.ensures.lit) ∙ sym c.is_met.ensures
+    ∙ differ_is c.is_met.result c.holds-holds.result c.if-is_met-holds.true in
     subst (λ (n : Nogood). IsBroken p S n) (sym c.in_ok-nogood.ensures)
     (misnamed_broken p S c.args.truths.now j c.holds-holds.result c.program-program.ensures.sound c.requires lt c.holds-holds.ensures differs)
 

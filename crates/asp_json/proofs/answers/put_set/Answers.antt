@@ -6,12 +6,20 @@ use Rattle.asp_json.specs.Quoting.{quoted}
 use Rattle.asp_json.proofs.answers.put_set.Goals as goal
 
 pub returns-in_err-put_set_value : goal.returns-in_err-put_set_value
-returns-in_err-put_set_value g c = puts_same _ _ _ _ _ (puts_fails _ _ _ _ _ (codes "\n{\"Value\":" ++ array (map quoted (shown c.args.program.now c.args.set.now))) (costs_text c.args.cost.now ++ codes "}") (c.in_err-put_set_value.ensures) c.from_residual.ensures.1) (sym (append_assoc (codes "\n{\"Value\":" ++ array (map quoted (shown c.args.program.now c.args.set.now))) (costs_text c.args.cost.now) (codes "}")))
+returns-in_err-put_set_value g c = puts_same _ _ _ _ _
+    (puts_fails _ _ _ _ _ (codes "\n{\"Value\":" ++ array (map quoted (shown c.args.program.now c.args.set.now)))
+    (costs_text c.args.cost.now ++ codes "}") (c.in_err-put_set_value.ensures) c.from_residual.ensures.1)
+    (sym (append_assoc (codes "\n{\"Value\":" ++ array (map quoted (shown c.args.program.now c.args.set.now))) (costs_text c.args.cost.now)
+    (codes "}")))
 
 pub returns-in_err-put_costs : goal.returns-in_err-put_costs
 returns-in_err-put_costs g c =
-    puts_fails _ _ _ _ _ (codes "\n{\"Value\":" ++ array (map quoted (shown c.args.program.now c.args.set.now)) ++ costs_text c.args.cost.now) (codes "}") (puts_then _ _ _ _ _ (codes "\n{\"Value\":" ++ array (map quoted (shown c.args.program.now c.args.set.now))) (costs_text c.args.cost.now) (c.in_ok-put_set_value.ensures) (c.in_err-put_costs.ensures)) c.from_residual-in_err-put_costs.ensures.1
+    puts_fails _ _ _ _ _ (codes "\n{\"Value\":" ++ array (map quoted (shown c.args.program.now c.args.set.now)) ++ costs_text c.args.cost.now)
+    (codes "}") (puts_then _ _ _ _ _ (codes "\n{\"Value\":" ++ array (map quoted (shown c.args.program.now c.args.set.now)))
+    (costs_text c.args.cost.now) (c.in_ok-put_set_value.ensures) (c.in_err-put_costs.ensures)) c.from_residual-in_err-put_costs.ensures.1
 
 pub returns : goal.returns
 returns g c =
-    puts_then _ _ _ _ _ (codes "\n{\"Value\":" ++ array (map quoted (shown c.args.program.now c.args.set.now)) ++ costs_text c.args.cost.now) (codes "}") (puts_then _ _ _ _ _ (codes "\n{\"Value\":" ++ array (map quoted (shown c.args.program.now c.args.set.now))) (costs_text c.args.cost.now) (c.in_ok-put_set_value.ensures) (c.in_ok-put_costs.ensures)) (c.put.ensures)
+    puts_then _ _ _ _ _ (codes "\n{\"Value\":" ++ array (map quoted (shown c.args.program.now c.args.set.now)) ++ costs_text c.args.cost.now)
+    (codes "}") (puts_then _ _ _ _ _ (codes "\n{\"Value\":" ++ array (map quoted (shown c.args.program.now c.args.set.now)))
+    (costs_text c.args.cost.now) (c.in_ok-put_set_value.ensures) (c.in_ok-put_costs.ensures)) (c.put.ensures)

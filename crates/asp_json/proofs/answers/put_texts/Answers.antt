@@ -9,8 +9,10 @@ loop-i-init g c = midway_start _ _ _ refl
 
 pub returns-in_err-any : goal.returns-in_err-any
 returns-in_err-any g c = midway_fails _ _ _ _ _ _ _ _ _ _ c.loop-i.invariant c.in_err-any.ensures.puts
-    (texts-turn (g.A.Answer.set c.args.answer.now) c.loop-i.any _ c.args.outputs.now c.loop-i.i (output_seen c.output.result) (omega (arith, c.loop-i-test.true, c.len-i-end.ensures)) c.output.ensures refl) c.from_residual.ensures.1
+    (texts-turn (g.A.Answer.set c.args.answer.now) c.loop-i.any _ c.args.outputs.now c.loop-i.i (output_seen c.output.result)
+    (omega (arith, c.loop-i-test.true, c.len-i-end.ensures)) c.output.ensures refl) c.from_residual.ensures.1
 
 pub loop-i-preserved : goal.loop-i-preserved
 loop-i-preserved g c = midway_more _ _ _ _ _ _ _ _ c.loop-i.invariant c.in_ok-any.ensures.puts
-    (texts-turn (g.A.Answer.set c.args.answer.now) c.loop-i.any c.in_ok-any.any c.args.outputs.now c.loop-i.i (output_seen c.output.result) (omega (arith, c.loop-i-test.true, c.len-i-end.ensures)) c.output.ensures c.in_ok-any.ensures.any)
+    (texts-turn (g.A.Answer.set c.args.answer.now) c.loop-i.any c.in_ok-any.any c.args.outputs.now c.loop-i.i (output_seen c.output.result)
+    (omega (arith, c.loop-i-test.true, c.len-i-end.ensures)) c.output.ensures c.in_ok-any.ensures.any)

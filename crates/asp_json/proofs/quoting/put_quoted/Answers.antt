@@ -8,8 +8,11 @@ returns-in_err-put g c = puts_fails _ _ _ _ _ (34 ∷ []) (flat_map escaped c.ar
 
 pub returns-in_err-put_escaped : goal.returns-in_err-put_escaped
 returns-in_err-put_escaped g c =
-    puts_fails _ _ _ _ _ (34 ∷ [] ++ flat_map escaped c.args.text.now) (34 ∷ []) (puts_then _ _ _ _ _ (34 ∷ []) (flat_map escaped c.args.text.now) (c.in_ok-put.ensures) (c.in_err-put_escaped.ensures)) c.from_residual-in_err-put_escaped.ensures.1
+    puts_fails _ _ _ _ _ (34 ∷ [] ++ flat_map escaped c.args.text.now) (34 ∷ [])
+    (puts_then _ _ _ _ _ (34 ∷ []) (flat_map escaped c.args.text.now) (c.in_ok-put.ensures) (c.in_err-put_escaped.ensures))
+    c.from_residual-in_err-put_escaped.ensures.1
 
 pub returns : goal.returns
 returns g c =
-    puts_then _ _ _ _ _ (34 ∷ [] ++ flat_map escaped c.args.text.now) (34 ∷ []) (puts_then _ _ _ _ _ (34 ∷ []) (flat_map escaped c.args.text.now) (c.in_ok-put.ensures) (c.in_ok-put_escaped.ensures)) (c.put-2.ensures)
+    puts_then _ _ _ _ _ (34 ∷ [] ++ flat_map escaped c.args.text.now) (34 ∷ [])
+    (puts_then _ _ _ _ _ (34 ∷ []) (flat_map escaped c.args.text.now) (c.in_ok-put.ensures) (c.in_ok-put_escaped.ensures)) (c.put-2.ensures)

@@ -8,4 +8,5 @@ pub loop-i-preserved : goal.loop-i-preserved
 loop-i-preserved c =
     let o : Output = output_seen c.output-output.result in
     c.in_ok-push.ensures.ok
-    ∙ outputs_more c.args.outputs.now _ c.loop-i.i o _ (omega (arith, c.loop-i-test.true, c.len-i-end.ensures)) c.output-output.ensures (view-quoted o _ (c.as_slice.ensures.value ∙ c.in_ok-text.ensures)) c.loop-i.invariant
+    ∙ outputs_more c.args.outputs.now _ c.loop-i.i o _ (omega (arith, c.loop-i-test.true, c.len-i-end.ensures)) c.output-output.ensures
+    (view-quoted o _ (c.as_slice.ensures.value ∙ c.in_ok-text.ensures)) c.loop-i.invariant

@@ -8,12 +8,21 @@ use Rattle.asp_json.proofs.ListLaws.{texts-joined}
 use Rattle.asp_json.proofs.text.put_consequences.Goals as goal
 
 pub returns-in_err-put : goal.returns-in_err-put
-returns-in_err-put g c = puts_fails _ _ _ _ _ (codes ",\"Consequences\":[") (join_with_byte 44 (map quoted (shown c.args.program.now c.args.known.now)) ++ codes "]") (c.in_err-put.ensures) c.from_residual.ensures.1
+returns-in_err-put g c = puts_fails _ _ _ _ _ (codes ",\"Consequences\":[")
+    (join_with_byte 44 (map quoted (shown c.args.program.now c.args.known.now)) ++ codes "]") (c.in_err-put.ensures) c.from_residual.ensures.1
 
 pub returns-in_err-put_texts : goal.returns-in_err-put_texts
 returns-in_err-put_texts g c =
-    puts_same _ _ _ _ _ (puts_fails _ _ _ _ _ (codes ",\"Consequences\":[" ++ pieces 44 c.args.known.now false (map quoted_output c.args.program.now.outputs)) (codes "]") (puts_then _ _ _ _ _ (codes ",\"Consequences\":[") (pieces 44 c.args.known.now false (map quoted_output c.args.program.now.outputs)) (c.in_ok-put.ensures) (c.in_err-put_texts.ensures)) c.from_residual-in_err-put_texts.ensures.1) (ap (λ (t : List ℕ). codes ",\"Consequences\":[" ++ (t ++ codes "]")) (texts-joined c.args.program.now c.args.known.now))
+    puts_same _ _ _ _ _ (puts_fails _ _ _ _ _
+    (codes ",\"Consequences\":[" ++ pieces 44 c.args.known.now false (map quoted_output c.args.program.now.outputs)) (codes "]")
+    (puts_then _ _ _ _ _ (codes ",\"Consequences\":[") (pieces 44 c.args.known.now false (map quoted_output c.args.program.now.outputs))
+    (c.in_ok-put.ensures) (c.in_err-put_texts.ensures)) c.from_residual-in_err-put_texts.ensures.1)
+    (ap (λ (t : List ℕ). codes ",\"Consequences\":[" ++ (t ++ codes "]")) (texts-joined c.args.program.now c.args.known.now))
 
 pub returns : goal.returns
 returns g c =
-    puts_same _ _ _ _ _ (puts_then _ _ _ _ _ (codes ",\"Consequences\":[" ++ pieces 44 c.args.known.now false (map quoted_output c.args.program.now.outputs)) (codes "]") (puts_then _ _ _ _ _ (codes ",\"Consequences\":[") (pieces 44 c.args.known.now false (map quoted_output c.args.program.now.outputs)) (c.in_ok-put.ensures) (c.in_ok-put_texts.ensures)) (c.put-2.ensures)) (ap (λ (t : List ℕ). codes ",\"Consequences\":[" ++ (t ++ codes "]")) (texts-joined c.args.program.now c.args.known.now))
+    puts_same _ _ _ _ _ (puts_then _ _ _ _ _
+    (codes ",\"Consequences\":[" ++ pieces 44 c.args.known.now false (map quoted_output c.args.program.now.outputs)) (codes "]")
+    (puts_then _ _ _ _ _ (codes ",\"Consequences\":[") (pieces 44 c.args.known.now false (map quoted_output c.args.program.now.outputs))
+    (c.in_ok-put.ensures) (c.in_ok-put_texts.ensures)) (c.put-2.ensures)) (ap (λ (t : List ℕ). codes ",\"Consequences\":["
+    ++ (t ++ codes "]")) (texts-joined c.args.program.now c.args.known.now))

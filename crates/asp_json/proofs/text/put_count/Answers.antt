@@ -7,8 +7,12 @@ returns-in_err-put g c = puts_fails _ _ _ _ _ (codes ",\"Models\":{\"Number\":")
 
 pub returns-in_err-put_number : goal.returns-in_err-put_number
 returns-in_err-put_number g c =
-    puts_fails _ _ _ _ _ (codes ",\"Models\":{\"Number\":" ++ decimal c.args.count) (codes ",\"More\":\"") (puts_then _ _ _ _ _ (codes ",\"Models\":{\"Number\":") (decimal c.args.count) (c.in_ok-put.ensures) (c.in_err-put_number.ensures)) c.from_residual-in_err-put_number.ensures.1
+    puts_fails _ _ _ _ _ (codes ",\"Models\":{\"Number\":" ++ decimal c.args.count)
+    (codes
+    ",\"More\":\"") (puts_then _ _ _ _ _ (codes ",\"Models\":{\"Number\":") (decimal c.args.count) (c.in_ok-put.ensures) (c.in_err-put_number.ensures)) c.from_residual-in_err-put_number.ensures.1
 
 pub returns : goal.returns
 returns g c =
-    puts_then _ _ _ _ _ (codes ",\"Models\":{\"Number\":" ++ decimal c.args.count) (codes ",\"More\":\"") (puts_then _ _ _ _ _ (codes ",\"Models\":{\"Number\":") (decimal c.args.count) (c.in_ok-put.ensures) (c.in_ok-put_number.ensures)) (c.put-2.ensures)
+    puts_then _ _ _ _ _ (codes ",\"Models\":{\"Number\":" ++ decimal c.args.count)
+    (codes
+    ",\"More\":\"") (puts_then _ _ _ _ _ (codes ",\"Models\":{\"Number\":") (decimal c.args.count) (c.in_ok-put.ensures) (c.in_ok-put_number.ensures)) (c.put-2.ensures)

@@ -4,12 +4,20 @@ use Rattle.asp_json.specs.Json.{result_word}
 use Rattle.asp_json.proofs.text.put_result.Goals as goal
 
 pub returns-in_err-put : goal.returns-in_err-put
-returns-in_err-put g c = puts_fails _ _ _ _ _ (codes ",\"Result\":\"") (result_word c.args.results.now.end c.args.results.now.mode c.args.count ++ codes "\"") (c.in_err-put.ensures) c.from_residual.ensures.1
+returns-in_err-put g c =
+    puts_fails _ _ _ _ _ (codes ",\"Result\":\"") (result_word c.args.results.now.end c.args.results.now.mode c.args.count ++ codes "\"")
+    (c.in_err-put.ensures) c.from_residual.ensures.1
 
 pub returns-in_err-put-2 : goal.returns-in_err-put-2
 returns-in_err-put-2 g c =
-    puts_fails _ _ _ _ _ (codes ",\"Result\":\"" ++ result_word c.args.results.now.end c.args.results.now.mode c.args.count) (codes "\"") (puts_then _ _ _ _ _ (codes ",\"Result\":\"") (result_word c.args.results.now.end c.args.results.now.mode c.args.count) (c.in_ok-put.ensures) (rw c.result_word.ensures at c.in_err-put-2.ensures)) c.from_residual-in_err-put-2.ensures.1
+    puts_fails _ _ _ _ _ (codes ",\"Result\":\"" ++ result_word c.args.results.now.end c.args.results.now.mode c.args.count) (codes "\"")
+    (puts_then _ _ _ _ _
+    (codes
+    ",\"Result\":\"") (result_word c.args.results.now.end c.args.results.now.mode c.args.count) (c.in_ok-put.ensures) (rw c.result_word.ensures at c.in_err-put-2.ensures)) c.from_residual-in_err-put-2.ensures.1
 
 pub returns : goal.returns
 returns g c =
-    puts_then _ _ _ _ _ (codes ",\"Result\":\"" ++ result_word c.args.results.now.end c.args.results.now.mode c.args.count) (codes "\"") (puts_then _ _ _ _ _ (codes ",\"Result\":\"") (result_word c.args.results.now.end c.args.results.now.mode c.args.count) (c.in_ok-put.ensures) (rw c.result_word.ensures at c.in_ok-put-2.ensures)) (c.put-3.ensures)
+    puts_then _ _ _ _ _ (codes ",\"Result\":\"" ++ result_word c.args.results.now.end c.args.results.now.mode c.args.count) (codes "\"")
+    (puts_then _ _ _ _ _
+    (codes
+    ",\"Result\":\"") (result_word c.args.results.now.end c.args.results.now.mode c.args.count) (c.in_ok-put.ensures) (rw c.result_word.ensures at c.in_ok-put-2.ensures)) (c.put-3.ensures)

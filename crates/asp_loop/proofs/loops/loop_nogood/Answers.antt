@@ -20,8 +20,12 @@ returns-then-excused c =
     let of_U = vars_are p c.args.u.now c.in_ok-vars.vars c.requires.stand c.in_ok-vars.ensures in
     let added = subst (λ (b : Bool). AreAdded p c.args.assign.now c.in_ok-vars.vars c.in_ok-bodies.bodies c.push.new.self c.add_parts.new.lits b) c.if-excused.true
     (subst (λ (xs : List ℕ). AreAdded p c.args.assign.now c.in_ok-vars.vars xs c.push.new.self c.add_parts.new.lits c.in_ok-excused.excused) c.as_slice.ensures.value c.in_ok-excused.ensures) in
-    let first : c.push.new.self ≡ T (var_of_atom p c.args.a) ∷ [] = c.in_ok-push.ensures.ok ∙ ap (λ (ls : List Literal). ls ++ c.new.result ∷ []) c.new-lits.ensures ∙ ap (λ (l : Literal). l ∷ []) (c.new.ensures ∙ ap T c.atom_var.ensures.var) in
-    loop_nogood_is p c.args.assign.now c.args.u.now c.in_ok-bodies.bodies c.args.a c.push.new.self c.add_parts.new.lits c.program-program.ensures.sound c.requires.member (member_stands p c.args.u.now c.args.a c.requires.stand c.requires.member) c.in_ok-bodies.ensures first (added c.args.u.now of_U)
+    let first : c.push.new.self ≡ T (var_of_atom p c.args.a) ∷ [] =
+    c.in_ok-push.ensures.ok ∙ ap (λ (ls : List Literal). ls ++ c.new.result ∷ []) c.new-lits.ensures
+    ∙ ap (λ (l : Literal). l ∷ []) (c.new.ensures ∙ ap T c.atom_var.ensures.var) in
+    loop_nogood_is p c.args.assign.now c.args.u.now c.in_ok-bodies.bodies c.args.a c.push.new.self c.add_parts.new.lits
+    c.program-program.ensures.sound c.requires.member (member_stands p c.args.u.now c.args.a c.requires.stand c.requires.member)
+    c.in_ok-bodies.ensures first (added c.args.u.now of_U)
 
 pub returns : goal.returns
 returns c =

@@ -25,4 +25,5 @@ pub returns-then-is_closed : goal.returns-then-is_closed
 returns-then-is_closed c =
     let p : Program = c.args.compiled.now in
     let S : Atoms = c.args.set.now in
-    sym (closed_unstable p S c.look_at_all.new.values c.program-program.ensures.sound (c.look_at_all.ensures.founded S c.in_ok-values.ensures.founded) (sym c.if-is_closed.ensures) (c.if-is_whole.ensures.no refl))
+    sym (closed_unstable p S c.look_at_all.new.values c.program-program.ensures.sound (c.look_at_all.ensures.founded S c.in_ok-values.ensures.founded)
+    (sym c.if-is_closed.ensures) (c.if-is_whole.ensures.no refl))

@@ -7,4 +7,5 @@ returns-then-not-held c = founds_itself c.args.compiled.now c.args.values.now
 
 pub returns : goal.returns
 returns c =
-    founds_more c.args.compiled.now c.args.values.now c.derive_all.new.values c.heads.result.now c.args.body c.program-program.ensures.sound (omega arith) c.heads.ensures.heads (sym c.holds-held.ensures ∙ c.if-not-held.false) c.derive_all.ensures
+    founds_more c.args.compiled.now c.args.values.now c.derive_all.new.values c.heads.result.now c.args.body c.program-program.ensures.sound
+    (omega arith) c.heads.ensures.heads (sym c.holds-held.ensures ∙ c.if-not-held.false) c.derive_all.ensures

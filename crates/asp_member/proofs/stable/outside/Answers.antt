@@ -13,7 +13,8 @@ loop-i-preserved c =
     let same = c.as_slice-atoms.ensures.value ∙ c.atoms.ensures in
     let inside = c.stands_at.ensures.has ∙ ap (λ (U : Atoms). has U (get_or atoms i 0)) c.as_slice-inside.ensures.value in
     record {
-      outside = outside_more c.args.compiled.now c.args.set.now x c.exclude.new.values i (get_or atoms i 0) (let n = ap length same in omega (arith, n, c.loop-i-test.true, c.atom_count-i-end.ensures.count)) (ap (λ (L : Atoms). get_or L i 0) same)
+      outside = outside_more c.args.compiled.now c.args.set.now x c.exclude.new.values i (get_or atoms i 0)
+          (let n = ap length same in omega (arith, n, c.loop-i-test.true, c.atom_count-i-end.ensures.count)) (ap (λ (L : Atoms). get_or L i 0) same)
           (c.exclude.ensures ∙ ap (λ b. cond b x (set x (i + 1) (Some false))) inside) c.loop-i.invariant.outside;
       within = c.skip-place.ensures.within;
       below = λ more. next_below atoms c.as_slice-inside.result.now i c.skip-place.result c.as_slice-atoms.ensures.ascending more c.skip-place.ensures.before;

@@ -6,7 +6,8 @@ pub returns-in_err-put : goal.returns-in_err-put
 returns-in_err-put g c = puts_fails _ _ _ _ _ (codes "Answer: ") (decimal c.args.number ++ 10 ∷ []) c.in_err-put.ensures c.from_residual.ensures.1
 
 pub returns-in_err-put_number : goal.returns-in_err-put_number
-returns-in_err-put_number g c = puts_fails _ _ _ _ _ (codes "Answer: " ++ decimal c.args.number) (10 ∷ []) (puts_then _ _ _ _ _ _ _ c.in_ok-put.ensures c.in_err-put_number.ensures) c.from_residual-in_err-put_number.ensures.1
+returns-in_err-put_number g c = puts_fails _ _ _ _ _ (codes "Answer: " ++ decimal c.args.number) (10 ∷ [])
+    (puts_then _ _ _ _ _ _ _ c.in_ok-put.ensures c.in_err-put_number.ensures) c.from_residual-in_err-put_number.ensures.1
 
 pub returns : goal.returns
 returns g c = puts_then _ _ _ _ _ _ _ (puts_then _ _ _ _ _ (codes "Answer: ") (decimal c.args.number) c.in_ok-put.ensures c.in_ok-put_number.ensures) c.put-2.ensures

@@ -16,7 +16,8 @@ returns-in_err-put g c =
     let inv = c.loop-from.invariant in
     let e = c.run_end-to.ensures in
     midway_fails _ _ _ _ _ _ _ _ _ _ inv.text c.in_err-put.ensures
-    (run_turn c.args.table.now.between c.args.row.now.set c.args.outputs.now c.loop-from.any c.loop-from.from c.run_end-to.result (inv.shown (omega (arith, c.loop-from-test.true, c.len.ensures))) e.more e.within e.run
+    (run_turn c.args.table.now.between c.args.row.now.set c.args.outputs.now c.loop-from.any c.loop-from.from c.run_end-to.result
+    (inv.shown (omega (arith, c.loop-from-test.true, c.len.ensures))) e.more e.within e.run
     ∙ ap (λ (t : List ℕ). t ++ pieces c.args.table.now.between c.args.row.now.set true (drop c.run_end-to.result c.args.outputs.now)) (sym c.texts.ensures)) c.from_residual.ensures.1
 
 pub loop-from-preserved : goal.loop-from-preserved
@@ -26,7 +27,8 @@ loop-from-preserved g c =
     let next = c.first_shown-from-in-loop-from.ensures in
     record {
       text = midway_more _ _ _ _ _ _ _ _ inv.text c.in_ok-put.ensures
-          (run_turn c.args.table.now.between c.args.row.now.set c.args.outputs.now c.loop-from.any c.loop-from.from c.run_end-to.result (inv.shown (omega (arith, c.loop-from-test.true, c.len.ensures))) e.more e.within e.run
+          (run_turn c.args.table.now.between c.args.row.now.set c.args.outputs.now c.loop-from.any c.loop-from.from c.run_end-to.result
+          (inv.shown (omega (arith, c.loop-from-test.true, c.len.ensures))) e.more e.within e.run
           ∙ ap (λ (t : List ℕ). t ++ pieces c.args.table.now.between c.args.row.now.set true (drop c.run_end-to.result c.args.outputs.now)) (sym c.texts.ensures)
           ∙ ap (λ (t : List ℕ). c.texts.result.now ++ t) (sym (next.passes true)));
       within = next.within;

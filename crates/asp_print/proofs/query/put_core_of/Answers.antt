@@ -11,7 +11,11 @@ returns-in_err-put g c =
 
 pub returns-in_err-put_literals : goal.returns-in_err-put_literals
 returns-in_err-put_literals g c =
-    puts_fails _ _ _ _ _ (core_word c.args.minimal ++ literals_text c.args.names c.args.outputs.now c.args.core.now) (10 ∷ []) (puts_then _ _ _ _ _ _ _ (rw c.core_word.ensures at c.in_ok-put.ensures) c.in_err-put_literals.ensures) c.from_residual-in_err-put_literals.ensures.1
+    puts_fails _ _ _ _ _ (core_word c.args.minimal ++ literals_text c.args.names c.args.outputs.now c.args.core.now) (10 ∷ [])
+    (puts_then _ _ _ _ _ _ _ (rw c.core_word.ensures at c.in_ok-put.ensures) c.in_err-put_literals.ensures)
+    c.from_residual-in_err-put_literals.ensures.1
 
 pub returns : goal.returns
-returns g c = puts_then _ _ _ _ _ _ _ (puts_then _ _ _ _ _ (core_word c.args.minimal) (literals_text c.args.names c.args.outputs.now c.args.core.now) (rw c.core_word.ensures at c.in_ok-put.ensures) c.in_ok-put_literals.ensures) c.put-2.ensures
+returns g c = puts_then _ _ _ _ _ _ _
+    (puts_then _ _ _ _ _ (core_word c.args.minimal) (literals_text c.args.names c.args.outputs.now c.args.core.now)
+    (rw c.core_word.ensures at c.in_ok-put.ensures) c.in_ok-put_literals.ensures) c.put-2.ensures

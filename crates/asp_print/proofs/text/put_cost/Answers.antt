@@ -9,10 +9,12 @@ returns-in_err-put g c = puts_fails _ _ _ _ _ (codes "Optimization:") (flat_map 
 
 pub returns-in_err-put_sums : goal.returns-in_err-put_sums
 returns-in_err-put_sums g c =
-    puts_same _ _ _ _ _ (puts_fails _ _ _ _ _ (codes "Optimization:" ++ flat_map (λ q. 32 ∷ signed_decimal q) c.as_slice.result.now) (10 ∷ []) (puts_then _ _ _ _ _ _ _ c.in_ok-put.ensures c.in_err-put_sums.ensures) c.from_residual-in_err-put_sums.ensures.1)
+    puts_same _ _ _ _ _ (puts_fails _ _ _ _ _ (codes "Optimization:" ++ flat_map (λ q. 32 ∷ signed_decimal q) c.as_slice.result.now) (10 ∷ [])
+    (puts_then _ _ _ _ _ _ _ c.in_ok-put.ensures c.in_err-put_sums.ensures) c.from_residual-in_err-put_sums.ensures.1)
     (ap cost_line c.as_slice.ensures)
 
 pub returns : goal.returns
 returns g c =
-    puts_same _ _ _ _ _ (puts_then _ _ _ _ _ (codes "Optimization:" ++ flat_map (λ q. 32 ∷ signed_decimal q) c.as_slice.result.now) (10 ∷ []) (puts_then _ _ _ _ _ _ _ c.in_ok-put.ensures c.in_ok-put_sums.ensures) c.put-2.ensures)
+    puts_same _ _ _ _ _ (puts_then _ _ _ _ _ (codes "Optimization:" ++ flat_map (λ q. 32 ∷ signed_decimal q) c.as_slice.result.now) (10 ∷ [])
+    (puts_then _ _ _ _ _ _ _ c.in_ok-put.ensures c.in_ok-put_sums.ensures) c.put-2.ensures)
     (ap cost_line c.as_slice.ensures)

@@ -11,10 +11,13 @@ returns-in_err-put-in-Some g c =
 
 pub returns-in_err-put_atoms-in-Some : goal.returns-in_err-put_atoms-in-Some
 returns-in_err-put_atoms-in-Some g c =
-    puts_same _ _ _ _ _ (puts_fails _ _ _ _ _ (codes "Consequences:" ++ flat_map (λ a. 32 ∷ decimal a) c.as_slice.result.now) (10 ∷ []) (puts_then _ _ _ _ _ _ _ c.in_ok-put-in-Some.ensures c.in_err-put_atoms-in-Some.ensures) c.from_residual-in_err-put_atoms-in-Some.ensures.1)
+    puts_same _ _ _ _ _ (puts_fails _ _ _ _ _ (codes "Consequences:" ++ flat_map (λ a. 32 ∷ decimal a) c.as_slice.result.now) (10 ∷ [])
+    (puts_then _ _ _ _ _ _ _ c.in_ok-put-in-Some.ensures c.in_err-put_atoms-in-Some.ensures)
+    c.from_residual-in_err-put_atoms-in-Some.ensures.1)
     (ap (λ (A : Atoms). consequences_line (Some A)) c.as_slice.ensures.value ∙ ap consequences_line (sym c.in-Some.is))
 
 pub returns-in_ok-put_atoms-in-Some : goal.returns-in_ok-put_atoms-in-Some
 returns-in_ok-put_atoms-in-Some g c =
-    puts_same _ _ _ _ _ (puts_then _ _ _ _ _ (codes "Consequences:" ++ flat_map (λ a. 32 ∷ decimal a) c.as_slice.result.now) (10 ∷ []) (puts_then _ _ _ _ _ _ _ c.in_ok-put-in-Some.ensures c.in_ok-put_atoms-in-Some.ensures) c.put-in-Some-2.ensures)
+    puts_same _ _ _ _ _ (puts_then _ _ _ _ _ (codes "Consequences:" ++ flat_map (λ a. 32 ∷ decimal a) c.as_slice.result.now) (10 ∷ [])
+    (puts_then _ _ _ _ _ _ _ c.in_ok-put-in-Some.ensures c.in_ok-put_atoms-in-Some.ensures) c.put-in-Some-2.ensures)
     (ap (λ (A : Atoms). consequences_line (Some A)) c.as_slice.ensures.value ∙ ap consequences_line (sym c.in-Some.is))

@@ -12,11 +12,13 @@ returns-in_err-put g c =
 pub returns-in_err-put_texts : goal.returns-in_err-put_texts
 returns-in_err-put_texts g c =
     let os = c.args.program.now.outputs in
-    puts_same _ _ _ _ _ (puts_fails _ _ _ _ _ (codes "Consequences:" ++ pieces 32 c.args.known.now true os) (10 ∷ []) (puts_then _ _ _ _ _ _ _ c.in_ok-put.ensures c.in_err-put_texts.ensures) c.from_residual-in_err-put_texts.ensures.1)
+    puts_same _ _ _ _ _ (puts_fails _ _ _ _ _ (codes "Consequences:" ++ pieces 32 c.args.known.now true os) (10 ∷ [])
+    (puts_then _ _ _ _ _ _ _ c.in_ok-put.ensures c.in_err-put_texts.ensures) c.from_residual-in_err-put_texts.ensures.1)
     (ap (λ (t : List ℕ). ended_line (codes "Consequences:" ++ t)) (pieces-after 32 c.args.known.now os))
 
 pub returns : goal.returns
 returns g c =
     let os = c.args.program.now.outputs in
-    puts_same _ _ _ _ _ (puts_then _ _ _ _ _ (codes "Consequences:" ++ pieces 32 c.args.known.now true os) (10 ∷ []) (puts_then _ _ _ _ _ _ _ c.in_ok-put.ensures c.in_ok-put_texts.ensures) c.put-2.ensures)
+    puts_same _ _ _ _ _ (puts_then _ _ _ _ _ (codes "Consequences:" ++ pieces 32 c.args.known.now true os) (10 ∷ [])
+    (puts_then _ _ _ _ _ _ _ c.in_ok-put.ensures c.in_ok-put_texts.ensures) c.put-2.ensures)
     (ap (λ (t : List ℕ). ended_line (codes "Consequences:" ++ t)) (pieces-after 32 c.args.known.now os))

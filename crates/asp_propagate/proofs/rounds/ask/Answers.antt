@@ -15,19 +15,22 @@ pub returns-in_err-next-clause-followed : goal.returns-in_err-next-clause-follow
 returns-in_err-next-clause-followed g c =
     let b = g.P.Propagator.bound c.args.propagator.now in
     followed_bound g.P.Propagator.explains b (g.P.Propagator.bound c.next.new.self) (g.P.Propagator.told c.next.new.self) c.args.store.now c.args.trail.now c.args.told.now c.next.ensures.stays
-    (asked_same (λ p. g.P.Propagator.explains p b) (g.P.Propagator.told c.args.propagator.now) (g.P.Propagator.told c.next.new.self) c.args.store.now c.args.store.now c.args.trail.now c.args.told.now c.next.ensures.values refl c.requires.followed)
+    (asked_same (λ p. g.P.Propagator.explains p b) (g.P.Propagator.told c.args.propagator.now) (g.P.Propagator.told c.next.new.self) c.args.store.now
+    c.args.store.now c.args.trail.now c.args.told.now c.next.ensures.values refl c.requires.followed)
 
 pub returns-in-None-clause-followed : goal.returns-in-None-clause-followed
 returns-in-None-clause-followed g c =
     let b = g.P.Propagator.bound c.args.propagator.now in
     followed_bound g.P.Propagator.explains b (g.P.Propagator.bound c.next.new.self) (g.P.Propagator.told c.next.new.self) c.args.store.now c.args.trail.now c.args.told.now c.next.ensures.stays
-    (asked_same (λ p. g.P.Propagator.explains p b) (g.P.Propagator.told c.args.propagator.now) (g.P.Propagator.told c.next.new.self) c.args.store.now c.args.store.now c.args.trail.now c.args.told.now c.next.ensures.values refl c.requires.followed)
+    (asked_same (λ p. g.P.Propagator.explains p b) (g.P.Propagator.told c.args.propagator.now) (g.P.Propagator.told c.next.new.self) c.args.store.now
+    c.args.store.now c.args.trail.now c.args.told.now c.next.ensures.values refl c.requires.followed)
 
 pub returns-in_err-_id-in-Some-Nogood-clause-followed : goal.returns-in_err-_id-in-Some-Nogood-clause-followed
 returns-in_err-_id-in-Some-Nogood-clause-followed g c =
     let b = g.P.Propagator.bound c.args.propagator.now in
     followed_bound g.P.Propagator.explains b (g.P.Propagator.bound c.next.new.self) (g.P.Propagator.told c.next.new.self) c.add.new.self c.args.trail.now c.args.told.now c.next.ensures.stays
-    (asked_same (λ p. g.P.Propagator.explains p b) (g.P.Propagator.told c.args.propagator.now) (g.P.Propagator.told c.next.new.self) c.args.store.now c.add.new.self c.args.trail.now c.args.told.now c.next.ensures.values c.in_err-_id-in-Some-Nogood.ensures.err c.requires.followed)
+    (asked_same (λ p. g.P.Propagator.explains p b) (g.P.Propagator.told c.args.propagator.now) (g.P.Propagator.told c.next.new.self) c.args.store.now
+    c.add.new.self c.args.trail.now c.args.told.now c.next.ensures.values c.in_err-_id-in-Some-Nogood.ensures.err c.requires.followed)
 
 pub returns-in_ok-_id-in-Some-Nogood-clause-followed :
     goal.returns-in_ok-_id-in-Some-Nogood-clause-followed
@@ -46,7 +49,8 @@ imply_told-requires-clause-followed g c =
     let t : Told = g.P.Propagator.told c.args.propagator.now in
     let u : Told = g.P.Propagator.told c.next.new.self in
     followed_bound g.P.Propagator.explains b (g.P.Propagator.bound c.next.new.self) u s r (length r.entries) c.next.ensures.stays
-    (asked_same (λ p. g.P.Propagator.explains p b) t u s s r (length r.entries) c.next.ensures.values refl (subst (λ (n : ℕ). IsFollowed (λ p. g.P.Propagator.explains p b) t s r n) c.requires.all c.requires.followed))
+    (asked_same (λ p. g.P.Propagator.explains p b) t u s s r (length r.entries) c.next.ensures.values refl
+    (subst (λ (n : ℕ). IsFollowed (λ p. g.P.Propagator.explains p b) t s r n) c.requires.all c.requires.followed))
 
 pub imply_told-requires-clause-follows : goal.imply_told-requires-clause-follows
 imply_told-requires-clause-follows g c =
@@ -56,14 +60,17 @@ imply_told-requires-clause-follows g c =
     let i = c.in-Some-Implied.implied in
     let said : IsFollowing (g.P.Propagator.explains t.program b) (var_count t.program) es i.lit i.name =
     subst (IsToSay (g.P.Propagator.gives t.program b) (g.P.Propagator.explains t.program b) (var_count t.program) es) c.in-Some-Implied.field-0-is
-    (subst (λ (o : Option Said). IfSome o (IsToSay (g.P.Propagator.gives t.program b) (g.P.Propagator.explains t.program b) (var_count t.program) es)) c.in-Some-Implied.is c.in_ok-next.ensures.said) in
-    subst (λ (o : Option (List ℤ)). IsFollowing (g.P.Propagator.explains (g.P.Propagator.told c.next.new.self).program o) (var_count (g.P.Propagator.told c.next.new.self).program) es i.lit i.name) (sym c.next.ensures.stays)
+    (subst (λ (o : Option Said). IfSome o (IsToSay (g.P.Propagator.gives t.program b) (g.P.Propagator.explains t.program b) (var_count t.program) es))
+    c.in-Some-Implied.is c.in_ok-next.ensures.said) in
+    subst (λ (o : Option (List ℤ)). IsFollowing (g.P.Propagator.explains (g.P.Propagator.told c.next.new.self).program o)
+    (var_count (g.P.Propagator.told c.next.new.self).program) es i.lit i.name) (sym c.next.ensures.stays)
     (subst (λ (v : Told). IsFollowing (g.P.Propagator.explains v.program b) (var_count v.program) es i.lit i.name) (sym c.next.ensures.values) said)
 
 pub returns-in-Some-Implied-clause-followed : goal.returns-in-Some-Implied-clause-followed
 returns-in-Some-Implied-clause-followed g c =
     let x = c.imply_more.new in
-    subst (λ (n : ℕ). IsFollowed (λ p. g.P.Propagator.explains p (g.P.Propagator.bound x.propagator)) (g.P.Propagator.told x.propagator) c.args.store.now x.trail n) (sym c.len.ensures.len) c.imply_more.ensures.followed
+    subst (λ (n : ℕ). IsFollowed (λ p. g.P.Propagator.explains p (g.P.Propagator.bound x.propagator)) (g.P.Propagator.told x.propagator)
+    c.args.store.now x.trail n) (sym c.len.ensures.len) c.imply_more.ensures.followed
 
 pub returns-in-Some-Implied-clause-same : goal.returns-in-Some-Implied-clause-same
 returns-in-Some-Implied-clause-same g c =
@@ -84,6 +91,7 @@ returns-in-Some-Implied-clause-goes g c =
     let xs = c.args.store.now.slots in
     let es = c.args.trail.now.entries in
     let both =
-    goes_then gives u (told x.propagator) (told y.propagator) (bound c.next.new.self) (bound x.propagator) (bound y.propagator) xs xs xs es x.trail.entries y.trail.entries c.imply_told.ensures.goes c.imply_more.ensures.goes in
+    goes_then gives u (told x.propagator) (told y.propagator) (bound c.next.new.self) (bound x.propagator) (bound y.propagator) xs xs xs es
+    x.trail.entries y.trail.entries c.imply_told.ensures.goes c.imply_more.ensures.goes in
     subst (λ (v : Told). GoesOn (gives v.program (bound c.args.propagator.now)) v (told y.propagator) (bound c.args.propagator.now) (bound y.propagator) xs xs es y.trail.entries) c.next.ensures.values
     (subst (λ (o : Option (List ℤ)). GoesOn (gives u.program o) u (told y.propagator) o (bound y.propagator) xs xs es y.trail.entries) c.next.ensures.stays both)

@@ -28,5 +28,6 @@ pub returns-clause-goes : goal.returns-clause-goes
 returns-clause-goes g c =
     let t : Told = g.P.Propagator.told c.args.propagator.now in
     let b = g.P.Propagator.bound c.args.propagator.now in
-    goes_late (g.P.Propagator.gives t.program b) t (g.P.Propagator.told c.tell.new.propagator) b (g.P.Propagator.bound c.tell.new.propagator) c.args.store.now.slots c.args.trail.now.entries c.imply_late.new.trail.entries
+    goes_late (g.P.Propagator.gives t.program b) t (g.P.Propagator.told c.tell.new.propagator) b (g.P.Propagator.bound c.tell.new.propagator)
+    c.args.store.now.slots c.args.trail.now.entries c.imply_late.new.trail.entries
     c.args.lit (2 ^ 31 + c.args.name) c.tell.ensures.program c.tell.ensures.bound (ap (λ (r : Trailed). r.entries) c.imply_late.ensures)

@@ -22,7 +22,9 @@ asked-init g c = record {
 }
 
 pub returns-in-Some-clause-violated : goal.returns-in-Some-clause-violated
-returns-in-Some-clause-violated g c = subst (λ (o : Option ℕ). IfSome o (IsViolated c.settle.new.trail.vars c.settle.new.store.slots c.settle.new.trail.entries)) c.in-Some.is c.in_ok-first.ensures.violated
+returns-in-Some-clause-violated g c = subst
+    (λ (o : Option ℕ). IfSome o (IsViolated c.settle.new.trail.vars c.settle.new.store.slots c.settle.new.trail.entries)) c.in-Some.is
+    c.in_ok-first.ensures.violated
 
 pub returns-in_err-ask-clause-goes : goal.returns-in_err-ask-clause-goes
 returns-in_err-ask-clause-goes g c =
@@ -97,7 +99,8 @@ asked-smaller g c =
     e.followed.told.vars ∙ (ap var_count (e.goes.program ∙ c.ask.ensures.goes.program) ∙ sym m.invariant.followed.told.vars) in
     let a = c.ask.new in
     let asked =
-    subst (λ (x : Bool). Asked (g.P.Propagator.silent p b) (g.P.Propagator.gives p b) (assignment m.trail.vars m.trail.entries) m.store a.store m.trail.entries a.trail.entries x) c.if-branch.true c.in_ok-ask.ensures.ok in
+    subst (λ (x : Bool). Asked (g.P.Propagator.silent p b) (g.P.Propagator.gives p b) (assignment m.trail.vars m.trail.entries) m.store a.store
+    m.trail.entries a.trail.entries x) c.if-branch.true c.in_ok-ask.ensures.ok in
     let implied = implies_more m.trail.entries a.trail.entries s.trail.entries c.ask.ensures.goes.implies e.goes.implies in
     let fixpoint = subst (λ (o : Option ℕ). IfNone o (AreAtFixpoint s.store.slots (assignment s.trail.vars s.trail.entries))) c.in-None-found.is c.in_ok-found.ensures.fixpoint in
     let fixpoint = subst (λ (n : ℕ). AreAtFixpoint s.store.slots (assignment n s.trail.entries)) vars fixpoint in

@@ -16,7 +16,8 @@ returns-in-Violated-clause-followed g c =
     let p = c.propagate in
     let t = g.P.Propagator.told c.args.propagator.now in
     let n = c.args.told.now in
-    followed_settled (λ x. g.P.Propagator.explains x (g.P.Propagator.bound c.args.propagator.now)) t t c.args.store.now p.new.self c.args.trail.now p.new.trail n n p.ensures.slots p.ensures.trail p.ensures.fits
+    followed_settled (λ x. g.P.Propagator.explains x (g.P.Propagator.bound c.args.propagator.now)) t t c.args.store.now p.new.self c.args.trail.now
+    p.new.trail n n p.ensures.slots p.ensures.trail p.ensures.fits
     (told_settled t c.args.trail.now p.new.trail n c.args.store.now.slots p.ensures.trail p.ensures.extends c.requires.told) refl p.ensures.few (omega arith) p.ensures.extends c.requires
 
 pub returns-in-Violated-clause-goes : goal.returns-in-Violated-clause-goes
@@ -41,7 +42,8 @@ returns-in-Fixpoint-clause-followed g c =
     let n = c.args.told.now in
     let begun = told_settled (g.P.Propagator.told c.args.propagator.now) c.args.trail.now p.new.trail n c.args.store.now.slots p.ensures.trail p.ensures.extends c.requires.told in
     followed_bound g.P.Propagator.explains (g.P.Propagator.bound c.args.propagator.now) (g.P.Propagator.bound c.tell.new.propagator) u p.new.self p.new.trail c.len.result c.tell.ensures.bound
-    (followed_settled (λ x. g.P.Propagator.explains x (g.P.Propagator.bound c.args.propagator.now)) (g.P.Propagator.told c.args.propagator.now) u c.args.store.now p.new.self c.args.trail.now p.new.trail c.args.told.now c.len.result
+    (followed_settled (λ x. g.P.Propagator.explains x (g.P.Propagator.bound c.args.propagator.now)) (g.P.Propagator.told c.args.propagator.now) u
+    c.args.store.now p.new.self c.args.trail.now p.new.trail c.args.told.now c.len.result
     p.ensures.slots p.ensures.trail p.ensures.fits
     (subst (WasTold u p.new.trail) (sym c.len.ensures.len) c.tell.ensures.told) c.tell.ensures.program p.ensures.few (omega (arith, begun.begun, c.len.ensures.len)) p.ensures.extends c.requires)
 
@@ -65,7 +67,8 @@ returns-in_err-found-clause-followed g c =
     let p = c.propagate in
     let t = g.P.Propagator.told c.args.propagator.now in
     let n = c.args.told.now in
-    followed_settled (λ x. g.P.Propagator.explains x (g.P.Propagator.bound c.args.propagator.now)) t t c.args.store.now p.new.self c.args.trail.now p.new.trail n n p.ensures.slots p.ensures.trail p.ensures.fits
+    followed_settled (λ x. g.P.Propagator.explains x (g.P.Propagator.bound c.args.propagator.now)) t t c.args.store.now p.new.self c.args.trail.now
+    p.new.trail n n p.ensures.slots p.ensures.trail p.ensures.fits
     (told_settled t c.args.trail.now p.new.trail n c.args.store.now.slots p.ensures.trail p.ensures.extends c.requires.told) refl p.ensures.few (omega arith) p.ensures.extends c.requires
 
 pub returns-in_err-found-clause-goes : goal.returns-in_err-found-clause-goes

@@ -13,8 +13,20 @@ returns-then-n-low c =
     let f : SFits w64 c.in-Value.n = search rules in
     let e : Value c.in-Value.n ≡ num_of (integer_of (field_of c.args.line.now)) = sym c.in-Value.is ∙ c.split_int-number.ensures.number in
     elim c.then-n-low.branch [
-      | then-n-low-via-then-n-low w ↦ rw (c.broken-then-n-low.ensures, is_below _ c.in-Value.n _ _ c.args.line.now e f c.ranges.low c.ranges.high w.if-n-low.true, ← e, to_z-of_z w32 c.args.low c.ranges.low, to_z-of_z w32 c.args.high c.ranges.high) refl
-      | then-n-low-via-else-n-low+then-high-n w ↦ rw (c.broken-then-n-low.ensures, is_above _ c.in-Value.n _ _ c.args.line.now e f c.ranges.low c.ranges.high w.if-high-n.true, ← e, to_z-of_z w32 c.args.low c.ranges.low, to_z-of_z w32 c.args.high c.ranges.high) refl
+      | then-n-low-via-then-n-low w ↦ rw (
+        c.broken-then-n-low.ensures,
+        is_below _ c.in-Value.n _ _ c.args.line.now e f c.ranges.low c.ranges.high w.if-n-low.true,
+        ← e,
+        to_z-of_z w32 c.args.low c.ranges.low,
+        to_z-of_z w32 c.args.high c.ranges.high,
+      ) refl
+      | then-n-low-via-else-n-low+then-high-n w ↦ rw (
+        c.broken-then-n-low.ensures,
+        is_above _ c.in-Value.n _ _ c.args.line.now e f c.ranges.low c.ranges.high w.if-high-n.true,
+        ← e,
+        to_z-of_z w32 c.args.low c.ranges.low,
+        to_z-of_z w32 c.args.high c.ranges.high,
+      ) refl
     ]
 
 pub returns-else-high-n : goal.returns-else-high-n

@@ -8,13 +8,18 @@ pub returns-in-Err-clause-text : goal.returns-in-Err-clause-text
 returns-in-Err-clause-text g c =
     let t = tail_none c.args.lines.now.bytes c.requires in
     let number : c.in-Some.line.number ≡ c.args.lines.now.given + 1 = omega (arith, c.in-Some.ensures.number, t.1) in
-    λ room. last_line_fails g.J.Judge.format c.args.lines.now c.args.reader c.in-Err.error c.in-Some.line.number room c.in-Some.line.bytes.now c.requires (rw t.0 at c.in-Some.ensures.line) number c.in-Err.ensures.reader
+    λ room. last_line_fails g.J.Judge.format c.args.lines.now c.args.reader c.in-Err.error c.in-Some.line.number room c.in-Some.line.bytes.now
+    c.requires (rw t.0 at c.in-Some.ensures.line) number c.in-Err.ensures.reader
 
 pub returns-in-Ok-clause-text : goal.returns-in-Ok-clause-text
 returns-in-Ok-clause-text g c =
     let t = tail_none c.args.lines.now.bytes c.requires in
     let number : c.in-Some.line.number ≡ c.args.lines.now.given + 1 = omega (arith, c.in-Some.ensures.number, t.1) in
-    λ room. rw (c.end.ensures.end, last_line_ends g.J.Judge.format c.args.lines.now c.args.reader c.judge_numbered.new.reader c.in-Some.line.number room c.in-Some.line.bytes.now c.requires (rw t.0 at c.in-Some.ensures.line) number c.in-Ok.ensures.reader) (gives_itself _)
+    λ room. rw (
+      c.end.ensures.end,
+      last_line_ends g.J.Judge.format c.args.lines.now c.args.reader c.judge_numbered.new.reader c.in-Some.line.number room
+          c.in-Some.line.bytes.now c.requires (rw t.0 at c.in-Some.ensures.line) number c.in-Ok.ensures.reader,
+    ) (gives_itself _)
 
 pub returns-in-None-clause-text : goal.returns-in-None-clause-text
 returns-in-None-clause-text g c =

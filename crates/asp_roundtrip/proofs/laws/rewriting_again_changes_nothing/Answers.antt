@@ -15,7 +15,8 @@ ok x = Ok x
 ok_is : (x y : List ℕ) → ok x ≡ ok y → x ≡ y
 ok_is x y e = cc
 
-again : (text canonical : List ℕ) (read : Result Program ReadError) → outcome text ≡ read → (read >>= λ p. Ok (text_of p)) ≡ Ok canonical → length canonical ≤ most_bytes → rewritten canonical ≡ Ok canonical
+again : (text canonical : List ℕ) (read : Result Program ReadError) → outcome text ≡ read → (read >>= λ p. Ok (text_of p)) ≡ Ok canonical →
+    length canonical ≤ most_bytes → rewritten canonical ≡ Ok canonical
 again text canonical (Ok program) e is few =
     let same = ok_is (text_of program) canonical is in
     let back = readable_back program ((outcome_given text).each program e) (subst (λ t. length t ≤ most_bytes) (sym same) few) in

@@ -13,7 +13,8 @@ shift-word-requires-clause-room c =
     let atoms = c.args.atoms.now in
     let more = c.loop-at-test.ensures.yes refl in
     let v = c.loop-at.invariant in
-    let to = found S atoms c.loop-at.from c.loop-at.next c.find-at.result c.loop-at.word c.requires.set c.requires.ascending c.requires.some more.0 more.1 (v.low more.0) v.high c.find-at.ensures.behind c.find-at.ensures.here v.is in
+    let to = found S atoms c.loop-at.from c.loop-at.next c.find-at.result c.loop-at.word c.requires.set c.requires.ascending c.requires.some more.0
+    more.1 (v.low more.0) v.high c.find-at.ensures.behind c.find-at.ensures.here v.is in
     subst (λ (k : ℕ). k < 18446744073709551616) (sym to.2) (word_room S atoms c.find-at.result c.requires.few)
 
 pub overflow_mul-word : goal.overflow_mul-word
@@ -22,7 +23,8 @@ overflow_mul-word c =
     let atoms = c.args.atoms.now in
     let more = c.loop-at-test.ensures.yes refl in
     let v = c.loop-at.invariant in
-    let to = found S atoms c.loop-at.from c.loop-at.next c.find-at.result c.loop-at.word c.requires.set c.requires.ascending c.requires.some more.0 more.1 (v.low more.0) v.high c.find-at.ensures.behind c.find-at.ensures.here v.is in
+    let to = found S atoms c.loop-at.from c.loop-at.next c.find-at.result c.loop-at.word c.requires.set c.requires.ascending c.requires.some more.0
+    more.1 (v.low more.0) v.high c.find-at.ensures.behind c.find-at.ensures.here v.is in
     let one = one_more S atoms c.loop-at.next c.find-at.result c.shift-word.result to.0 more.0 (omega (arith, c.if-atoms-at.true)) (c.shift-word.ensures ∙ to.2) in
     let room = word_room S atoms (c.find-at.result + 1) c.requires.few in
     omega (arith, one, room)
@@ -33,7 +35,8 @@ overflow_add-word c =
     let atoms = c.args.atoms.now in
     let more = c.loop-at-test.ensures.yes refl in
     let v = c.loop-at.invariant in
-    let to = found S atoms c.loop-at.from c.loop-at.next c.find-at.result c.loop-at.word c.requires.set c.requires.ascending c.requires.some more.0 more.1 (v.low more.0) v.high c.find-at.ensures.behind c.find-at.ensures.here v.is in
+    let to = found S atoms c.loop-at.from c.loop-at.next c.find-at.result c.loop-at.word c.requires.set c.requires.ascending c.requires.some more.0
+    more.1 (v.low more.0) v.high c.find-at.ensures.behind c.find-at.ensures.here v.is in
     let one = one_more S atoms c.loop-at.next c.find-at.result c.shift-word.result to.0 more.0 (omega (arith, c.if-atoms-at.true)) (c.shift-word.ensures ∙ to.2) in
     let room = word_room S atoms (c.find-at.result + 1) c.requires.few in
     omega (arith, one, room)
@@ -46,7 +49,8 @@ loop-at-preserved c =
     let next = c.loop-at.next in
     let more = c.loop-at-test.ensures.yes refl in
     let v = c.loop-at.invariant in
-    let to = found S atoms c.loop-at.from next at c.loop-at.word c.requires.set c.requires.ascending c.requires.some more.0 more.1 (v.low more.0) v.high c.find-at.ensures.behind c.find-at.ensures.here v.is in
+    let to = found S atoms c.loop-at.from next at c.loop-at.word c.requires.set c.requires.ascending c.requires.some more.0 more.1 (v.low more.0)
+    v.high c.find-at.ensures.behind c.find-at.ensures.here v.is in
     let here = c.find-at.ensures.here to.0 in
     elim c.if-atoms-at.branch [
       | then-atoms-at w ↦
@@ -56,7 +60,9 @@ loop-at-preserved c =
             next = omega (arith, more.0);
             is = w.word-is ∙ one_more S atoms next at c.shift-word.result to.0 more.0 same (c.shift-word.ensures ∙ to.2) ∙ ap (λ (k : ℕ). value (map (has S) (take k atoms))) (sym w.from-is);
             low = λ lt. low_next S atoms c.if-atoms-at.from next c.requires.set (λ k less. up_to atoms at k (get_or S next 0) c.requires.ascending to.0 (sym same) (omega (arith, less, w.from-is))) lt;
-            high = λ lt. high_next S atoms c.if-atoms-at.from next c.requires.set more.0 (subst (λ (k : ℕ). get_or S next 0 < get_or atoms k 0) (sym w.from-is) (next_above atoms at (get_or S next 0) c.requires.ascending (omega (arith, lt, w.from-is)) (sym same)));
+            high = λ lt. high_next S atoms c.if-atoms-at.from next c.requires.set more.0
+                (subst (λ (k : ℕ). get_or S next 0 < get_or atoms k 0) (sym w.from-is)
+                (next_above atoms at (get_or S next 0) c.requires.ascending (omega (arith, lt, w.from-is)) (sym same)));
           }
       | else-atoms-at w ↦
           let other = w.if-atoms-at.false in

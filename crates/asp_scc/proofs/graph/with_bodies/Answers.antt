@@ -11,6 +11,9 @@ loop-body-preserved c =
     let p = c.args.compiled.now in
     let lt : c.loop-body.body < length (bodies_of p) = omega (arith, c.loop-body-test.true, c.body_count-body-end.ensures.count) in
     let row : c.as_slice.result.now ≡ map (λ (l : Literal). l.var) (filter (λ l. l.truth) c.literals.result.now) = c.as_slice.ensures.value ∙ c.in_ok-vars.ensures in (
-      rows_more (positives p) (bodies_of p) c.loop-body.body (body.All []) c.args.rows c.loop-body.rows c.in_ok-rows.rows c.as_slice.result.now lt c.loop-body.invariant.0 (row ∙ ap (λ (ls : List Literal). map (λ l. l.var) (filter (λ l. l.truth) ls)) c.literals.ensures.literals) c.in_ok-rows.ensures,
-      within_more (number_count p) c.loop-body.rows c.in_ok-rows.rows c.as_slice.result.now c.loop-body.invariant.1 (atoms_within p c.literals.result.now c.as_slice.result.now c.literals.ensures.atoms row) c.in_ok-rows.ensures,
+      rows_more (positives p) (bodies_of p) c.loop-body.body (body.All []) c.args.rows c.loop-body.rows c.in_ok-rows.rows c.as_slice.result.now lt
+          c.loop-body.invariant.0 (row ∙ ap (λ (ls : List Literal). map (λ l. l.var) (filter (λ l. l.truth) ls)) c.literals.ensures.literals)
+          c.in_ok-rows.ensures,
+      within_more (number_count p) c.loop-body.rows c.in_ok-rows.rows c.as_slice.result.now c.loop-body.invariant.1
+          (atoms_within p c.literals.result.now c.as_slice.result.now c.literals.ensures.atoms row) c.in_ok-rows.ensures,
     )

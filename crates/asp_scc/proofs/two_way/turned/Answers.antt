@@ -5,7 +5,8 @@ use Rattle.asp_scc.proofs.two_way.turned.Goals as goal
 
 pub loop-node-preserved : goal.loop-node-preserved
 loop-node-preserved c =
-    one_turned c.args.graph.now c.loop-node.rows c.turn_row.new.rows c.loop-node.node c.row.result.now c.requires.graph (omega (arith, c.loop-node-test.true, c.len-node-end.ensures)) c.row.ensures c.in_ok-turn_row.ensures c.loop-node.invariant
+    one_turned c.args.graph.now c.loop-node.rows c.turn_row.new.rows c.loop-node.node c.row.result.now c.requires.graph
+    (omega (arith, c.loop-node-test.true, c.len-node-end.ensures)) c.row.ensures c.in_ok-turn_row.ensures c.loop-node.invariant
 
 pub returns-clause-graph : goal.returns-clause-graph
 returns-clause-graph c =

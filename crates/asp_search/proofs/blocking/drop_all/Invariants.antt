@@ -9,7 +9,8 @@ abbrev pub invariant-loop : goal.invariant-loop
 invariant-loop g l = record {
   blocking_stand : AreBlocking l.state.slots l.blocking.items;
   same : l.state ≡ record l.fn.state { slots = l.state.slots };
-  drops : (newest : Nogood) (id : ℕ) (first : List (Option StoredNogood)) → newest.lits ≡ l.lits → Drops newest id first l.fn.state.slots l.fn.blocking.items → Drops newest id first l.state.slots l.blocking.items;
+  drops : (newest : Nogood) (id : ℕ) (first : List (Option StoredNogood)) → newest.lits ≡ l.lits →
+      Drops newest id first l.fn.state.slots l.fn.blocking.items → Drops newest id first l.state.slots l.blocking.items;
   spares : (id : ℕ) (first : List (Option StoredNogood)) → Spares id first l.fn.state.slots l.fn.blocking.items → Spares id first l.state.slots l.blocking.items;
   len : vec_len l.blocking ≤ vec_len l.fn.blocking;
   room : vec_capacity l.blocking ≡ vec_capacity l.fn.blocking;

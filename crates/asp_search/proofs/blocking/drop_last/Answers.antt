@@ -11,12 +11,14 @@ is_redundant-requires g c =
 
 pub returns-clause-blocking : goal.returns-clause-blocking
 returns-clause-blocking g c =
-    (last_dropped c.args.state.now c.remove.new.self c.args.blocking.now.items c.truncate.new.self.items (c.len-len.result - 1) c.index-id.result.now c.args.lits.now (omega arith) c.index-id.ensures c.requires
+    (last_dropped c.args.state.now c.remove.new.self c.args.blocking.now.items c.truncate.new.self.items (c.len-len.result - 1) c.index-id.result.now
+    c.args.lits.now (omega arith) c.index-id.ensures c.requires
     (c.is_redundant.ensures c.if-not-is_redundant.false) c.remove.ensures c.truncate.ensures.items).0
 
 pub returns-clause-drops : goal.returns-clause-drops
 returns-clause-drops g c =
-    (last_dropped c.args.state.now c.remove.new.self c.args.blocking.now.items c.truncate.new.self.items (c.len-len.result - 1) c.index-id.result.now c.args.lits.now (omega arith) c.index-id.ensures c.requires
+    (last_dropped c.args.state.now c.remove.new.self c.args.blocking.now.items c.truncate.new.self.items (c.len-len.result - 1) c.index-id.result.now
+    c.args.lits.now (omega arith) c.index-id.ensures c.requires
     (c.is_redundant.ensures c.if-not-is_redundant.false) c.remove.ensures c.truncate.ensures.items).1
 
 pub returns-clause-spares : goal.returns-clause-spares

@@ -44,7 +44,8 @@ of-requires g c =
       K,
       sym c.known_count.ensures,
       subst (λ (k : Option Reasoning). IsConflict p (used_up k p K) c.in_ok-bound.bound l.cube.items l.decisions.items l.nogood.items) (sym c.reasoning.ensures)
-          (lists_conflict t c.args.id c.args.lit c.level_of-top.result l.cube.items l.decisions.items l.nogood.items top x.cube x.decisions x.nogood p (used_up (reasoning_of c.args.mode) p K) c.args.bound.now c.in_ok-bound.bound
+          (lists_conflict t c.args.id c.args.lit c.level_of-top.result l.cube.items l.decisions.items l.nogood.items top x.cube x.decisions x.nogood p
+          (used_up (reasoning_of c.args.mode) p K) c.args.bound.now c.in_ok-bound.bound
           c.in_ok-bound.ensures c.requires),
     )
 
@@ -57,5 +58,6 @@ returns g c = λ m.
     c.level_of-top.ensures ∙ (ap (λ (v : ℕ). level_in c.trail.result.now.entries v) c.var.ensures ∙ ap (λ (es : List Entry). level_in es c.args.lit.var) c.trail.ensures.entries) in
     let l = c.in_ok-lists.lists in
     let x = c.in_ok-lists.ensures in
-    clash_is t c.args.id c.args.lit c.level_of-top.result l.cube.items l.decisions.items l.nogood.items top x.cube x.decisions x.nogood p (reasoning_of c.args.mode) c.reasoning.result K c.known_count.result c.args.bound.now
+    clash_is t c.args.id c.args.lit c.level_of-top.result l.cube.items l.decisions.items l.nogood.items top x.cube x.decisions x.nogood p
+    (reasoning_of c.args.mode) c.reasoning.result K c.known_count.result c.args.bound.now
     c.in_ok-bound.bound c.of.result c.reasoning.ensures c.known_count.ensures c.in_ok-bound.ensures c.of.ensures m

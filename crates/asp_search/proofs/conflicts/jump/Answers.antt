@@ -36,7 +36,8 @@ pub bump-requires-clause-lits : goal.bump-requires-clause-lits
 bump-requires-clause-lits g c =
     let t = c.args.state.now in
     subst (λ (x : SearchView). AreOf x.program c.as_slice-2.result.now) (sym c.note_used.ensures)
-    (subst (λ (n : List Literal). AreOf t.program n) (sym c.as_slice-2.ensures.value) (contained_vars (var_count t.program) t.entries c.args.nogood.lits c.trail-trail.ensures.ordered c.requires.contained))
+    (subst (λ (n : List Literal). AreOf t.program n) (sym c.as_slice-2.ensures.value)
+    (contained_vars (var_count t.program) t.entries c.args.nogood.lits c.trail-trail.ensures.ordered c.requires.contained))
 
 pub keep-requires : goal.keep-requires
 keep-requires g c =
@@ -52,8 +53,11 @@ imply-requires-clause-under g c =
     let b = c.keep.new.self in
     let u : SearchView = c.undo_to.new.self in
     let bumped : a ≡ record t { ranking = a.ranking } = jump_bumped t c.note_used.new.state a _ c.note_used.ensures c.bump.ensures in
-    let e : u ≡ back t c.args.to b.slots u.ranking = jump_back t a b u c.args.to a.ranking bumped c.in_ok-id.ensures.same c.undo_to.ensures.same in
-    (c.requires.path.0, back_under t u c.requires.jumps.0 c.args.to b.slots c.args.nogood c.args.lit e c.trail-trail.ensures.ordered c.requires.contained c.requires.jumps.1 c.requires.path.0 c.requires.path.1)
+    let e : u ≡ back t c.args.to b.slots u.ranking = jump_back t a b u c.args.to a.ranking bumped c.in_ok-id.ensures.same c.undo_to.ensures.same in (
+      c.requires.path.0,
+      back_under t u c.requires.jumps.0 c.args.to b.slots c.args.nogood c.args.lit e c.trail-trail.ensures.ordered
+          c.requires.contained c.requires.jumps.1 c.requires.path.0 c.requires.path.1,
+    )
 
 pub imply-requires-clause-var : goal.imply-requires-clause-var
 imply-requires-clause-var g c =
@@ -97,7 +101,8 @@ returns-clause-added g c =
     let e : u ≡ back t c.args.to b.slots u.ranking = jump_back t a b u c.args.to a.ranking bumped c.in_ok-id.ensures.same c.undo_to.ensures.same in
     let added : IsAddedAt t.slots b.slots c.in_ok-id.id c.args.nogood kind.Learnt =
     subst (λ (x : SearchView). IsAddedAt x.slots b.slots c.in_ok-id.id c.args.nogood kind.Learnt) bumped c.in_ok-id.ensures.ok in
-    subst (λ (xs : List (Option StoredNogood)). IsAddedAt t.slots xs c.in_ok-id.id c.args.nogood kind.Learnt) (jump_slots t u c.imply.new.self c.args.to c.in_ok-id.id b.slots c.args.lit e c.imply.ensures) added
+    subst (λ (xs : List (Option StoredNogood)). IsAddedAt t.slots xs c.in_ok-id.id c.args.nogood kind.Learnt)
+    (jump_slots t u c.imply.new.self c.args.to c.in_ok-id.id b.slots c.args.lit e c.imply.ensures) added
 
 pub returns-clause-ok : goal.returns-clause-ok
 returns-clause-ok g c =

@@ -52,8 +52,11 @@ returns-clause-explains g c =
     let kept : Some n ≡ nogood_at s.slots c.args.id = ap (λ (ls : List Literal). Some (record { lits = ls; base = n.base })) c.as_slice.ensures.value ∙ c.nogood-nogood.ensures in
     let e = c.reasons.result.now in
     let given : (n : Nogood) → g.P.Propagator.late e.program e.bound n → g.P.Propagator.gives t.program t.bound n =
-    λ n w. g.met.P.Propagator.given t.program t.bound n (subst (λ (p : Program). g.P.Propagator.late p t.bound n) c.reasons.ensures.program (subst (λ (b : Option (List ℤ)). g.P.Propagator.late e.program b n) c.reasons.ensures.bound w)) in
-    explained_at c.learn.result (g.P.Propagator.gives t.program t.bound) (IsSaid (g.P.Propagator.late e.program e.bound) e.slots e.entries) (var_count t.program) r.vars t.slots s.slots t.entries r.entries c.args.id
+    λ n w. g.met.P.Propagator.given t.program t.bound n
+    (subst (λ (p : Program). g.P.Propagator.late p t.bound n) c.reasons.ensures.program
+    (subst (λ (b : Option (List ℤ)). g.P.Propagator.late e.program b n) c.reasons.ensures.bound w)) in
+    explained_at c.learn.result (g.P.Propagator.gives t.program t.bound) (IsSaid (g.P.Propagator.late e.program e.bound) e.slots e.entries)
+    (var_count t.program) r.vars t.slots s.slots t.entries r.entries c.args.id
     n c.trail.ensures.vars c.store.ensures.slots c.trail.ensures.entries kept c.requires.violated
     (said_at_hand (g.P.Propagator.late e.program e.bound) (g.P.Propagator.gives t.program t.bound) t.slots e.slots e.entries c.reasons.ensures.slots given)
     c.learn.ensures.reached c.learn.ensures.contained c.learn.ensures.assumed c.learn.ensures.learned

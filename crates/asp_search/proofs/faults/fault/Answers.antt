@@ -14,7 +14,8 @@ pub check-requires-clause-values : goal.check-requires-clause-values
 check-requires-clause-values g c =
     let p = c.args.compiled.now in
     let is : c.assignment-assign.result.now ≡ assignment (var_count p) c.args.state.now.entries =
-    c.assignment-assign.ensures.values ∙ (ap (λ v. assignment v c.trail.result.now.entries) (c.trail.ensures.vars ∙ ap var_count c.requires.program) ∙ ap (assignment (var_count p)) c.trail.ensures.entries) in
+    c.assignment-assign.ensures.values ∙ (ap (λ v. assignment v c.trail.result.now.entries) (c.trail.ensures.vars ∙ ap var_count c.requires.program)
+    ∙ ap (assignment (var_count p)) c.trail.ensures.entries) in
     subst (λ (q : Program). GivesAtoms q c.args.interp.now c.assignment-assign.result.now) (sym c.requires.checker)
     (gives_by p c.args.state.now.entries c.requires.whole c.args.interp.now c.requires.atoms c.assignment-assign.result.now is)
 
@@ -35,16 +36,21 @@ unfounded-requires-clause-atoms g c =
     let p = c.args.compiled.now in
     let S = c.args.interp.now in
     unfounded_stand p c.args.state.now.entries c.requires.whole S c.requires.atoms c.as_slice.result.now
-    (subst (HasUnfounded p S) (sym c.as_slice.ensures.value) (subst (λ (q : Program). IsVerdict q S (verdict.Unfounded c.in-Unfounded.set)) c.requires.checker (subst (IsVerdict c.args.checker.now S) c.in-Unfounded.is c.in_ok-check.ensures.verdict)).0)
+    (subst (HasUnfounded p S) (sym c.as_slice.ensures.value)
+    (subst (λ (q : Program). IsVerdict q S (verdict.Unfounded c.in-Unfounded.set)) c.requires.checker
+    (subst (IsVerdict c.args.checker.now S) c.in-Unfounded.is c.in_ok-check.ensures.verdict)).0)
 
 pub unfounded-requires-clause-unfounded : goal.unfounded-requires-clause-unfounded
 unfounded-requires-clause-unfounded g c =
     let p = c.args.compiled.now in
     let S = c.args.interp.now in
     let is : c.assignment-assign.result.now ≡ assignment (var_count p) c.args.state.now.entries =
-    c.assignment-assign.ensures.values ∙ (ap (λ v. assignment v c.trail.result.now.entries) (c.trail.ensures.vars ∙ ap var_count c.requires.program) ∙ ap (assignment (var_count p)) c.trail.ensures.entries) in
+    c.assignment-assign.ensures.values ∙ (ap (λ v. assignment v c.trail.result.now.entries) (c.trail.ensures.vars ∙ ap var_count c.requires.program)
+    ∙ ap (assignment (var_count p)) c.trail.ensures.entries) in
     unfounded_here p c.args.state.now.entries c.requires.whole S c.requires.atoms c.assignment-assign.result.now c.as_slice.result.now is
-    (subst (HasUnfounded p S) (sym c.as_slice.ensures.value) (subst (λ (q : Program). IsVerdict q S (verdict.Unfounded c.in-Unfounded.set)) c.requires.checker (subst (IsVerdict c.args.checker.now S) c.in-Unfounded.is c.in_ok-check.ensures.verdict)).0)
+    (subst (HasUnfounded p S) (sym c.as_slice.ensures.value)
+    (subst (λ (q : Program). IsVerdict q S (verdict.Unfounded c.in-Unfounded.set)) c.requires.checker
+    (subst (IsVerdict c.args.checker.now S) c.in-Unfounded.is c.in_ok-check.ensures.verdict)).0)
 
 pub returns-in-Stable-clause-fault : goal.returns-in-Stable-clause-fault
 returns-in-Stable-clause-fault g c =
@@ -55,14 +61,20 @@ pub returns-in-Broken-clause-fault : goal.returns-in-Broken-clause-fault
 returns-in-Broken-clause-fault g c =
     let p = c.args.compiled.now in
     let S = c.args.interp.now in
-    broken_by p c.args.state.now.entries c.requires.whole S c.requires.atoms (g.P.Propagator.gives p c.args.state.now.bound) c.in-Broken.nogood (subst (λ (q : Program). IsVerdict q S (verdict.Broken c.in-Broken.nogood)) c.requires.checker (subst (IsVerdict c.args.checker.now S) c.in-Broken.is c.in_ok-check.ensures.verdict)).0
+    broken_by p c.args.state.now.entries c.requires.whole S c.requires.atoms (g.P.Propagator.gives p c.args.state.now.bound) c.in-Broken.nogood
+    (subst (λ (q : Program). IsVerdict q S (verdict.Broken c.in-Broken.nogood)) c.requires.checker
+    (subst (IsVerdict c.args.checker.now S) c.in-Broken.is c.in_ok-check.ensures.verdict)).0
 
 pub returns-in_ok-nogood-in-Unfounded-clause-fault : goal.returns-in_ok-nogood-in-Unfounded-clause-fault
 returns-in_ok-nogood-in-Unfounded-clause-fault g c =
     let p = c.args.compiled.now in
     let S = c.args.interp.now in
     let is : c.assignment-assign.result.now ≡ assignment (var_count p) c.args.state.now.entries =
-    c.assignment-assign.ensures.values ∙ (ap (λ v. assignment v c.trail.result.now.entries) (c.trail.ensures.vars ∙ ap var_count c.requires.program) ∙ ap (assignment (var_count p)) c.trail.ensures.entries) in
+    c.assignment-assign.ensures.values ∙ (ap (λ v. assignment v c.trail.result.now.entries) (c.trail.ensures.vars ∙ ap var_count c.requires.program)
+    ∙ ap (assignment (var_count p)) c.trail.ensures.entries) in
     let l = c.in_ok-nogood-in-Unfounded.ensures in
-    loop_by p c.args.state.now.entries c.requires.whole S c.requires.atoms (g.P.Propagator.gives p c.args.state.now.bound) c.assignment-assign.result.now c.as_slice.result.now l.0 c.in_ok-nogood-in-Unfounded.nogood is
-    (subst (HasUnfounded p S) (sym c.as_slice.ensures.value) (subst (λ (q : Program). IsVerdict q S (verdict.Unfounded c.in-Unfounded.set)) c.requires.checker (subst (IsVerdict c.args.checker.now S) c.in-Unfounded.is c.in_ok-check.ensures.verdict)).0) l.1 l.2
+    loop_by p c.args.state.now.entries c.requires.whole S c.requires.atoms (g.P.Propagator.gives p c.args.state.now.bound)
+    c.assignment-assign.result.now c.as_slice.result.now l.0 c.in_ok-nogood-in-Unfounded.nogood is
+    (subst (HasUnfounded p S) (sym c.as_slice.ensures.value)
+    (subst (λ (q : Program). IsVerdict q S (verdict.Unfounded c.in-Unfounded.set)) c.requires.checker
+    (subst (IsVerdict c.args.checker.now S) c.in-Unfounded.is c.in_ok-check.ensures.verdict)).0) l.1 l.2

@@ -16,9 +16,11 @@ loop-i-preserved c =
     record {
       few = omega (arith, v.few, most, c.count-len.ensures);
       room = length-set held len _ ∙ v.room;
-      is = held_step c.args.compiled.now c.args.assign.now c.as_slice-atoms.result.now (take len held) _ c.loop-i.i _ _ same c.loop-i-test.true refl refl v.is (put ∙ ap (λ (b : Bool). take len held ++ cond b (get_or c.as_slice-atoms.result.now c.loop-i.i 0 ∷ []) []) c.is_held.ensures);
+      is = held_step c.args.compiled.now c.args.assign.now c.as_slice-atoms.result.now (take len held) _ c.loop-i.i _ _ same c.loop-i-test.true refl
+          refl v.is (put ∙ ap (λ (b : Bool). take len held ++ cond b (get_or c.as_slice-atoms.result.now c.loop-i.i 0 ∷ []) []) c.is_held.ensures);
     }
 
 pub returns-clause-held : goal.returns-clause-held
 returns-clause-held c =
-    held_end c.args.compiled.now c.args.assign.now c.as_slice-atoms.result.now (take c.loop-i.len c.loop-i.held) c.loop-i.i (c.as_slice-atoms.ensures.value ∙ c.atoms.ensures) c.loop-i-test.false c.loop-i.auto.i-end c.loop-i.invariant.is
+    held_end c.args.compiled.now c.args.assign.now c.as_slice-atoms.result.now (take c.loop-i.len c.loop-i.held) c.loop-i.i
+    (c.as_slice-atoms.ensures.value ∙ c.atoms.ensures) c.loop-i-test.false c.loop-i.auto.i-end c.loop-i.invariant.is

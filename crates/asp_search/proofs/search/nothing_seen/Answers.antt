@@ -10,4 +10,5 @@ returns-in-None-clause-seen c = subst (λ (k : Option Reasoning). IsSeen k c.arg
 pub returns-in_ok-known-in-Some-clause-seen : goal.returns-in_ok-known-in-Some-clause-seen
 returns-in_ok-known-in-Some-clause-seen c =
     let e = c.in_ok-known-in-Some.ensures in
-    subst (λ (k : Option Reasoning). IsSeen k c.args.compiled.now (Some c.in_ok-known-in-Some.known)) (sym c.in-Some.is ∙ c.reasoning.ensures) (ap (λ (x : Knowing). x.program) e, ap (λ (x : Knowing). x.reasoning) e)
+    subst (λ (k : Option Reasoning). IsSeen k c.args.compiled.now (Some c.in_ok-known-in-Some.known)) (sym c.in-Some.is ∙ c.reasoning.ensures)
+    (ap (λ (x : Knowing). x.program) e, ap (λ (x : Knowing). x.reasoning) e)

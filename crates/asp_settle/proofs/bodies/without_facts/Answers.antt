@@ -6,4 +6,5 @@ use Rattle.asp_settle.proofs.bodies.without_facts.Goals as goal
 
 pub returns : goal.returns
 returns c =
-    c.from_vec.ensures ∙ c.shrink_to_fit.ensures.items ∙ filter_same _ _ _ (λ x b f' k. search rules) _ _ c.retain.ensures.filtered ∙ ap (filter (λ l. not (has c.args.facts.now (atom_of l)))) c.into_vec-literals.ensures
+    c.from_vec.ensures ∙ c.shrink_to_fit.ensures.items ∙ filter_same _ _ _ (λ x b f' k. search rules) _ _ c.retain.ensures.filtered
+    ∙ ap (filter (λ l. not (has c.args.facts.now (atom_of l)))) c.into_vec-literals.ensures

@@ -12,7 +12,12 @@ returns c =
     let items = c.in_ok-flags.flags.items in
     let old = c.as_mut_slice.ensures.value ∙ c.in_ok-flags.ensures in
     let new = c.mark.ensures ∙ ap (λ f. with_flags false (with_flags true f (flat_map denied_by p.assumptions)) (map (λ e. e.atom) p.externals)) old in
-    let within : (a : ℕ) → has (flat_map denied_by p.assumptions) a ≡ true → nat_lt a c.places.result ≡ nat_lt a (reach p) = λ a h. c.places.ensures.reaches a (c.above-above.ensures.above a (ap (λ ls. has (flat_map denied_by ls) a) c.as_slice.ensures.value ∙ h)) ∙ ap (λ n. nat_lt a (16 * (n + 1))) c.len.ensures in
-    let count = ap length c.mark.ensures ∙ length-flags false (with_flags true c.as_mut_slice.result.now (flat_map denied_by p.assumptions)) (map (λ e. e.atom) p.externals) ∙ length-flags true c.as_mut_slice.result.now (flat_map denied_by p.assumptions) ∙ ap length c.as_mut_slice.ensures.value ∙ sym c.in_ok-flags.flags.ok.0 in
+    let within : (a : ℕ) → has (flat_map denied_by p.assumptions) a ≡ true → nat_lt a c.places.result ≡ nat_lt a (reach p) =
+    λ a h. c.places.ensures.reaches a (c.above-above.ensures.above a (ap (λ ls. has (flat_map denied_by ls) a) c.as_slice.ensures.value ∙ h))
+    ∙ ap (λ n. nat_lt a (16 * (n + 1))) c.len.ensures in
+    let count = ap length c.mark.ensures
+    ∙ length-flags false (with_flags true c.as_mut_slice.result.now (flat_map denied_by p.assumptions)) (map (λ e. e.atom) p.externals)
+    ∙ length-flags true c.as_mut_slice.result.now (flat_map denied_by p.assumptions) ∙ ap length c.as_mut_slice.ensures.value
+    ∙ sym c.in_ok-flags.flags.ok.0 in
     c.from_flags.ensures ∙ ap (places_from 0) (take_at c.mark.new.flags (drop (length c.mark.new.flags) items) c.in_ok-flags.flags.len count ∙ new)
     ∙ table-is c.places.result (reach p) (flat_map denied_by p.assumptions) (map (λ e. e.atom) p.externals) within

@@ -8,4 +8,5 @@ use Rattle.asp_source.proofs.bodies.bodies_with.Goals as goal
 
 pub returns-clause-bodies : goal.returns-clause-bodies
 returns-clause-bodies c =
-    subst (λ (os : List Occurrence). All (λ (o : Occurrence). o.body < length (bodies_of c.args.compiled.now)) os) (sym c.bodies_with.ensures) (places_small c.args.compiled.now (held_row c.args.compiled.now) c.args.lit)
+    subst (λ (os : List Occurrence). All (λ (o : Occurrence). o.body < length (bodies_of c.args.compiled.now)) os) (sym c.bodies_with.ensures)
+    (places_small c.args.compiled.now (held_row c.args.compiled.now) c.args.lit)

@@ -9,4 +9,5 @@ use Rattle.asp_source.proofs.founding.find_source.Given as goal
 
 abbrev pub invariant-loop-body : goal.invariant-loop-body
 invariant-loop-body g l =
-    list_any (λ v. not (is_excused l.compiled l.values (shown l.compiled (g.I.Inside.has_var l.set)) (form_of l.compiled v))) (take l.body-index (supports l.compiled (nth_atom l.compiled (l.var - 1)))) ≡ false
+    list_any (λ v. not (is_excused l.compiled l.values (shown l.compiled (g.I.Inside.has_var l.set)) (form_of l.compiled v)))
+    (take l.body-index (supports l.compiled (nth_atom l.compiled (l.var - 1)))) ≡ false

@@ -12,9 +12,13 @@ returns-in_default-clause-founds c = founds_same c.args.compiled.now c.args.valu
 
 pub returns-clause-founds : goal.returns-clause-founds
 returns-clause-founds c =
-    subst (λ (w : List Bool). Founds c.args.compiled.now c.args.values.now c.args.sources.now c.args.ranks.now c.args.loose.now c.args.waiting.now (set c.args.sources.now c.args.var c.in-Some.body) c.raise.new.self (set c.args.loose.now c.args.var false) w) (sym c.add.ensures)
-    (subst (λ (r : Ranking). Founds c.args.compiled.now c.args.values.now c.args.sources.now c.args.ranks.now c.args.loose.now c.args.waiting.now (set c.args.sources.now c.args.var c.in-Some.body) r (set c.args.loose.now c.args.var false) (set c.args.waiting.now (c.args.var - 1) true)) (sym c.raise.ensures.raised)
-    (founds_one c.args.compiled.now c.args.values.now c.args.sources.now c.args.ranks.now c.args.loose.now c.args.waiting.now c.args.var c.in-Some.body c.requires.var c.if-not-loose-var.false c.in-Some.ensures.some c.raise.ensures.above
+    subst (λ (w : List Bool). Founds c.args.compiled.now c.args.values.now c.args.sources.now c.args.ranks.now c.args.loose.now c.args.waiting.now
+    (set c.args.sources.now c.args.var c.in-Some.body) c.raise.new.self (set c.args.loose.now c.args.var false) w) (sym c.add.ensures)
+    (subst (λ (r : Ranking). Founds c.args.compiled.now c.args.values.now c.args.sources.now c.args.ranks.now c.args.loose.now c.args.waiting.now
+    (set c.args.sources.now c.args.var c.in-Some.body) r (set c.args.loose.now c.args.var false)
+    (set c.args.waiting.now (c.args.var - 1) true)) (sym c.raise.ensures.raised)
+    (founds_one c.args.compiled.now c.args.values.now c.args.sources.now c.args.ranks.now c.args.loose.now c.args.waiting.now c.args.var
+    c.in-Some.body c.requires.var c.if-not-loose-var.false c.in-Some.ensures.some c.raise.ensures.above
     (omega (arith, c.requires.var.0, c.requires.var.1, c.requires.room.waits))))
 
 pub returns-clause-founded : goal.returns-clause-founded

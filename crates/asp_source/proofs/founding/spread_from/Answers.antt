@@ -6,8 +6,11 @@ loop-occurrence-init c = founds_same c.args.compiled.now c.args.values.now c.arg
 
 pub loop-occurrence-preserved : goal.loop-occurrence-preserved
 loop-occurrence-preserved c =
-    founds_then c.args.compiled.now c.args.values.now c.args.sources.now c.args.ranks.now c.args.loose.now c.args.waiting.now c.loop-occurrence.sources c.loop-occurrence.ranks c.loop-occurrence.loose c.loop-occurrence.waiting c.found_heads.new.sources c.found_heads.new.ranks c.found_heads.new.loose c.found_heads.new.waiting c.loop-occurrence.invariant c.found_heads.ensures
+    founds_then c.args.compiled.now c.args.values.now c.args.sources.now c.args.ranks.now c.args.loose.now c.args.waiting.now
+    c.loop-occurrence.sources c.loop-occurrence.ranks c.loop-occurrence.loose c.loop-occurrence.waiting c.found_heads.new.sources
+    c.found_heads.new.ranks c.found_heads.new.loose c.found_heads.new.waiting c.loop-occurrence.invariant c.found_heads.ensures
 
 pub found_heads-requires-clause-room : goal.found_heads-requires-clause-room
 found_heads-requires-clause-room c =
-    room_then c.args.compiled.now c.args.values.now c.args.sources.now c.args.ranks.now c.args.loose.now c.args.waiting.now c.loop-occurrence.sources c.loop-occurrence.ranks c.loop-occurrence.loose c.loop-occurrence.waiting c.requires.room c.loop-occurrence.invariant
+    room_then c.args.compiled.now c.args.values.now c.args.sources.now c.args.ranks.now c.args.loose.now c.args.waiting.now c.loop-occurrence.sources
+    c.loop-occurrence.ranks c.loop-occurrence.loose c.loop-occurrence.waiting c.requires.room c.loop-occurrence.invariant

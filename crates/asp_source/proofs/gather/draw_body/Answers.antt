@@ -7,7 +7,8 @@ loop-lit-init c = (c.requires.gathering, gathers_same c.args.region.now.values.n
 pub loop-lit-preserved : goal.loop-lit-preserved
 loop-lit-preserved c = (
   c.draw.ensures.gathering,
-  gathers_then c.args.region.now.values.now c.args.sources.now c.args.loose.now c.args.waiting.now c.loop-lit.sources c.loop-lit.loose c.loop-lit.waiting c.draw.new.sources c.draw.new.loose c.draw.new.waiting c.loop-lit.invariant.1 c.draw.ensures.gathers,
+  gathers_then c.args.region.now.values.now c.args.sources.now c.args.loose.now c.args.waiting.now c.loop-lit.sources c.loop-lit.loose
+      c.loop-lit.waiting c.draw.new.sources c.draw.new.loose c.draw.new.waiting c.loop-lit.invariant.1 c.draw.ensures.gathers,
 )
 
 pub returns-then-holds-clause-gathers : goal.returns-then-holds-clause-gathers

@@ -18,14 +18,26 @@ loop-occurrence-preserved c =
     let listed = c.occurrences-occurrence-items.ensures.occurrences ∙ ap (occurrences_of c.args.region.now.compiled.now) c.new.ensures in
     record {
       gathering = c.release_heads.ensures.steps.gathering;
-      gathers = gathers_then c.args.region.now.values.now c.args.sources.now c.args.loose.now c.args.waiting.now c.loop-occurrence.sources c.loop-occurrence.loose c.loop-occurrence.waiting c.release_heads.new.sources c.release_heads.new.loose c.release_heads.new.waiting c.loop-occurrence.invariant.gathers c.release_heads.ensures.steps.gathers;
-      released = released_more c.args.region.now.compiled.now c.args.region.now.components.now c.args.region.now.values.now c.args.region.now.component c.args.region.now.ranks.now.ranks c.loop-occurrence.sources c.loop-occurrence.loose c.loop-occurrence.waiting c.release_heads.new.sources c.release_heads.new.loose c.release_heads.new.waiting (occurrences_of c.args.region.now.compiled.now (T c.args.var)) c.loop-occurrence.occurrence-index _ c.release_heads.ensures.steps.keeps c.loop-occurrence.invariant.released c.release_heads.ensures.released
-          (λ d lt. ap (λ (o : Occurrence). o.body) (item_at c.occurrences-occurrence-items.result.now (occurrences_of c.args.region.now.compiled.now (T c.args.var)) c.loop-occurrence.occurrence-index d (record { body = 0; place = 0 }) listed lt));
+      gathers =
+          gathers_then c.args.region.now.values.now c.args.sources.now c.args.loose.now c.args.waiting.now c.loop-occurrence.sources
+          c.loop-occurrence.loose c.loop-occurrence.waiting c.release_heads.new.sources c.release_heads.new.loose c.release_heads.new.waiting
+          c.loop-occurrence.invariant.gathers c.release_heads.ensures.steps.gathers;
+      released =
+          released_more c.args.region.now.compiled.now c.args.region.now.components.now c.args.region.now.values.now c.args.region.now.component
+          c.args.region.now.ranks.now.ranks c.loop-occurrence.sources c.loop-occurrence.loose c.loop-occurrence.waiting c.release_heads.new.sources
+          c.release_heads.new.loose c.release_heads.new.waiting (occurrences_of c.args.region.now.compiled.now (T c.args.var))
+          c.loop-occurrence.occurrence-index _ c.release_heads.ensures.steps.keeps c.loop-occurrence.invariant.released
+          c.release_heads.ensures.released
+          (λ d lt. ap (λ (o : Occurrence). o.body)
+          (item_at c.occurrences-occurrence-items.result.now (occurrences_of c.args.region.now.compiled.now (T c.args.var))
+          c.loop-occurrence.occurrence-index d (record { body = 0; place = 0 }) listed lt));
     }
 
 pub returns-clause-gathering : goal.returns-clause-gathering
 returns-clause-gathering c =
     let listed = c.occurrences-occurrence-items.ensures.occurrences ∙ ap (occurrences_of c.args.region.now.compiled.now) c.new.ensures in
-    looked_through c.args.region.now.compiled.now c.args.region.now.components.now c.args.region.now.values.now c.args.region.now.component c.args.region.now.ranks.now.ranks c.args.var c.loop-occurrence.sources c.loop-occurrence.loose c.loop-occurrence.waiting c.loop-occurrence.joined c.program-program.ensures.sound
+    looked_through c.args.region.now.compiled.now c.args.region.now.components.now c.args.region.now.values.now c.args.region.now.component
+    c.args.region.now.ranks.now.ranks c.args.var c.loop-occurrence.sources c.loop-occurrence.loose c.loop-occurrence.waiting
+    c.loop-occurrence.joined c.program-program.ensures.sound
     (λ i d lt. c.loop-occurrence.invariant.released i d (omega (arith, c.loop-occurrence-test.false, ap length listed, lt)) lt)
     c.loop-occurrence.invariant.gathering

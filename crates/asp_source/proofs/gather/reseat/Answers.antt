@@ -7,6 +7,8 @@ use Rattle.asp_source.proofs.gather.reseat.Goals as goal
 pub returns-clause-seated : goal.returns-clause-seated
 returns-clause-seated c e = record {
   body = c.in-Some.body;
-  by = subst (λ (r : ℕ). IsFoundBy c.args.region.now.compiled.now c.args.region.now.values.now (is_above c.args.region.now.components.now c.args.region.now.ranks.now.ranks (is_marked c.args.loose.now) c.args.region.now.component r) c.args.var c.in-Some.body) c.of.ensures c.in-Some.ensures.some;
+  by = subst (λ (r : ℕ). IsFoundBy c.args.region.now.compiled.now c.args.region.now.values.now
+      (is_above c.args.region.now.components.now c.args.region.now.ranks.now.ranks (is_marked c.args.loose.now) c.args.region.now.component r)
+      c.args.var c.in-Some.body) c.of.ensures c.in-Some.ensures.some;
   is = refl;
 }

@@ -9,4 +9,5 @@ overflow_add-var c = omega (arith, c.requires.few, c.requires.loose c.loop-place
 
 pub returns-clause-none : goal.returns-clause-none
 returns-clause-none c =
-    subst (λ (ks : List ℕ). IfNone c.loop-place.chosen (All (λ k. is_marked c.args.loose.now (k + 1) ≡ false) ks)) (take_all c.loop-place.place-index c.args.places.now (omega (arith, c.loop-place-test.false))) c.loop-place.invariant.0
+    subst (λ (ks : List ℕ). IfNone c.loop-place.chosen (All (λ k. is_marked c.args.loose.now (k + 1) ≡ false) ks))
+    (take_all c.loop-place.place-index c.args.places.now (omega (arith, c.loop-place-test.false))) c.loop-place.invariant.0

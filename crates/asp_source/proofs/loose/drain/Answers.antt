@@ -43,14 +43,16 @@ elsewhere loose l v w lt is e z =
     false≢true (sym (get_or-set_same loose v false false lt) ∙ (ap (is_marked (set loose v false)) (sym z) ∙ (sym (ap (λ (m : List Bool). is_marked m w) is) ∙ e)))
 
 -- a place leaves those that joined, and its atom's mark goes
-listed_less : (loose joined l j : List Bool) (k v : ℕ) → k + 1 < length loose → l ≡ set loose (k + 1) false → j ≡ set joined k false → ((w : ℕ) → is_marked loose w ≡ true → (0 < w) × (is_marked joined (w - 1) ≡ true)) → is_marked l v ≡ true → (0 < v) × (is_marked j (v - 1) ≡ true)
+listed_less : (loose joined l j : List Bool) (k v : ℕ) → k + 1 < length loose → l ≡ set loose (k + 1) false → j ≡ set joined k false →
+    ((w : ℕ) → is_marked loose w ≡ true → (0 < w) × (is_marked joined (w - 1) ≡ true)) → is_marked l v ≡ true → (0 < v) × (is_marked j (v - 1) ≡ true)
 listed_less loose joined l j k v lt is left listed e =
     let before = listed v (left_before loose l (k + 1) v is e) in
     let ne = elsewhere loose l (k + 1) v lt is e in
     let positive = before.0 in
     (positive, ap (λ (m : List Bool). is_marked m (v - 1)) left ∙ (get_or-set_other joined k (v - 1) false false (λ i. ne (omega (arith, i, positive))) ∙ before.1))
 
-queued_more : (queue loose q l : List Bool) (k v : ℕ) → k < length queue → q ≡ requeue_places queue loose (k + 1) → l ≡ set loose (k + 1) false → (is_marked queue (v - 1) ≡ true) ⊎ (is_marked loose v ≡ true) → (is_marked q (v - 1) ≡ true) ⊎ (is_marked l v ≡ true)
+queued_more : (queue loose q l : List Bool) (k v : ℕ) → k < length queue → q ≡ requeue_places queue loose (k + 1) → l ≡ set loose (k + 1) false →
+    (is_marked queue (v - 1) ≡ true) ⊎ (is_marked loose v ≡ true) → (is_marked q (v - 1) ≡ true) ⊎ (is_marked l v ≡ true)
 queued_more queue loose q l k v lt is less before = elim before [
   | inl there ↦ inl (ap (λ (m : List Bool). is_marked m (v - 1)) is ∙ still_queued queue loose (k + 1) (v - 1) there)
   | inr marked ↦ cases marked (eqb v (k + 1)) refl
@@ -76,9 +78,13 @@ loop-place-preserved c =
     record {
       room = ap length c.requeue.ensures.queue ∙ (same_room c.loop-place.queue c.loop-place.loose (c.in-Some.place + 1) ∙ c.loop-place.invariant.room);
       seats = ap length c.in-Some.ensures.some ∙ (length-set c.loop-place.joined c.in-Some.place false ∙ c.loop-place.invariant.seats);
-      listed = λ v e. listed_less c.loop-place.loose c.loop-place.joined c.requeue.new.loose c.pop.new.self c.in-Some.place v marks c.requeue.ensures.loose c.in-Some.ensures.some c.loop-place.invariant.listed e;
+      listed = λ v e. listed_less c.loop-place.loose c.loop-place.joined c.requeue.new.loose c.pop.new.self c.in-Some.place v marks
+          c.requeue.ensures.loose c.in-Some.ensures.some c.loop-place.invariant.listed e;
       more = λ k e. ap (λ (m : List Bool). is_marked m k) c.requeue.ensures.queue ∙ still_queued c.loop-place.queue c.loop-place.loose (c.in-Some.place + 1) k (c.loop-place.invariant.more k e);
-      queued = λ v e. queued_more c.loop-place.queue c.loop-place.loose c.requeue.new.queue c.requeue.new.loose c.in-Some.place v fits c.requeue.ensures.queue c.requeue.ensures.loose (c.loop-place.invariant.queued v e);
+      queued = λ v e. queued_more c.loop-place.queue c.loop-place.loose c.requeue.new.queue c.requeue.new.loose c.in-Some.place v fits
+          c.requeue.ensures.queue c.requeue.ensures.loose (c.loop-place.invariant.queued v e);
       less = λ v e. c.loop-place.invariant.less v (left_before c.loop-place.loose c.requeue.new.loose (c.in-Some.place + 1) v c.requeue.ensures.loose e);
-      same = λ blank. c.requeue.ensures.queue ∙ (none_queued c.loop-place.queue c.loop-place.loose c.args.loose.now (c.in-Some.place + 1) c.loop-place.invariant.less blank ∙ c.loop-place.invariant.same blank);
+      same = λ blank. c.requeue.ensures.queue
+          ∙ (none_queued c.loop-place.queue c.loop-place.loose c.args.loose.now (c.in-Some.place + 1) c.loop-place.invariant.less blank
+          ∙ c.loop-place.invariant.same blank);
     }

@@ -8,5 +8,6 @@ use Rattle.asp_source.proofs.pointers.lose_all.Given as goal
 abbrev pub invariant-loop-occurrence : goal.invariant-loop-occurrence
 invariant-loop-occurrence l = record {
   loses : Loses l.initial.sources l.initial.queue l.sources l.queue;
-  gone : (i : ℕ) (d : Occurrence) → i < l.occurrence-index → i < length (occurrences_of l.compiled (complement l.fn.lit)) → IsGoneBy l.compiled l.sources (get_or (occurrences_of l.compiled (complement l.fn.lit)) i d);
+  gone : (i : ℕ) (d : Occurrence) → i < l.occurrence-index → i < length (occurrences_of l.compiled (complement l.fn.lit)) →
+      IsGoneBy l.compiled l.sources (get_or (occurrences_of l.compiled (complement l.fn.lit)) i d);
 }

@@ -24,7 +24,8 @@ queued_again q r k j i is lt at e = cases (eqb i j) refl
         ∙ (get_or-set_other q k i false false (λ a. ne (a ∙ sym at)) ∙ e))
 
 -- the pointers when the place that was popped is looked at
-popped : (p : Program) (c : Parts) (x : List (Option Bool)) (s ranks : List ℕ) (q r : List Bool) (k : ℕ) → r ≡ set q k false → k < length q → ArePointers p c x s ranks q [] → ArePointers p c x s ranks (set r ((k + 1) - 1) true) []
+popped : (p : Program) (c : Parts) (x : List (Option Bool)) (s ranks : List ℕ) (q r : List Bool) (k : ℕ) → r ≡ set q k false → k < length q →
+    ArePointers p c x s ranks q [] → ArePointers p c x s ranks (set r ((k + 1) - 1) true) []
 popped p c x s ranks q r k is lt h = record {
   size = h.size;
   rank_room = h.rank_room;
@@ -39,11 +40,15 @@ popped p c x s ranks q r k is lt h = record {
 
 pub look-requires-clause-pointers : goal.look-requires-clause-pointers
 look-requires-clause-pointers c =
-    popped c.args.setting.now.compiled.now c.args.setting.now.components.now c.args.setting.now.values.now c.loop-place.sources c.loop-place.ranks.ranks c.loop-place.queue c.pop.new.self c.in-Some.place c.in-Some.ensures.some c.in-Some.ensures.within c.loop-place.invariant.pointers
+    popped c.args.setting.now.compiled.now c.args.setting.now.components.now c.args.setting.now.values.now c.loop-place.sources
+    c.loop-place.ranks.ranks c.loop-place.queue c.pop.new.self c.in-Some.place c.in-Some.ensures.some c.in-Some.ensures.within
+    c.loop-place.invariant.pointers
 
 pub returns-clause-none : goal.returns-clause-none
 returns-clause-none c =
-    none_unfounded c.args.setting.now.compiled.now c.args.setting.now.components.now c.args.setting.now.values.now c.loop-place.sources c.loop-place.ranks.ranks c.loop-place.queue c.program-program.ensures.sound c.requires.components c.loop-place.invariant.pointers.supports c.loop-place.invariant.pointers.ranked c.loop-place.invariant.pointers.sought c.in_default.ensures.none
+    none_unfounded c.args.setting.now.compiled.now c.args.setting.now.components.now c.args.setting.now.values.now c.loop-place.sources
+    c.loop-place.ranks.ranks c.loop-place.queue c.program-program.ensures.sound c.requires.components c.loop-place.invariant.pointers.supports
+    c.loop-place.invariant.pointers.ranked c.loop-place.invariant.pointers.sought c.in_default.ensures.none
 
 pub look-requires-clause-time : goal.look-requires-clause-time
 look-requires-clause-time c = omega (arith, c.in-Some.ensures.fewer, c.loop-place.invariant.time)

@@ -8,7 +8,9 @@ use Rattle.asp_source.proofs.search.nogood_of.Goals as goal
 pub loop_nogood-requires-clause-stand : goal.loop_nogood-requires-clause-stand
 loop_nogood-requires-clause-stand c =
     subst (λ (U : List ℕ). All (Stands c.args.setting.now.compiled.now) U) (sym c.as_slice-atoms.ensures.value)
-    (all_stand c.args.setting.now.compiled.now c.args.found.now.atoms.items (found_joined c.args.setting.now.compiled.now c.args.setting.now.values.now c.args.found.now.atoms.items c.args.found.now.atom c.requires.found))
+    (all_stand c.args.setting.now.compiled.now c.args.found.now.atoms.items
+    (found_joined c.args.setting.now.compiled.now c.args.setting.now.values.now c.args.found.now.atoms.items c.args.found.now.atom
+    c.requires.found))
 
 pub returns : goal.returns
 returns c =

@@ -9,7 +9,8 @@ use Rattle.asp_source.proofs.ChangeLaws.{var_component, set_marked}
 use Rattle.asp_source.proofs.start.queue_all.Goals as goal
 
 -- one atom more
-marked_more : (c : Parts) (old new : List Bool) (i : ℕ) → i < length old → new ≡ cond (get_or c.trivial (get_or c.numbers (i + 1) 0) false) old (set old i true) → AreMarked c i old → AreMarked c (i + 1) new
+marked_more : (c : Parts) (old new : List Bool) (i : ℕ) → i < length old →
+    new ≡ cond (get_or c.trivial (get_or c.numbers (i + 1) 0) false) old (set old i true) → AreMarked c i old → AreMarked c (i + 1) new
 marked_more c old new i lt is h v some_ small cyclic = ap (λ m. is_marked m (v - 1)) is ∙ cases (eqb v (i + 1)) refl
   where
     keep : (t : Bool) (k : ℕ) → is_marked old k ≡ true → is_marked (cond t old (set old i true)) k ≡ true
@@ -45,6 +46,10 @@ queue_atom-requires-clause-trivial c =
 
 pub loop-atom-preserved : goal.loop-atom-preserved
 loop-atom-preserved c = (
-  ap length c.queue_atom.ensures ∙ more-length (get_or c.args.components.now.trivial (get_or c.args.components.now.numbers (c.loop-atom.atom + 1) 0) false) c.loop-atom.queue c.loop-atom.atom ∙ c.loop-atom.invariant.0,
-  marked_more c.args.components.now c.loop-atom.queue c.queue_atom.new.queue c.loop-atom.atom (omega (arith, c.loop-atom-test.true, c.atom_count-atom-end.ensures.count, c.loop-atom.invariant.0)) c.queue_atom.ensures c.loop-atom.invariant.1,
+  ap length c.queue_atom.ensures ∙ more-length
+      (get_or c.args.components.now.trivial (get_or c.args.components.now.numbers (c.loop-atom.atom + 1) 0) false) c.loop-atom.queue c.loop-atom.atom
+      ∙ c.loop-atom.invariant.0,
+  marked_more c.args.components.now c.loop-atom.queue c.queue_atom.new.queue c.loop-atom.atom
+      (omega (arith, c.loop-atom-test.true, c.atom_count-atom-end.ensures.count, c.loop-atom.invariant.0)) c.queue_atom.ensures
+      c.loop-atom.invariant.1,
 )

@@ -23,7 +23,8 @@ place-requires-clause-stand g c =
     let p = c.args.compiled.now in
     let cube : List ℤ = c.args.leaf.cube in
     let divides : Divides p cube c.in-Some.atom = divides_at p cube c.args.leaf.next c.in-Some.atom c.requires.leaf.next c.in-Some.is in
-    let e : c.in_ok-lacking-in-Some.lacking ≡ cube ++ neg_ℤ (pos c.in-Some.atom) ∷ [] = c.in_ok-lacking-in-Some.ensures ∙ ap (λ (l : ℤ). cube ++ l ∷ []) (to_z-of_z w32 c.negative.result (search rules) ∙ c.negative.ensures) in
+    let e : c.in_ok-lacking-in-Some.lacking ≡ cube ++ neg_ℤ (pos c.in-Some.atom) ∷ [] =
+    c.in_ok-lacking-in-Some.ensures ∙ ap (λ (l : ℤ). cube ++ l ∷ []) (to_z-of_z w32 c.negative.result (search rules) ∙ c.negative.ensures) in
     subst (AreStanding p) (sym e) (without-stands p cube c.in-Some.atom c.requires.leaf.stands divides.stands)
 
 pub place-requires-in-Some-clause-stand : goal.place-requires-in-Some-clause-stand
@@ -31,7 +32,8 @@ place-requires-in-Some-clause-stand g c =
     let p = c.args.compiled.now in
     let cube : List ℤ = c.args.leaf.cube in
     let divides : Divides p cube c.in-Some.atom = divides_at p cube c.args.leaf.next c.in-Some.atom c.requires.leaf.next c.in-Some.is in
-    let e : c.in_ok-having-in-Some.having ≡ cube ++ pos c.in-Some.atom ∷ [] = c.in_ok-having-in-Some.ensures ∙ ap (λ (l : ℤ). cube ++ l ∷ []) (to_z-of_z w32 c.positive.result (search rules) ∙ c.positive.ensures) in
+    let e : c.in_ok-having-in-Some.having ≡ cube ++ pos c.in-Some.atom ∷ [] =
+    c.in_ok-having-in-Some.ensures ∙ ap (λ (l : ℤ). cube ++ l ∷ []) (to_z-of_z w32 c.positive.result (search rules) ∙ c.positive.ensures) in
     subst (AreStanding p) (sym e) (with-stands p cube c.in-Some.atom c.requires.leaf.stands divides.stands)
 
 pub returns-clause-placed : goal.returns-clause-placed
@@ -39,8 +41,10 @@ returns-clause-placed g c =
     let p = c.args.compiled.now in
     let cube : List ℤ = c.args.leaf.cube in
     let divides : Divides p cube c.in-Some.atom = divides_at p cube c.args.leaf.next c.in-Some.atom c.requires.leaf.next c.in-Some.is in
-    let having : c.in_ok-having-in-Some.having ≡ cube ++ pos c.in-Some.atom ∷ [] = c.in_ok-having-in-Some.ensures ∙ ap (λ (l : ℤ). cube ++ l ∷ []) (to_z-of_z w32 c.positive.result (search rules) ∙ c.positive.ensures) in
-    let lacking : c.in_ok-lacking-in-Some.lacking ≡ cube ++ neg_ℤ (pos c.in-Some.atom) ∷ [] = c.in_ok-lacking-in-Some.ensures ∙ ap (λ (l : ℤ). cube ++ l ∷ []) (to_z-of_z w32 c.negative.result (search rules) ∙ c.negative.ensures) in
+    let having : c.in_ok-having-in-Some.having ≡ cube ++ pos c.in-Some.atom ∷ [] =
+    c.in_ok-having-in-Some.ensures ∙ ap (λ (l : ℤ). cube ++ l ∷ []) (to_z-of_z w32 c.positive.result (search rules) ∙ c.positive.ensures) in
+    let lacking : c.in_ok-lacking-in-Some.lacking ≡ cube ++ neg_ℤ (pos c.in-Some.atom) ∷ [] =
+    c.in_ok-lacking-in-Some.ensures ∙ ap (λ (l : ℤ). cube ++ l ∷ []) (to_z-of_z w32 c.negative.result (search rules) ∙ c.negative.ensures) in
     on_ok_weaker c.place-in-Some.result
     (λ second. divided p c.args.leaves.now.items c.place.new.leaves.items c.place-in-Some.new.leaves.items cube c.in-Some.atom c.in_ok-lacking-in-Some.lacking c.in_ok-having-in-Some.having
     divides lacking having c.in_ok-place-in-Some.ensures.placed second) c.place-in-Some.ensures.placed

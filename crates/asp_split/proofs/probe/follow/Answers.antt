@@ -75,6 +75,8 @@ returns-clause-follows g c =
     let begun : IsBegun u.program lits u.decisions u.entries = c.trail-trail.ensures.begun lits under in
     let low : level u.entries ≡ 0 = ap level i.1 ∙ (level_stays t.entries i.0 i.2 ∙ c.enter.ensures.level) in
     let same : IsSound u.program = subst IsSound (sym (ap (λ (x : SearchView). x.program) f)) sound in
-    let reasons = reasons_settled p u (g.P.Propagator.late u.program u.bound) (λ n l. g.met.P.Propagator.sound u.program u.bound n [] same (g.met.P.Propagator.given u.program u.bound n l)) keeps (c.store-store.ensures.implied same) in
+    let reasons = reasons_settled p u (g.P.Propagator.late u.program u.bound)
+    (λ n l. g.met.P.Propagator.sound u.program u.bound n [] same (g.met.P.Propagator.given u.program u.bound n l)) keeps
+    (c.store-store.ensures.implied same) in
     subst (λ (b : Bool). Follows p u lits b) (none_is c.is_none.result (is_some c.in_ok-violated.violated) c.is_none.ensures)
     (followed p u lits c.in_ok-violated.violated keeps c.trail-trail.ensures.ordered reasons begun.starts low c.in_ok-violated.ensures.violated)

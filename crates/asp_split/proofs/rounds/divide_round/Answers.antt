@@ -13,7 +13,8 @@ leaves-init g c =
     let e : c.in_ok-leaves.leaves.items ++ reverse c.reverse.new.self.items ≡ all =
     ap (λ (ls : List Leaf). ls ++ reverse c.reverse.new.self.items) c.in_ok-leaves.ensures.items ∙ (ap reverse c.reverse.ensures.items ∙ reverse-reverse all) in
     record {
-      parted = subst (λ (ls : List Leaf). IsParted c.args.compiled.now all ls c.args.round.now.parts) (sym e) (parted_first c.args.compiled.now all c.args.round.now.parts c.requires.leaves c.requires.few);
+      parted = subst (λ (ls : List Leaf). IsParted c.args.compiled.now all ls c.args.round.now.parts) (sym e)
+          (parted_first c.args.compiled.now all c.args.round.now.parts c.requires.leaves c.requires.few);
       prober = c.requires.kept;
       parts = refl;
     }
@@ -41,5 +42,6 @@ leaves-preserved g c =
 pub returns-clause-parted : goal.returns-clause-parted
 returns-clause-parted g c =
     let none : c.leaves.waiting.items ≡ [] = none_waits c.leaves.waiting.items c.pop.result (λ lt. c.pop.ensures.variant.1 (omega (arith, lt, c.leaves.waiting.ok.0))) c.in_default.is in
-    subst (λ (ls : List Leaf). IsParted c.args.compiled.now c.args.waiting.items ls c.args.round.now.parts) (ap (λ (ls : List Leaf). c.leaves.leaves.items ++ reverse ls) none ∙ append-nil c.leaves.leaves.items)
+    subst (λ (ls : List Leaf). IsParted c.args.compiled.now c.args.waiting.items ls c.args.round.now.parts)
+    (ap (λ (ls : List Leaf). c.leaves.leaves.items ++ reverse ls) none ∙ append-nil c.leaves.leaves.items)
     c.leaves.invariant.parted

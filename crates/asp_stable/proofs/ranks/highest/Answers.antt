@@ -10,4 +10,5 @@ loop-lit-preserved c =
 
 pub returns : goal.returns
 returns c =
-    all_taken (λ (l : Literal). l.truth ≡ true → (0 < get_or c.args.ranks.now l.var 0) × (get_or c.args.ranks.now l.var 0 ≤ c.loop-lit.top)) c.args.lits.now c.loop-lit.lit-index c.loop-lit-test.false c.loop-lit.invariant
+    all_taken (λ (l : Literal). l.truth ≡ true → (0 < get_or c.args.ranks.now l.var 0) × (get_or c.args.ranks.now l.var 0 ≤ c.loop-lit.top))
+    c.args.lits.now c.loop-lit.lit-index c.loop-lit-test.false c.loop-lit.invariant

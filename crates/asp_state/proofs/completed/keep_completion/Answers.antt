@@ -43,7 +43,9 @@ loop-from-preserved g c =
       within = omega (arith, c.loop-from-test.true, c.in_ok-count.ensures, c.min.ensures);
       same = k.same ∙ ap (λ (e : Propagating). let f : Propagating = record e { slots = c.keep_part.new.engine.slots } in f) i.same;
       adds = subst (λ (ns : List Nogood). AddsForever ns c.args.engine.now.slots c.keep_part.new.engine.slots) (sym (listed_between p from to le)) (adds_all _ _ _ _ _ i.adds k.adds);
-      order = k.order ∙ ap (λ (r : Ranking). fold with_places r (nogoods_between p from to)) i.order ∙ sym (fold-append with_places c.args.order.now (nogoods_between p 0 from) (nogoods_between p from to)) ∙ ap (fold with_places c.args.order.now) (sym more);
+      order = k.order ∙ ap (λ (r : Ranking). fold with_places r (nogoods_between p from to)) i.order
+          ∙ sym (fold-append with_places c.args.order.now (nogoods_between p 0 from) (nogoods_between p from to))
+          ∙ ap (fold with_places c.args.order.now) (sym more);
     }
 
 pub returns-clause-adds : goal.returns-clause-adds

@@ -16,7 +16,8 @@ begin_all-requires g c =
     let p = c.args.compiled.now in
     let order : Ranking = c.args.order.now in
     let listed : All (λ (n : Nogood). All (λ l. IsVar (var_count p) l.var) n.lits) c.as_slice.result.now =
-    subst (λ (ns : List Nogood). All (λ (n : Nogood). All (λ l. IsVar (var_count p) l.var) n.lits) ns) (sym (c.as_slice.ensures.value ∙ c.in_ok-nogoods.ensures)) (vars_between p c.args.from c.args.to c.requires.from c.requires.to) in
+    subst (λ (ns : List Nogood). All (λ (n : Nogood). All (λ l. IsVar (var_count p) l.var) n.lits) ns)
+    (sym (c.as_slice.ensures.value ∙ c.in_ok-nogoods.ensures)) (vars_between p c.args.from c.args.to c.requires.from c.requires.to) in
     λ k d h. vars_ranked (var_count p) (length order.activities) (get_or c.as_slice.result.now k d).lits c.requires.vars (listed k d h)
 
 pub keep_all-requires : goal.keep_all-requires

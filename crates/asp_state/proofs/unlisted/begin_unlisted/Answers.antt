@@ -8,4 +8,6 @@ pub begin_body-requires-clause-vars : goal.begin_body-requires-clause-vars
 begin_body-requires-clause-vars c = bodies-vars c.args.compiled.now (var_count c.args.compiled.now) c.loop-body.body c.args.order.now c.loop-body.order c.loop-body.invariant c.requires
 
 pub loop-body-preserved : goal.loop-body-preserved
-loop-body-preserved c = bodies_more c.args.compiled.now c.args.order.now c.loop-body.order c.begin_body.new.order c.loop-body.body (body.All []) (omega arith) c.loop-body.invariant c.begin_body.ensures
+loop-body-preserved c =
+    bodies_more c.args.compiled.now c.args.order.now c.loop-body.order c.begin_body.new.order c.loop-body.body (body.All []) (omega arith)
+    c.loop-body.invariant c.begin_body.ensures

@@ -29,4 +29,5 @@ returns-in-None-clause-some c = some_before c.args.values.now c.args.other c.min
 
 pub returns-in-None-clause-none : goal.returns-in-None-clause-none
 returns-in-None-clause-none c =
-    none_parted (λ k. literal_eq k c.args.other ≡ false → holds_in c.args.values.now k ≡ true) c.min-start.result c.args.lits.now c.beside-in-None.result c.in-None.ensures.none c.beside-in-None.ensures.none
+    none_parted (λ k. literal_eq k c.args.other ≡ false → holds_in c.args.values.now k ≡ true) c.min-start.result c.args.lits.now
+    c.beside-in-None.result c.in-None.ensures.none c.beside-in-None.ensures.none

@@ -80,7 +80,8 @@ leave-requires c =
     }
 
 pub returns-in_err-push-clause-sound : goal.returns-in_err-push-clause-sound
-returns-in_err-push-clause-sound c = subst (λ (ls : List (List Watch)). IsSound c.args.slots.now (record c.args.watches.now { lists = ls }) c.args.trail.now) (sym c.in_err-push.ensures.err) c.requires.waiting.looking.sound
+returns-in_err-push-clause-sound c = subst (λ (ls : List (List Watch)). IsSound c.args.slots.now (record c.args.watches.now { lists = ls })
+    c.args.trail.now) (sym c.in_err-push.ensures.err) c.requires.waiting.looking.sound
 
 pub returns-in_err-push-2-clause-sound : goal.returns-in_err-push-2-clause-sound
 returns-in_err-push-2-clause-sound c =
@@ -89,7 +90,8 @@ returns-in_err-push-2-clause-sound c =
     let p = c.args.pair in
     let one = c.in_ok-push.ensures.ok ∙ ap (λ (x : Watch). set w.lists (code_of p.first) (list_at w.lists (code_of p.first) ++ x ∷ [])) c.new.ensures in
     subst (λ (ls : List (List Watch)). IsSound c.args.slots.now (record w { lists = ls }) c.args.trail.now) (sym (c.in_err-push-2.ensures.err ∙ one))
-    (sound_both c.args.slots.now w c.args.trail.now p c.args.id k.0 c.is_lasting_at-is_short.result k.1 (c.requires.watched k.0 k.1) c.is_lasting_at-is_short.ensures c.requires.waiting.looking.sound).0
+    (sound_both c.args.slots.now w c.args.trail.now p c.args.id k.0 c.is_lasting_at-is_short.result k.1 (c.requires.watched k.0 k.1)
+    c.is_lasting_at-is_short.ensures c.requires.waiting.looking.sound).0
 
 pub returns-in_err-put_row-clause-sound : goal.returns-in_err-put_row-clause-sound
 returns-in_err-put_row-clause-sound c =

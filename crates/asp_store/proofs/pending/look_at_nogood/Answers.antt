@@ -11,7 +11,9 @@ use Rattle.asp_store.proofs.PendingLaws.{waiting_grow, for_each, found_violated,
 use Rattle.asp_store.proofs.pending.look_at_nogood.Goals as goal
 
 pub look_at-found-requires-clause-small : goal.look_at-found-requires-clause-small
-look_at-found-requires-clause-small c = visit_small c.args.slots.now c.args.watches.now c.args.trail.now c.args.id c.requires.kept.0 c.args.lits.now c.requires.waiting.looking.sound c.requires.kept.1 c.requires.kept.2
+look_at-found-requires-clause-small c =
+    visit_small c.args.slots.now c.args.watches.now c.args.trail.now c.args.id c.requires.kept.0 c.args.lits.now c.requires.waiting.looking.sound
+    c.requires.kept.1 c.requires.kept.2
 
 pub attach-requires-clause-waiting : goal.attach-requires-clause-waiting
 attach-requires-clause-waiting c =
@@ -22,7 +24,10 @@ attach-requires-clause-waiting c =
     (waiting_grow c.args.slots.now c.args.watches.now t c.args.i c.args.id g.0 (omega (arith, c.len-len.ensures.len, c.len-len.ensures.seen)) c.requires.waiting)
 
 pub attach-requires-clause-watched : goal.attach-requires-clause-watched
-attach-requires-clause-watched c = for_each c.args.slots.now c.args.id c.requires.kept.0 c.args.lits.now (λ xs. IsWatched xs c.in-Watched.pair c.look_at-found.new.trail.entries (length c.look_at-found.new.trail.entries)) c.requires.kept.1 c.requires.kept.2 (subst (λ (l : Look). Found c.args.trail.now.vars c.args.lits.now c.args.trail.now.entries c.look_at-found.new.trail.entries l) c.in-Watched.is c.look_at-found.ensures.found)
+attach-requires-clause-watched c = for_each c.args.slots.now c.args.id c.requires.kept.0 c.args.lits.now
+    (λ xs. IsWatched xs c.in-Watched.pair c.look_at-found.new.trail.entries (length c.look_at-found.new.trail.entries)) c.requires.kept.1
+    c.requires.kept.2 (subst (λ (l : Look). Found c.args.trail.now.vars c.args.lits.now c.args.trail.now.entries c.look_at-found.new.trail.entries l)
+    c.in-Watched.is c.look_at-found.ensures.found)
 
 pub attach-requires-clause-kept : goal.attach-requires-clause-kept
 attach-requires-clause-kept c = c.requires.kept
@@ -36,7 +41,10 @@ retire-step-requires-clause-waiting c =
     (waiting_grow c.args.slots.now c.args.watches.now t c.args.i c.args.id g.0 (omega (arith, c.len-len.ensures.len, c.len-len.ensures.seen)) c.requires.waiting)
 
 pub retire-step-requires-clause-is_false : goal.retire-step-requires-clause-is_false
-retire-step-requires-clause-is_false c = for_each c.args.slots.now c.args.id c.requires.kept.0 c.args.lits.now (λ xs. HasFalse c.look_at-found.new.trail.entries xs 0) c.requires.kept.1 c.requires.kept.2 (subst (λ (l : Look). Found c.args.trail.now.vars c.args.lits.now c.args.trail.now.entries c.look_at-found.new.trail.entries l) c.in-Retired.is c.look_at-found.ensures.found)
+retire-step-requires-clause-is_false c =
+    for_each c.args.slots.now c.args.id c.requires.kept.0 c.args.lits.now (λ xs. HasFalse c.look_at-found.new.trail.entries xs 0) c.requires.kept.1
+    c.requires.kept.2 (subst (λ (l : Look). Found c.args.trail.now.vars c.args.lits.now c.args.trail.now.entries c.look_at-found.new.trail.entries l)
+    c.in-Retired.is c.look_at-found.ensures.found)
 
 pub returns-in-Violated-clause-sound : goal.returns-in-Violated-clause-sound
 returns-in-Violated-clause-sound c = (let t = c.args.trail.now in
@@ -60,7 +68,9 @@ returns-in-Pending-clause-sound c = (let t = c.args.trail.now in
 pub returns-in-Pending-clause-looks : goal.returns-in-Pending-clause-looks
 returns-in-Pending-clause-looks c =
     let f = (subst (λ (l : Look). Found c.args.trail.now.vars c.args.lits.now c.args.trail.now.entries c.look_at-found.new.trail.entries l) c.in-Pending.is c.look_at-found.ensures.found) in
-    looks_pending c.args.slots.now c.args.watches.now c.look_at-found.new.trail c.args.i c.args.id f.0 (for_each c.args.slots.now c.args.id c.requires.kept.0 c.args.lits.now (λ xs. HasFalse c.look_at-found.new.trail.entries xs f.0) c.requires.kept.1 c.requires.kept.2 f.1)
+    looks_pending c.args.slots.now c.args.watches.now c.look_at-found.new.trail c.args.i c.args.id f.0
+    (for_each c.args.slots.now c.args.id c.requires.kept.0 c.args.lits.now (λ xs. HasFalse c.look_at-found.new.trail.entries xs f.0)
+    c.requires.kept.1 c.requires.kept.2 f.1)
     (let t = c.args.trail.now in
     let u = c.look_at-found.new.trail in
     let g = grew_by c.args.id c.args.lits.now t.entries u.entries c.look_at-found.ensures.grew in

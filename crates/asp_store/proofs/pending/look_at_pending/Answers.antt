@@ -8,7 +8,8 @@ use Rattle.asp_store.proofs.pending.look_at_pending.Goals as goal
 
 pub places-init : goal.places-init
 places-init c = record {
-  looking = subst (λ (k : ℕ). IsLooking c.args.slots.now c.args.watches.now c.args.trail.now k) (sym c.first-i.ensures) (looking_begins c.args.slots.now c.args.watches.now c.args.trail.now c.requires.sound);
+  looking = subst (λ (k : ℕ). IsLooking c.args.slots.now c.args.watches.now c.args.trail.now k) (sym c.first-i.ensures)
+      (looking_begins c.args.slots.now c.args.watches.now c.args.trail.now c.requires.sound);
   same = refl;
   extends = extends_none c.args.slots.now c.args.trail.now.entries;
 }
@@ -26,7 +27,9 @@ pub returns-in_err-step-clause-same : goal.returns-in_err-step-clause-same
 returns-in_err-step-clause-same c = c.look_at_place.ensures.same ∙ ap (λ (s : Trailed). let r : Trailed = record s { entries = c.look_at_place.new.trail.entries } in r) c.places.invariant.same
 
 pub returns-in_err-step-clause-extends : goal.returns-in_err-step-clause-extends
-returns-in_err-step-clause-extends c = extends_more c.args.slots.now c.args.trail.now.entries c.places.trail.entries c.look_at_place.new.trail.entries c.places.invariant.extends c.look_at_place.ensures.extends
+returns-in_err-step-clause-extends c =
+    extends_more c.args.slots.now c.args.trail.now.entries c.places.trail.entries c.look_at_place.new.trail.entries c.places.invariant.extends
+    c.look_at_place.ensures.extends
 
 pub returns-in_err-step-clause-sound : goal.returns-in_err-step-clause-sound
 returns-in_err-step-clause-sound c = c.look_at_place.ensures.sound
@@ -35,13 +38,17 @@ pub returns-in-Violated-clause-same : goal.returns-in-Violated-clause-same
 returns-in-Violated-clause-same c = c.look_at_place.ensures.same ∙ ap (λ (s : Trailed). let r : Trailed = record s { entries = c.look_at_place.new.trail.entries } in r) c.places.invariant.same
 
 pub returns-in-Violated-clause-extends : goal.returns-in-Violated-clause-extends
-returns-in-Violated-clause-extends c = extends_more c.args.slots.now c.args.trail.now.entries c.places.trail.entries c.look_at_place.new.trail.entries c.places.invariant.extends c.look_at_place.ensures.extends
+returns-in-Violated-clause-extends c =
+    extends_more c.args.slots.now c.args.trail.now.entries c.places.trail.entries c.look_at_place.new.trail.entries c.places.invariant.extends
+    c.look_at_place.ensures.extends
 
 pub returns-in-Violated-clause-sound : goal.returns-in-Violated-clause-sound
 returns-in-Violated-clause-sound c = c.look_at_place.ensures.sound
 
 pub returns-in-Violated-clause-violated : goal.returns-in-Violated-clause-violated
-returns-in-Violated-clause-violated c = subst (λ (s : Step). Looks c.args.slots.now c.places.watches c.look_at_place.new.watches c.look_at_place.new.trail c.places.i s) c.in-Violated.is c.in_ok-step.ensures.looks
+returns-in-Violated-clause-violated c = subst
+    (λ (s : Step). Looks c.args.slots.now c.places.watches c.look_at_place.new.watches c.look_at_place.new.trail c.places.i s) c.in-Violated.is
+    c.in_ok-step.ensures.looks
 
 pub returns-clause-same : goal.returns-clause-same
 returns-clause-same c = c.places.invariant.same
@@ -70,7 +77,19 @@ places-preserved-in-Stays c = record {
 }
 
 pub places-smaller : goal.places-smaller
-places-smaller c = omega (arith, c.last.ensures, c.places-test.true, (subst (λ (s : Step). Looks c.args.slots.now c.places.watches c.look_at_place.new.watches c.look_at_place.new.trail c.places.i s) c.in-Goes.is c.in_ok-step.ensures.looks).1)
+places-smaller c = omega (
+  arith,
+  c.last.ensures,
+  c.places-test.true,
+  (subst (λ (s : Step). Looks c.args.slots.now c.places.watches c.look_at_place.new.watches c.look_at_place.new.trail c.places.i s) c.in-Goes.is
+      c.in_ok-step.ensures.looks).1,
+)
 
 pub places-smaller-in-Stays : goal.places-smaller-in-Stays
-places-smaller-in-Stays c = omega (arith, c.last.ensures, c.places-test.true, (subst (λ (s : Step). Looks c.args.slots.now c.places.watches c.look_at_place.new.watches c.look_at_place.new.trail c.places.i s) c.in-Stays.is c.in_ok-step.ensures.looks).1)
+places-smaller-in-Stays c = omega (
+  arith,
+  c.last.ensures,
+  c.places-test.true,
+  (subst (λ (s : Step). Looks c.args.slots.now c.places.watches c.look_at_place.new.watches c.look_at_place.new.trail c.places.i s)
+      c.in-Stays.is c.in_ok-step.ensures.looks).1,
+)

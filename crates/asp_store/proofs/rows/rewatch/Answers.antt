@@ -12,7 +12,8 @@ side_of-side-requires c = omega (arith, pair_within (row_at c.args.rows.now c.ar
 pub swap-requires-clause-i : goal.swap-requires-clause-i
 swap-requires-clause-i c =
     let row = row_at c.args.rows.now c.args.id in
-    side_within (literal_eq (get_or c.row.result.now 0 c.args.lit) c.args.lit) c.side_of-side.result (length row) (c.side_of-side.ensures c.args.lit) (pair_within row c.requires.pair.0 c.requires.pair.1)
+    side_within (literal_eq (get_or c.row.result.now 0 c.args.lit) c.args.lit) c.side_of-side.result (length row) (c.side_of-side.ensures c.args.lit)
+    (pair_within row c.requires.pair.0 c.requires.pair.1)
 
 pub swap-requires-clause-j : goal.swap-requires-clause-j
 swap-requires-clause-j c = slice_get_within (row_at c.args.rows.now c.args.id) c.args.spot.place c.args.spot.lit c.requires.stands

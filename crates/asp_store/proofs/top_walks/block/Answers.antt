@@ -13,5 +13,7 @@ index_mut-requires c =
 
 pub returns : goal.returns
 returns c =
-    subst (λ (x : Watch). Passes c.args.slots.now c.args.watches.now c.args.list.now.items (set c.args.list.now.items c.args.i x) c.args.trail.now c.args.front.now c.args.i pass.Stays) (sym c.new.ensures)
-    (pass_block c.args.slots.now c.args.watches.now c.args.trail.now c.args.front.now c.args.list.now.items c.args.i c.args.id c.args.other c.len-len.ensures.ordered c.requires.visit c.requires.is_false)
+    subst (λ (x : Watch). Passes c.args.slots.now c.args.watches.now c.args.list.now.items (set c.args.list.now.items c.args.i x) c.args.trail.now
+    c.args.front.now c.args.i pass.Stays) (sym c.new.ensures)
+    (pass_block c.args.slots.now c.args.watches.now c.args.trail.now c.args.front.now c.args.list.now.items c.args.i c.args.id c.args.other
+    c.len-len.ensures.ordered c.requires.visit c.requires.is_false)

@@ -19,7 +19,12 @@ first_unblocked-requires-clause-small c = λ k d h.
     let f : Front = c.args.front.now in
     let xs : List Watch = c.args.list.now in
     let lt = back_within c.args.slots.now w c.args.trail.now f xs c.args.i c.len-len.ensures.ordered c.requires.walking in
-    omega (arith, c.assignment.ensures.len, (c.requires.walking.sound.net.places (code_of f.lit) k (get_or xs k d) (back_place w (code_of f.lit) xs k (get_or xs k d) lt (slice_get-get_or xs k d h))).small)
+    omega (
+      arith,
+      c.assignment.ensures.len,
+      (c.requires.walking.sound.net.places (code_of f.lit) k (get_or xs k d)
+          (back_place w (code_of f.lit) xs k (get_or xs k d) lt (slice_get-get_or xs k d h))).small,
+    )
 
 pub returns-clause-walking : goal.returns-clause-walking
 returns-clause-walking c =

@@ -32,7 +32,8 @@ put_list-requires c =
     let small = front_var c.args.trail.now f c.len-len.ensures.ordered c.requires.walking.stands in
     let w : Watches = c.walk_list-found.new.watches in
     let l : List Watch = c.walk_list-found.new.list.items in
-    let within = code_of_list c.args.slots.now (back w (code_of f.lit) l) c.walk_list-found.new.trail f.lit c.walk_list-found.ensures.sound (omega (arith, small, ap (λ (t : Trailed). t.vars) c.walk_list-found.ensures.same)) in
+    let within = code_of_list c.args.slots.now (back w (code_of f.lit) l) c.walk_list-found.new.trail f.lit c.walk_list-found.ensures.sound
+    (omega (arith, small, ap (λ (t : Trailed). t.vars) c.walk_list-found.ensures.same)) in
     omega (arith, within, length-set w.lists (code_of f.lit) l)
 
 pub returns-clause-sound : goal.returns-clause-sound

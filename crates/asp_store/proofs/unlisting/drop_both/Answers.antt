@@ -22,6 +22,9 @@ returns c =
     let all : lits ≡ f ∷ s ∷ [] = two_list lits f c.requires.two ∙ (λ j. a j ∷ b j ∷ []) in
     record {
       keeps = subst (λ (z : List (List Watch)). Keeps lists z c.args.id) (sym e) (both_keep lists (code_of f) (code_of s) c.args.id h g);
-      none = λ l i x has at. let h : code_of f < length lists = subst (λ (l : Literal). code_of l < length lists) (sym c.index-lits-0.is) (c.requires.small 0 f (omega (arith, c.requires.two))) in let g : code_of s < length lists = subst (λ (l : Literal). code_of l < length lists) (sym c.index-lits-1.is) (c.requires.small 1 s (omega (arith, c.requires.two))) in
+      none = λ l i x has at. let h : code_of f < length lists =
+          subst (λ (l : Literal). code_of l < length lists) (sym c.index-lits-0.is) (c.requires.small 0 f (omega (arith, c.requires.two))) in
+          let g : code_of s < length lists =
+          subst (λ (l : Literal). code_of l < length lists) (sym c.index-lits-1.is) (c.requires.small 1 s (omega (arith, c.requires.two))) in
           both_none lists f s c.args.id h g l i x (subst (λ (n : List Literal). has_literal n l ≡ true) all has) (ap (λ (z : List (List Watch)). place z (code_of l) i) (sym e) ∙ at);
     }

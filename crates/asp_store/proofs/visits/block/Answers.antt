@@ -16,5 +16,6 @@ new-requires c = visit_few c.args.slots.now c.args.watches.now c.args.trail.now 
 pub returns : goal.returns
 returns c =
     subst (λ (ls : List (List Watch)). Steps c.args.slots.now c.args.watches.now (record c.args.watches.now { lists = ls }) c.args.trail.now c.args.front.now c.args.i step.Stays)
-    (sym (c.set_watch.ensures ∙ ap (λ (x : Watch). set c.args.watches.now.lists (code_of c.args.front.now.lit) (set (list_at c.args.watches.now.lists (code_of c.args.front.now.lit)) c.args.i x)) c.new.ensures))
+    (sym (c.set_watch.ensures ∙ ap (λ (x : Watch). set c.args.watches.now.lists (code_of c.args.front.now.lit)
+    (set (list_at c.args.watches.now.lists (code_of c.args.front.now.lit)) c.args.i x)) c.new.ensures))
     (step_block c.args.slots.now c.args.watches.now c.args.trail.now c.args.front.now c.args.i c.args.id c.args.other c.requires.visit c.requires.is_false)

@@ -34,7 +34,9 @@ rewatch-requires-clause-is_new c = (
 pub leave-requires-clause-walking : goal.leave-requires-clause-walking
 leave-requires-clause-walking c =
     let w = c.args.watches.now in
-    let a = (c.in_ok-push.ensures.ok ∙ ap (λ (x : Watch). set c.args.watches.now.lists (code_of c.args.spot.lit) (list_at c.args.watches.now.lists (code_of c.args.spot.lit) ++ x ∷ [])) c.new.ensures) in
+    let a = (c.in_ok-push.ensures.ok ∙ ap
+    (λ (x : Watch). set c.args.watches.now.lists (code_of c.args.spot.lit)
+    (list_at c.args.watches.now.lists (code_of c.args.spot.lit) ++ x ∷ [])) c.new.ensures) in
     let r = c.rewatch.ensures.0 in
     let b = c.rewatch.ensures.1 in
     let e : record w { lists = c.push.new.self; rows = c.rewatch.new.rows } ≡ moved w c.args.spot.lit c.args.other c.args.id r = λ j. record w { lists = a j; rows = b j } in
@@ -43,14 +45,21 @@ leave-requires-clause-walking c =
 
 pub leave-requires-clause-at : goal.leave-requires-clause-at
 leave-requires-clause-at c =
-    let m = moved_at c.args.slots.now c.args.watches.now c.args.trail.now c.args.front.now c.args.i c.args.id c.args.other c.args.spot.lit c.rewatch.ensures.0 c.len-len.ensures.ordered c.requires.may c.requires.visit in
-    (m.0, ap (λ (ls : List (List Watch)). place ls (code_of c.args.front.now.lit) c.args.i) (c.in_ok-push.ensures.ok ∙ ap (λ (x : Watch). set c.args.watches.now.lists (code_of c.args.spot.lit) (list_at c.args.watches.now.lists (code_of c.args.spot.lit) ++ x ∷ [])) c.new.ensures) ∙ m.1, m.2)
+    let m = moved_at c.args.slots.now c.args.watches.now c.args.trail.now c.args.front.now c.args.i c.args.id c.args.other c.args.spot.lit
+    c.rewatch.ensures.0 c.len-len.ensures.ordered c.requires.may c.requires.visit in (
+      m.0,
+      ap (λ (ls : List (List Watch)). place ls (code_of c.args.front.now.lit) c.args.i)
+          (c.in_ok-push.ensures.ok ∙ ap (λ (x : Watch). set c.args.watches.now.lists (code_of c.args.spot.lit)
+          (list_at c.args.watches.now.lists (code_of c.args.spot.lit) ++ x ∷ [])) c.new.ensures) ∙ m.1,
+      m.2,
+    )
 
 pub leave-requires-clause-gone : goal.leave-requires-clause-gone
 leave-requires-clause-gone c =
     subst (λ (rs : List (List Literal)). (n : Nogood) (p : Pair) → nogood_at c.args.slots.now c.args.id ≡ Some n → pair_at rs c.args.id ≡ Some p → IsOneOf p c.args.front.now.lit → ⊥)
     (sym c.rewatch.ensures.1)
-    (moved_gone c.args.slots.now c.args.watches.now c.args.trail.now c.args.front.now c.args.i c.args.id c.args.other c.args.spot.lit c.rewatch.ensures.0 c.len-len.ensures.ordered c.requires.may c.rewatch.ensures.2 c.requires.visit)
+    (moved_gone c.args.slots.now c.args.watches.now c.args.trail.now c.args.front.now c.args.i c.args.id c.args.other c.args.spot.lit
+    c.rewatch.ensures.0 c.len-len.ensures.ordered c.requires.may c.rewatch.ensures.2 c.requires.visit)
 
 pub returns-clause-sound : goal.returns-clause-sound
 returns-clause-sound c = c.leave.ensures.0.sound
@@ -58,8 +67,11 @@ returns-clause-sound c = c.leave.ensures.0.sound
 pub returns-clause-steps : goal.returns-clause-steps
 returns-clause-steps c = (
   c.leave.ensures.0,
-  c.leave.ensures.1 ∙ (ap (λ (ls : List (List Watch)). size ls (code_of c.args.front.now.lit)) (c.in_ok-push.ensures.ok ∙ ap (λ (x : Watch). set c.args.watches.now.lists (code_of c.args.spot.lit) (list_at c.args.watches.now.lists (code_of c.args.spot.lit) ++ x ∷ [])) c.new.ensures)
-      ∙ moved_size c.args.slots.now c.args.watches.now c.args.trail.now c.args.front.now c.args.i c.args.id c.args.other c.args.spot.lit c.rewatch.ensures.0 c.len-len.ensures.ordered c.requires.may c.requires.visit),
+  c.leave.ensures.1 ∙ (ap (λ (ls : List (List Watch)). size ls (code_of c.args.front.now.lit))
+      (c.in_ok-push.ensures.ok ∙ ap (λ (x : Watch). set c.args.watches.now.lists (code_of c.args.spot.lit)
+      (list_at c.args.watches.now.lists (code_of c.args.spot.lit) ++ x ∷ [])) c.new.ensures)
+      ∙ moved_size c.args.slots.now c.args.watches.now c.args.trail.now c.args.front.now c.args.i c.args.id c.args.other c.args.spot.lit
+      c.rewatch.ensures.0 c.len-len.ensures.ordered c.requires.may c.requires.visit),
 )
 
 pub returns-in_err-push-clause-sound : goal.returns-in_err-push-clause-sound

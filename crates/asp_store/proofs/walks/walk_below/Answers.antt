@@ -28,7 +28,9 @@ pub returns-in_err-step-clause-same : goal.returns-in_err-step-clause-same
 returns-in_err-step-clause-same c = c.visit_place.ensures.same ∙ ap (λ (s : Trailed). let r : Trailed = record s { entries = c.visit_place.new.trail.entries } in r) c.places.invariant.same
 
 pub returns-in_err-step-clause-extends : goal.returns-in_err-step-clause-extends
-returns-in_err-step-clause-extends c = extends_more c.args.slots.now c.args.trail.now.entries c.places.trail.entries c.visit_place.new.trail.entries c.places.invariant.extends c.visit_place.ensures.extends
+returns-in_err-step-clause-extends c =
+    extends_more c.args.slots.now c.args.trail.now.entries c.places.trail.entries c.visit_place.new.trail.entries c.places.invariant.extends
+    c.visit_place.ensures.extends
 
 pub returns-in_err-step-clause-sound : goal.returns-in_err-step-clause-sound
 returns-in_err-step-clause-sound c = c.visit_place.ensures.sound
@@ -37,13 +39,17 @@ pub returns-in-Violated-clause-same : goal.returns-in-Violated-clause-same
 returns-in-Violated-clause-same c = c.visit_place.ensures.same ∙ ap (λ (s : Trailed). let r : Trailed = record s { entries = c.visit_place.new.trail.entries } in r) c.places.invariant.same
 
 pub returns-in-Violated-clause-extends : goal.returns-in-Violated-clause-extends
-returns-in-Violated-clause-extends c = extends_more c.args.slots.now c.args.trail.now.entries c.places.trail.entries c.visit_place.new.trail.entries c.places.invariant.extends c.visit_place.ensures.extends
+returns-in-Violated-clause-extends c =
+    extends_more c.args.slots.now c.args.trail.now.entries c.places.trail.entries c.visit_place.new.trail.entries c.places.invariant.extends
+    c.visit_place.ensures.extends
 
 pub returns-in-Violated-clause-sound : goal.returns-in-Violated-clause-sound
 returns-in-Violated-clause-sound c = c.visit_place.ensures.sound
 
 pub returns-in-Violated-clause-walked : goal.returns-in-Violated-clause-walked
-returns-in-Violated-clause-walked c = subst (λ (s : Step). Steps c.args.slots.now c.places.watches c.visit_place.new.watches c.visit_place.new.trail c.args.front.now c.places.i s) c.in-Violated.is c.in_ok-step.ensures.steps
+returns-in-Violated-clause-walked c = subst
+    (λ (s : Step). Steps c.args.slots.now c.places.watches c.visit_place.new.watches c.visit_place.new.trail c.args.front.now c.places.i s)
+    c.in-Violated.is c.in_ok-step.ensures.steps
 
 pub returns-clause-same : goal.returns-clause-same
 returns-clause-same c = c.places.invariant.same
@@ -72,7 +78,19 @@ places-preserved-in-Stays c = record {
 }
 
 pub places-smaller : goal.places-smaller
-places-smaller c = omega (arith, c.len.ensures, c.places-test.true, (subst (λ (s : Step). Steps c.args.slots.now c.places.watches c.visit_place.new.watches c.visit_place.new.trail c.args.front.now c.places.i s) c.in-Goes.is c.in_ok-step.ensures.steps).1)
+places-smaller c = omega (
+  arith,
+  c.len.ensures,
+  c.places-test.true,
+  (subst (λ (s : Step). Steps c.args.slots.now c.places.watches c.visit_place.new.watches c.visit_place.new.trail c.args.front.now c.places.i s)
+      c.in-Goes.is c.in_ok-step.ensures.steps).1,
+)
 
 pub places-smaller-in-Stays : goal.places-smaller-in-Stays
-places-smaller-in-Stays c = omega (arith, c.len.ensures, c.places-test.true, (subst (λ (s : Step). Steps c.args.slots.now c.places.watches c.visit_place.new.watches c.visit_place.new.trail c.args.front.now c.places.i s) c.in-Stays.is c.in_ok-step.ensures.steps).1)
+places-smaller-in-Stays c = omega (
+  arith,
+  c.len.ensures,
+  c.places-test.true,
+  (subst (λ (s : Step). Steps c.args.slots.now c.places.watches c.visit_place.new.watches c.visit_place.new.trail c.args.front.now c.places.i s)
+      c.in-Stays.is c.in_ok-step.ensures.steps).1,
+)

@@ -30,7 +30,9 @@ with_ties-requires-clause-report g c = (c.args.plan.budget, c.in_ok-report.ensur
 pub returns-else-plan-clause-report : goal.returns-else-plan-clause-report
 returns-else-plan-clause-report g c =
     let first : Report = c.in_ok-report.report in
-    IfOk-weaker c.with_ties.result (λ (r : Report). (units : ℕ) → IsReport c.args.compiled.now (asks c.args.plan.ask.mode c.args.plan.ask.models c.args.plan.ask.by_name) units first → IsReport c.args.compiled.now c.args.plan.ask units r) (IsReport c.args.compiled.now c.args.plan.ask c.args.plan.budget)
+    IfOk-weaker c.with_ties.result (λ (r : Report). (units : ℕ) →
+            IsReport c.args.compiled.now (asks c.args.plan.ask.mode c.args.plan.ask.models c.args.plan.ask.by_name) units first →
+            IsReport c.args.compiled.now c.args.plan.ask units r) (IsReport c.args.compiled.now c.args.plan.ask c.args.plan.budget)
     (λ r is. is c.args.plan.budget c.in_ok-report.ensures.report) c.with_ties.ensures.report
 
 pub returns-else-plan-clause-proof : goal.returns-else-plan-clause-proof
@@ -41,15 +43,23 @@ returns-else-plan-clause-proof g c =
 pub returns-then-plan-clause-shared : goal.returns-then-plan-clause-shared
 returns-then-plan-clause-shared g c =
     let first : Report = c.in_ok-report.report in
-    IfOk-weaker c.with_proof.result (λ (r : Report). r ≡ record first { proof = r.proof }) (λ (r : Report). (never : Bool) (begun : List Event) → HaveLeft c.args.lead never begun → IsShared (task_of c.args.compiled.now c.args.plan.ask c.args.plan.budget) r.short never r.journal)
-    (λ r same never begun left. subst (λ (x : Report). IsShared (task_of c.args.compiled.now c.args.plan.ask c.args.plan.budget) x.short never x.journal) (sym same) (c.in_ok-report.ensures.shared never begun left)) c.with_proof.ensures.same
+    IfOk-weaker c.with_proof.result (λ (r : Report). r ≡ record first { proof = r.proof })
+        (λ (r : Report). (never : Bool) (begun : List Event) → HaveLeft c.args.lead never begun →
+            IsShared (task_of c.args.compiled.now c.args.plan.ask c.args.plan.budget) r.short never r.journal)
+    (λ r same never begun left. subst
+            (λ (x : Report). IsShared (task_of c.args.compiled.now c.args.plan.ask c.args.plan.budget) x.short never x.journal) (sym same)
+            (c.in_ok-report.ensures.shared never begun left)) c.with_proof.ensures.same
 
 pub returns-else-plan-clause-shared : goal.returns-else-plan-clause-shared
 returns-else-plan-clause-shared g c =
     let first : Report = c.in_ok-report.report in
-    IfOk-weaker c.with_ties.result (λ (r : Report). (r.journal ≡ first.journal) × (r.short ≡ first.short)) (λ (r : Report). (never : Bool) (begun : List Event) → HaveLeft c.args.lead never begun → IsShared (task_of c.args.compiled.now c.args.plan.ask c.args.plan.budget) r.short never r.journal)
+    IfOk-weaker c.with_ties.result (λ (r : Report). (r.journal ≡ first.journal) × (r.short ≡ first.short))
+        (λ (r : Report). (never : Bool) (begun : List Event) → HaveLeft c.args.lead never begun →
+            IsShared (task_of c.args.compiled.now c.args.plan.ask c.args.plan.budget) r.short never r.journal)
     (λ r same never begun left.
-    subst (λ (s : Bool). IsShared (task_of c.args.compiled.now c.args.plan.ask c.args.plan.budget) s never r.journal) (sym same.1) (subst (IsShared (task_of c.args.compiled.now c.args.plan.ask c.args.plan.budget) first.short never) (sym same.0) (c.in_ok-report.ensures.shared never begun left))) c.with_ties.ensures.same
+    subst (λ (s : Bool). IsShared (task_of c.args.compiled.now c.args.plan.ask c.args.plan.budget) s never r.journal) (sym same.1)
+        (subst (IsShared (task_of c.args.compiled.now c.args.plan.ask c.args.plan.budget) first.short never) (sym same.0)
+            (c.in_ok-report.ensures.shared never begun left))) c.with_ties.ensures.same
 
 pub returns-then-plan-clause-core : goal.returns-then-plan-clause-core
 returns-then-plan-clause-core g c =
@@ -60,4 +70,5 @@ returns-then-plan-clause-core g c =
 pub returns-else-plan-clause-core : goal.returns-else-plan-clause-core
 returns-else-plan-clause-core g c =
     let first : Report = c.in_ok-report.report in
-    IfOk-weaker c.with_ties.result (λ (r : Report). HasCore c.args.compiled.now first → HasCore c.args.compiled.now r) (HasCore c.args.compiled.now) (λ r h. h c.in_ok-report.ensures.core) c.with_ties.ensures.core
+    IfOk-weaker c.with_ties.result (λ (r : Report). HasCore c.args.compiled.now first → HasCore c.args.compiled.now r) (HasCore c.args.compiled.now)
+        (λ r h. h c.in_ok-report.ensures.core) c.with_ties.ensures.core

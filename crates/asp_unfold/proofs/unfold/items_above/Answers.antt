@@ -22,7 +22,9 @@ loop-literal-preserved c =
     let atom : c.unsigned_abs.result ≡ atom_of (get_or xs i d).0 = c.unsigned_abs.ensures.value ∙ (ap nat_abs (to_z-of_z w32 (get_or xs i d).0 (search rules)) ∙ abs-atom (get_or xs i d).0) in
     let wider : (x : ℤ × ℤ) → below c.loop-literal.above x → below c.max-above.result x = λ x h. omega (arith, h, c.max-above.ensures) in
     record {
-      above = All-more (below c.max-above.result) xs i d (omega arith) (All-weaker (below c.loop-literal.above) (below c.max-above.result) wider (take i xs) c.loop-literal.invariant.above) (omega (arith, atom, c.max-above.ensures));
+      above = All-more (below c.max-above.result) xs i d (omega arith)
+          (All-weaker (below c.loop-literal.above) (below c.max-above.result) wider (take i xs) c.loop-literal.invariant.above)
+          (omega (arith, atom, c.max-above.ensures));
       most = omega (arith, c.loop-literal.invariant.most, c.unsigned_abs.ensures.bound, c.max-above.ensures);
     }
 

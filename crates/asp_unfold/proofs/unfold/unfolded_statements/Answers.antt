@@ -16,7 +16,14 @@ returns c =
     let rules = c.args.rules.now in
     let table = c.as_slice-2.result.now in
     let are : AreDefinitions rules table = subst (AreDefinitions rules) (sym c.as_slice-2.ensures.value) c.in_ok-table.ensures.each in
-    let len : length table ≡ min c.above.result (16 * (length rules + 1)) = omega (arith, ap (λ (t : List Definition). length t) c.as_slice-2.ensures.value, c.in_ok-table.ensures.len, c.min-places.ensures, c.len.ensures) in
+    let len : length table ≡ min c.above.result (16 * (length rules + 1)) =
+    omega (
+      arith,
+      ap (λ (t : List Definition). length t) c.as_slice-2.ensures.value,
+      c.in_ok-table.ensures.len,
+      c.min-places.ensures,
+      c.len.ensures,
+    ) in
     let low : are_low c.above.result c.args.statements = subst (are_low c.above.result) c.as_slice.ensures.value c.above.ensures.above in
     let is : map (table_minimize table) c.args.statements ≡ map (unfolded_minimize rules) c.args.statements = statements-are rules table c.above.result c.args.statements are len low in
     subst (λ (ms : List Minimize). IfOk c.replaced_statements.result (λ new. new ≡ ms)) is c.replaced_statements.ensures

@@ -12,5 +12,6 @@ gather_marked-requires-clause-within c k d h =
 pub returns : goal.returns
 returns c =
     weaker _ _ c.gather_marked.result c.gather_marked.ensures (λ n e.
-    brief_variable (before c.args.trail.now c.args.place) c.args.shape.now c.args.row.now c.args.lit c.truth-side.result c.need.result c.in_ok-lits.lits.items n.items c.requires.var c.truth-side.ensures c.need.ensures
+    brief_variable (before c.args.trail.now c.args.place) c.args.shape.now c.args.row.now c.args.lit c.truth-side.result c.need.result
+    c.in_ok-lits.lits.items n.items c.requires.var c.truth-side.ensures c.need.ensures
     (c.in_ok-lits.ensures ∙ ap (λ (k : Literal). k ∷ []) c.complement.ensures) e)

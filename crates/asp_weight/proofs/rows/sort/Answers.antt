@@ -13,5 +13,8 @@ not_below a b h = grind (arith, nat_tests)
 
 pub returns-clause-falling : goal.returns-clause-falling
 returns-clause-falling c = λ i j d l h.
-    let up : IsSortedBy (λ x y. is_lt (nat_cmp y.weight x.weight)) c.sort_unstable_by_key.new.self = c.sort_unstable_by_key.ensures.sorted (λ (x : Item). record { 0 = x.weight }) (answers_always _ _ _ (λ f a r g k. search rules)) in
-    not_below _ _ (sorted_far (λ (x y : Item). is_lt (nat_cmp y.weight x.weight)) (IsStrictWeakOrder-flip (λ (x y : Item). is_lt (nat_cmp x.weight y.weight)) (ranks_by nat_cmp_total (λ (x : Item). x.weight))) c.sort_unstable_by_key.new.self up i j d (omega arith) h)
+    let up : IsSortedBy (λ x y. is_lt (nat_cmp y.weight x.weight)) c.sort_unstable_by_key.new.self =
+    c.sort_unstable_by_key.ensures.sorted (λ (x : Item). record { 0 = x.weight }) (answers_always _ _ _ (λ f a r g k. search rules)) in
+    not_below _ _ (sorted_far (λ (x y : Item). is_lt (nat_cmp y.weight x.weight))
+    (IsStrictWeakOrder-flip (λ (x y : Item). is_lt (nat_cmp x.weight y.weight)) (ranks_by nat_cmp_total (λ (x : Item). x.weight)))
+    c.sort_unstable_by_key.new.self up i j d (omega arith) h)

@@ -9,7 +9,8 @@ pub invariant_of-self : goal.invariant_of-self
 invariant_of-self c =
     let s : Span = c.index_mut.result.now in
     let t : Span = record s { next = c.in-Ok.next } in
-    spans_stay c.self.inside.spans.items c.self.inside.cells.items c.args.id s t c.self.invariant (omega (arith, c.if-id-len.true, c.len.ensures, c.self.inside.spans.ok.0)) c.index_mut.ensures.value refl refl
+    spans_stay c.self.inside.spans.items c.self.inside.cells.items c.args.id s t c.self.invariant
+    (omega (arith, c.if-id-len.true, c.len.ensures, c.self.inside.spans.ok.0)) c.index_mut.ensures.value refl refl
 
 pub returns-then-id-len : goal.returns-then-id-len
 returns-then-id-len c =

@@ -17,7 +17,8 @@ write-written-requires-clause-room c =
     let i : Inside = c.self.inside in
     let I = c.self.invariant in
     let at : i.state.value ≡ board c.args.self.now = state-is i c.args.self.now I c.self.view_is in
-    let units : c.left-left.result + c.burnt-burnt.result ≡ out_of i.state.value.out c.args.by = omega (arith, c.left-left.ensures.left, c.burnt-burnt.ensures.burnt, c.requires.1, ap (λ (b : Board). out_of b.out c.args.by) at) in
+    let units : c.left-left.result + c.burnt-burnt.result ≡ out_of i.state.value.out c.args.by =
+    omega (arith, c.left-left.ensures.left, c.burnt-burnt.ensures.burnt, c.requires.1, ap (λ (b : Board). out_of b.out c.args.by) at) in
     omega (arith, I.places, I.room, lessees-less i.state.value.out c.args.by _ units c.if-left-burnt-eq0.false)
 
 pub merge-requires-clause-fits : goal.merge-requires-clause-fits
@@ -27,14 +28,21 @@ merge-requires-clause-fits c =
     let at : i.state.value ≡ board c.args.self.now = state-is i c.args.self.now I c.self.view_is in
     let units : c.args.fuel.left + c.args.fuel.burnt ≡ out_of i.state.value.out c.args.by = c.requires.1 ∙ ap (λ (b : Board). out_of b.out c.args.by) (sym at) in
     let board-is : IsBoard i.state.value = subst IsBoard c.deref.ensures c.budget-budget.ensures.board in
-    omega (arith, units-fit i.state.value c.args.by i.fuel c.args.fuel board-is I.fuel units, c.budget-budget.ensures.budget, c.budget-budget.ensures.fits, ap (λ (b : Board). b.task.budget) c.deref.ensures)
+    omega (
+      arith,
+      units-fit i.state.value c.args.by i.fuel c.args.fuel board-is I.fuel units,
+      c.budget-budget.ensures.budget,
+      c.budget-budget.ensures.fits,
+      ap (λ (b : Board). b.task.budget) c.deref.ensures,
+    )
 
 pub overflow_sub-self : goal.overflow_sub-self
 overflow_sub-self c =
     let i : Inside = c.self.inside in
     let I = c.self.invariant in
     let at : i.state.value ≡ board c.args.self.now = state-is i c.args.self.now I c.self.view_is in
-    let units : c.left-left.result + c.burnt-burnt.result ≡ out_of i.state.value.out c.args.by = omega (arith, c.left-left.ensures.left, c.burnt-burnt.ensures.burnt, c.requires.1, ap (λ (b : Board). out_of b.out c.args.by) at) in
+    let units : c.left-left.result + c.burnt-burnt.result ≡ out_of i.state.value.out c.args.by =
+    omega (arith, c.left-left.ensures.left, c.burnt-burnt.ensures.burnt, c.requires.1, ap (λ (b : Board). out_of b.out c.args.by) at) in
     omega (arith, I.places, lessees-less i.state.value.out c.args.by _ units c.if-left-burnt-eq0.false)
 
 pub invariant_of-self : goal.invariant_of-self
@@ -43,11 +51,13 @@ invariant_of-self c =
     let I = c.self.invariant in
     let e : Event = event.Back c.args.by c.left-left.result c.burnt-burnt.result in
     let at : i.state.value ≡ board c.args.self.now = state-is i c.args.self.now I c.self.view_is in
-    let units : c.left-left.result + c.burnt-burnt.result ≡ out_of i.state.value.out c.args.by = omega (arith, c.left-left.ensures.left, c.burnt-burnt.ensures.burnt, c.requires.1, ap (λ (b : Board). out_of b.out c.args.by) at) in
+    let units : c.left-left.result + c.burnt-burnt.result ≡ out_of i.state.value.out c.args.by =
+    omega (arith, c.left-left.ensures.left, c.burnt-burnt.ensures.burnt, c.requires.1, ap (λ (b : Board). out_of b.out c.args.by) at) in
     let fits : Fits i.state.value c.args.fuel = subst (λ (b : Board). Fits b c.args.fuel) (sym at) c.requires.0 in
     let less = lessees-less i.state.value.out c.args.by _ units c.if-left-burnt-eq0.false in
     IsStored-happens i (record i { state = c.write-written.new.state; journal = c.write-written.new.journal; fuel = c.merge.new.self; places = i.places - 1 }) e I units c.in-Ok.ensures.state
     c.in-Ok.ensures.journal
-    (IsOwnFuel-back i.state.value c.write-written.new.state.value c.args.by c.left-left.result c.burnt-burnt.result i.fuel c.args.fuel c.merge.new.self c.in-Ok.ensures.state c.left-left.ensures.left c.burnt-burnt.ensures.burnt c.merge.ensures fits I.fuel)
+    (IsOwnFuel-back i.state.value c.write-written.new.state.value c.args.by c.left-left.result c.burnt-burnt.result i.fuel c.args.fuel
+    c.merge.new.self c.in-Ok.ensures.state c.left-left.ensures.left c.burnt-burnt.ensures.burnt c.merge.ensures fits I.fuel)
     (omega (arith, I.places, ap places_of c.in-Ok.ensures.state, less))
     (omega (arith, I.places, I.room, ap places_of c.in-Ok.ensures.state, less, ap length c.in-Ok.ensures.journal, length-append i.journal.items (e ∷ []), c.write-written.ensures.capacity))

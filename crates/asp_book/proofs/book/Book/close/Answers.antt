@@ -27,10 +27,22 @@ invariant_of-self-2 c =
     let same : c.args.nogood.now ≡ n = sym c.in_ok-first.ensures in
     let guard : Guard i.state.value e = (
       subst (λ (b : Board). status_of b.nodes c.args.leaf ≡ status.Held c.args.by) (sym at) c.requires.held,
-      subst (λ (b : Board). IsTrue (has_all (cube_of b.nodes c.args.leaf) n)) (sym at) (subst (λ (l : List Literal). IsTrue (has_all (cube_of (board c.args.self.now).nodes c.args.leaf) l)) same c.requires.within),
-      subst (λ (b : Board). HitsOnly b.task.program (is_excused b) n) (sym at) (subst (λ (l : List Literal). HitsOnly (board c.args.self.now).task.program (is_excused (board c.args.self.now)) l) same c.requires.settled),
+      subst (λ (b : Board). IsTrue (has_all (cube_of b.nodes c.args.leaf) n)) (sym at)
+          (subst (λ (l : List Literal). IsTrue (has_all (cube_of (board c.args.self.now).nodes c.args.leaf) l)) same c.requires.within),
+      subst (λ (b : Board). HitsOnly b.task.program (is_excused b) n) (sym at)
+          (subst (λ (l : List Literal). HitsOnly (board c.args.self.now).task.program (is_excused (board c.args.self.now)) l) same
+          c.requires.settled),
     ) in
     IsStored-happens i (record i { state = c.write.new.state; journal = c.write.new.journal; places = i.places - 1 }) e I guard c.in_ok-write.ensures.state
     c.in_ok-write.ensures.journal (IsOwnFuel-happens i.state.value c.write.new.state.value e i.fuel guard c.in_ok-write.ensures.state refl refl I.fuel)
     (omega (arith, I.places, ap places_of c.in_ok-write.ensures.state, held_count-changed i.state.value.nodes c.args.leaf (status.Held c.args.by) status.Closed guard.0 refl))
-    (omega (arith, I.places, I.room, ap places_of c.in_ok-write.ensures.state, held_count-changed i.state.value.nodes c.args.leaf (status.Held c.args.by) status.Closed guard.0 refl, ap length c.in_ok-write.ensures.journal, length-append i.journal.items (e ∷ []), c.write.ensures.capacity))
+    (omega (
+      arith,
+      I.places,
+      I.room,
+      ap places_of c.in_ok-write.ensures.state,
+      held_count-changed i.state.value.nodes c.args.leaf (status.Held c.args.by) status.Closed guard.0 refl,
+      ap length c.in_ok-write.ensures.journal,
+      length-append i.journal.items (e ∷ []),
+      c.write.ensures.capacity,
+    ))

@@ -24,5 +24,14 @@ invariant_of-self-2 c =
     ) in
     let places : i.places ≡ places_of c.write.new.state.value = I.places ∙ sym (ap places_of c.in_ok-write.ensures.state) in
     IsStored-happens i (record i { state = c.write.new.state; journal = c.write.new.journal }) e I guard c.in_ok-write.ensures.state
-    (c.in_ok-write.ensures.journal ∙ ap (λ (l : List Event). l ++ e ∷ []) c.in_ok-make_room.ensures.items) (IsOwnFuel-happens i.state.value c.write.new.state.value e i.fuel guard c.in_ok-write.ensures.state refl refl I.fuel) places
-    (omega (arith, ap length c.in_ok-write.ensures.journal, ap length c.in_ok-make_room.ensures.items, length-append c.make_room.new.journal.items (e ∷ []), c.write.ensures.capacity, c.in_ok-make_room.ensures.ok, c.write.new.journal.ok.0))
+    (c.in_ok-write.ensures.journal ∙ ap (λ (l : List Event). l ++ e ∷ []) c.in_ok-make_room.ensures.items)
+    (IsOwnFuel-happens i.state.value c.write.new.state.value e i.fuel guard c.in_ok-write.ensures.state refl refl I.fuel) places
+    (omega (
+      arith,
+      ap length c.in_ok-write.ensures.journal,
+      ap length c.in_ok-make_room.ensures.items,
+      length-append c.make_room.new.journal.items (e ∷ []),
+      c.write.ensures.capacity,
+      c.in_ok-make_room.ensures.ok,
+      c.write.new.journal.ok.0,
+    ))

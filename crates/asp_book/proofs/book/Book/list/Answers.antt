@@ -30,5 +30,14 @@ invariant_of-self-2 c =
     ) in
     let places : i.places ≡ places_of c.list.new.state.value = I.places ∙ sym (ap places_of c.in_ok-list.ensures.state) in
     IsStored-happens i (record i { state = c.list.new.state; journal = c.list.new.journal }) e I guard c.in_ok-list.ensures.state
-    (c.in_ok-list.ensures.journal ∙ ap (λ (l : List Event). l ++ e ∷ []) c.in_ok-make_room.ensures.items) (IsOwnFuel-happens i.state.value c.list.new.state.value e i.fuel guard c.in_ok-list.ensures.state refl refl I.fuel) places
-    (omega (arith, ap length c.in_ok-list.ensures.journal, ap length c.in_ok-make_room.ensures.items, length-append c.make_room.new.journal.items (e ∷ []), c.list.ensures.capacity, c.in_ok-make_room.ensures.ok, c.list.new.journal.ok.0))
+    (c.in_ok-list.ensures.journal ∙ ap (λ (l : List Event). l ++ e ∷ []) c.in_ok-make_room.ensures.items)
+    (IsOwnFuel-happens i.state.value c.list.new.state.value e i.fuel guard c.in_ok-list.ensures.state refl refl I.fuel) places
+    (omega (
+      arith,
+      ap length c.in_ok-list.ensures.journal,
+      ap length c.in_ok-make_room.ensures.items,
+      length-append c.make_room.new.journal.items (e ∷ []),
+      c.list.ensures.capacity,
+      c.in_ok-make_room.ensures.ok,
+      c.list.new.journal.ok.0,
+    ))

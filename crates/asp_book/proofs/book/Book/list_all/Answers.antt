@@ -30,7 +30,8 @@ list-requires-clause-answer c =
 pub list-requires-clause-row : goal.list-requires-clause-row
 list-requires-clause-row c =
     let is : c.args.found.items ≡ c.loop-listing.yielded ++ c.in-Some.listing ∷ into_iter_items c.next.new.self = grind (arith, common_steps) in
-    subst (λ (t : Task). IsRowFor (atoms_of t.program) c.in-Some.listing.set c.in-Some.listing.row) (sym (task-listed c.args.self.now c.loop-listing.self (deliveries c.args.by c.loop-listing.yielded) c.loop-listing.invariant.self))
+    subst (λ (t : Task). IsRowFor (atoms_of t.program) c.in-Some.listing.set c.in-Some.listing.row)
+    (sym (task-listed c.args.self.now c.loop-listing.self (deliveries c.args.by c.loop-listing.yielded) c.loop-listing.invariant.self))
     (listing-next (board c.args.self.now).task c.args.found.items c.loop-listing.yielded c.in-Some.listing (into_iter_items c.next.new.self) is c.requires.found).row
 
 pub returns-then-not-branch : goal.returns-then-not-branch

@@ -36,10 +36,18 @@ explained-requires-clause-explained c d =
     (subst (λ (b : Bounded). IsExplained b.told.program b.bound (take c.args.place es) (get_or es c.args.place d).lit) (sym c.self.view_is) (c.requires.explained d))
 
 -- what is said of the nogood, by the program and bound that are seen
-said : (c : goal.After-explained) → IfOk c.explained.result (λ n. IsTooDear c.args.self.now.told.program c.args.self.now.bound n × ((d : Entry) → IsReason c.args.trail.now.entries c.args.place (get_or c.args.trail.now.entries c.args.place d).lit n.lits))
+said : (c : goal.After-explained) →
+    IfOk c.explained.result (λ n. IsTooDear c.args.self.now.told.program c.args.self.now.bound n ×
+    ((d : Entry) → IsReason c.args.trail.now.entries c.args.place (get_or c.args.trail.now.entries c.args.place d).lit n.lits))
 said c =
-    subst (λ (b : Bounded). IfOk c.explained.result (λ n. IsTooDear b.told.program b.bound n × ((d : Entry) → IsReason c.args.trail.now.entries c.args.place (get_or c.args.trail.now.entries c.args.place d).lit n.lits))) c.self.view_is
-    (subst (λ (bound : Option (List ℤ)). IfOk c.explained.result (λ n. IsTooDear c.self.inside.priced.origin.value bound n × ((d : Entry) → IsReason c.args.trail.now.entries c.args.place (get_or c.args.trail.now.entries c.args.place d).lit n.lits))) (sym c.in-Some.is) c.explained.ensures)
+    subst (λ (b : Bounded). IfOk c.explained.result
+    (λ n. IsTooDear b.told.program b.bound n ×
+    ((d : Entry) → IsReason c.args.trail.now.entries c.args.place (get_or c.args.trail.now.entries c.args.place d).lit n.lits)))
+    c.self.view_is
+    (subst (λ (bound : Option (List ℤ)). IfOk c.explained.result
+    (λ n. IsTooDear c.self.inside.priced.origin.value bound n ×
+    ((d : Entry) → IsReason c.args.trail.now.entries c.args.place (get_or c.args.trail.now.entries c.args.place d).lit n.lits)))
+    (sym c.in-Some.is) c.explained.ensures)
 
 pub returns-clause-dear : goal.returns-clause-dear
 returns-clause-dear c = IfOk-weaker c.explained.result _ _ (λ n both. both.0) (said c)

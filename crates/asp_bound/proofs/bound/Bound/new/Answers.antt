@@ -22,7 +22,8 @@ invariant_of-result c =
     let gathered = subst (AreGathered c.args.compiled.now (priorities c.args.compiled.now.minimize) tables.rows tables.columns) (sym copied) c.in_ok-tables.ensures in
     let raisers = raisers_begun c.none.result (c.vars-count.result + 1) tables.rows lists.vars.items lists.raisers (length lists.vars.items) c.none.ensures are.none refl in (
       begun_as c.args.compiled.now c.of.result.value c.none.result c.vars-count.result tables.rows tables.rows tables.columns lists.vars.items tables.sums.items
-          (c.of.ensures ∙ c.program.ensures.program) c.vars-count.ensures.count c.vars-count.ensures.few c.none.ensures refl c.program.ensures.sound c.in_ok-tables.ensures are.within are.whole are.once,
+          (c.of.ensures ∙ c.program.ensures.program) c.vars-count.ensures.count c.vars-count.ensures.few c.none.ensures refl c.program.ensures.sound
+          c.in_ok-tables.ensures are.within are.whole are.once,
       starts-new c.none.result tables.columns lists.starts.items c.len.result c.len.ensures are.begun,
       raisers.0,
       raisers.1,

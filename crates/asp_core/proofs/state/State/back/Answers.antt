@@ -12,7 +12,8 @@ pub invariant_of-self : goal.invariant_of-self
 invariant_of-self c =
     let i : Inside = c.self.inside in
     let I = c.self.invariant in
-    IsState-happens i (record i { pool = i.pool + c.args.left; out = c.return_out.new.out; burnt = i.burnt + c.args.burnt }) c.args.self.now (event.Back c.args.by c.args.left c.args.burnt) I c.self.view_is c.requires
+    IsState-happens i (record i { pool = i.pool + c.args.left; out = c.return_out.new.out; burnt = i.burnt + c.args.burnt }) c.args.self.now
+    (event.Back c.args.by c.args.left c.args.burnt) I c.self.view_is c.requires
     (ap (λ (x : List (ℕ × ℕ)). record (board_of i) { pool = i.pool + c.args.left; out = x; burnt = i.burnt + c.args.burnt }) c.return_out.ensures)
     refl refl refl (I.costed) (I.sorted) I.seen I.seeded I.room
 

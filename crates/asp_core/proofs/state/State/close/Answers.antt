@@ -28,7 +28,17 @@ invariant_of-self c =
     let e : Event = event.Close c.args.by c.args.leaf c.args.nogood in
     let guard : Guard (board_of i) e = subst (λ (b : Board). Guard b e) (sym c.self.view_is) c.requires in
     let room : length c.push_reserved.new.self.items + held_count c.mark.new.self ≤ vec_capacity c.push_reserved.new.self =
-    omega (arith, I.room, c.push_reserved.ensures.capacity, ap length c.push_reserved.ensures.items, length-append i.reasons.items (record { leaf = c.args.leaf; nogood = c.args.nogood } ∷ []), ap held_count c.mark.ensures, held_count-changed i.tree c.args.leaf (status.Held c.args.by) status.Closed guard.0 refl) in
+    omega (
+      arith,
+      I.room,
+      c.push_reserved.ensures.capacity,
+      ap length c.push_reserved.ensures.items,
+      length-append i.reasons.items (record { leaf = c.args.leaf; nogood = c.args.nogood } ∷ []),
+      ap held_count c.mark.ensures,
+      held_count-changed i.tree c.args.leaf (status.Held c.args.by) status.Closed guard.0 refl,
+    ) in
     IsState-happens i (record i { tree = c.mark.new.self; reasons = c.push_reserved.new.self }) c.args.self.now e I c.self.view_is c.requires
-    (ap (λ (x : List Node). record (board_of i) { nodes = x; reasons = c.push_reserved.new.self.items }) c.mark.ensures ∙ ap (λ (x : List Reason). record (board_of i) { nodes = with_status i.tree c.args.leaf status.Closed; reasons = x }) c.push_reserved.ensures.items)
+    (ap (λ (x : List Node). record (board_of i) { nodes = x; reasons = c.push_reserved.new.self.items }) c.mark.ensures
+    ∙ ap (λ (x : List Reason). record (board_of i) { nodes = with_status i.tree c.args.leaf status.Closed; reasons = x })
+    c.push_reserved.ensures.items)
     refl refl refl (I.costed) (I.sorted) I.seen I.seeded room

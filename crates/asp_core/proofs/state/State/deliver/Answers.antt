@@ -43,11 +43,18 @@ invariant_of-self-in-Some-1 c =
     c.push_reserved.ensures.items ∙ ap (λ (x : List Atoms). x ++ c.of-told.result ∷ []) c.in_ok-reserve-in-Some.ensures.items ∙ ap (λ (y : Atoms). i.told.items ++ y ∷ []) c.of-told.ensures in
     let s : Seen i.goal k p c.in-Some.known A i.told.items i.atoms.items = seen-some i.goal k p i.known c.in-Some.known A i.told.items i.atoms.items I.seen c.in-Some.is in
     let grown : c.in_ok-known-in-Some.known ≡ record c.in-Some.known { sets = common_sets c.in-Some.known.reasoning c.in-Some.known.program (with_answer (seed_of i.goal p) c.in-Some.known.sets S) } =
-    c.in_ok-known-in-Some.ensures ∙ ap (λ (seed : Option Atoms). let k : Knowing = record c.in-Some.known { sets = common_sets c.in-Some.known.reasoning c.in-Some.known.program (with_answer seed c.in-Some.known.sets S) } in k) (c.as_ref.ensures.value ∙ I.seeded) in
-    let told : answers_in k A c.push_reserved.new.self.items ≡ answers_in k A i.told.items ++ S ∷ [] = ap (λ (x : List Atoms). answers_in k A x) more ∙ tell-in k s.reasoning A i.told.items S s.seeks in
+    c.in_ok-known-in-Some.ensures ∙ ap (λ (seed : Option Atoms). let k : Knowing =
+    record c.in-Some.known { sets = common_sets c.in-Some.known.reasoning c.in-Some.known.program (with_answer seed c.in-Some.known.sets S) }
+    in k) (c.as_ref.ensures.value ∙ I.seeded) in
+    let told : answers_in k A c.push_reserved.new.self.items ≡ answers_in k A i.told.items ++ S ∷ [] =
+    ap (λ (x : List Atoms). answers_in k A x) more ∙ tell-in k s.reasoning A i.told.items S s.seeks in
     let listed : c.as_slice-in-Some.result.now ≡ atoms_of p = c.as_slice-in-Some.ensures.value ∙ c.atoms-in-Some.ensures ∙ I.among in
-    IsState-happens i (record i { told = c.push_reserved.new.self; known = Some c.in_ok-known-in-Some.known; different = c.count_in.new.different }) c.args.self.now (event.Deliver c.args.by c.args.set) I c.self.view_is c.requires
+    IsState-happens i (record i { told = c.push_reserved.new.self; known = Some c.in_ok-known-in-Some.known; different = c.count_in.new.different })
+    c.args.self.now (event.Deliver c.args.by c.args.set) I c.self.view_is c.requires
     (ap (λ (x : List Atoms). record (board_of i) { answers = x }) told)
     refl refl refl I.costed
-    (different-delivered i.limit (atoms_of p) i.different.keys c.count_in.new.different.keys (answers_in k A i.told.items) (answers_in k A c.push_reserved.new.self.items) S I.sorted (λ some. subst (λ (L : Atoms). Counts L i.different.keys c.count_in.new.different.keys S) listed (c.in_ok-count_in-in-Some.ensures.ok some)) told)
+    (different-delivered i.limit (atoms_of p) i.different.keys c.count_in.new.different.keys (answers_in k A i.told.items)
+    (answers_in k A c.push_reserved.new.self.items) S I.sorted
+    (λ some. subst (λ (L : Atoms). Counts L i.different.keys c.count_in.new.different.keys S) listed
+    (c.in_ok-count_in-in-Some.ensures.ok some)) told)
     (seen-more i.goal p c.in-Some.known c.in_ok-known-in-Some.known A i.told.items c.push_reserved.new.self.items S i.atoms.items s grown more) I.seeded I.room

@@ -14,5 +14,7 @@ returns-then-self-ne0 c =
     let i : Inside = c.self.inside in
     let A : List Atoms = answers_in (sought i.goal) i.answers.sets i.told.items in
     let some : 0 < i.limit = omega arith in
-    let many : c.len.result ≡ length (distinct A) = c.len.ensures.len ∙ sym (length-map i.different.keys (λ (x : Row). x.set)) ∙ ap length (c.self.invariant.sorted some).sorted ∙ length-sorted_once A in
+    let many : c.len.result ≡ length (distinct A) =
+    c.len.ensures.len ∙ sym (length-map i.different.keys (λ (x : Row). x.set)) ∙ ap length (c.self.invariant.sorted some).sorted
+    ∙ length-sorted_once A in
     ap (leb i.limit) many ∙ sym (ap (λ x. not x && leb i.limit (length (distinct A))) (ne_eqb i.limit 0 c.if-self-ne0.true)) ∙ ap is_enough c.self.view_is

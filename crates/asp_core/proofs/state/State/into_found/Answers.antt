@@ -11,7 +11,8 @@ common-requires c =
 pub returns-clause-answers : goal.returns-clause-answers
 returns-clause-answers c =
     let i = c.self.inside in
-    seen-listed i.goal (sought i.goal) i.program.value i.known i.answers.sets i.told.items i.atoms.items c.self.invariant.seen ∙ ap (λ (b : Board). listed_by (sought b.task.goal) b.answers) c.self.view_is
+    seen-listed i.goal (sought i.goal) i.program.value i.known i.answers.sets i.told.items i.atoms.items c.self.invariant.seen
+    ∙ ap (λ (b : Board). listed_by (sought b.task.goal) b.answers) c.self.view_is
 
 pub returns-clause-known : goal.returns-clause-known
 returns-clause-known c =

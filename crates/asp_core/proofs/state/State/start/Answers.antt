@@ -30,9 +30,31 @@ invariant_of-result c =
     let listed : c.new.result.sets ≡ [] = ap (λ (l : Listed). l.sets) c.new.ensures in
     let told : answers_in r c.new.result.sets c.new-2.result.items ≡ [] =
     ap (λ (x : List Atoms). answers_in r x c.new-2.result.items) listed ∙ ap (λ (x : List Atoms). answers_in r [] x) c.new-2.ensures.items ∙ in-none r in
-    let board : IsBoard (record { task = record { program = c.of.result.value; goal = c.args.goal; budget = c.args.budget; limit = c.args.limit; query = c.from_vec.result }; nodes = c.in_ok-tree.tree; answers = answers_in r c.new.result.sets c.new-2.result.items; best = None; pool = c.args.budget; out = c.new-4.result.items; burnt = 0; reasons = c.new-5.result.items }) =
+    let board : IsBoard (record {
+      task =
+          record { program = c.of.result.value; goal = c.args.goal; budget = c.args.budget; limit = c.args.limit; query = c.from_vec.result };
+      nodes = c.in_ok-tree.tree;
+      answers = answers_in r c.new.result.sets c.new-2.result.items;
+      best = None;
+      pool = c.args.budget;
+      out =
+          c.new-4.result.items;
+      burnt = 0;
+      reasons = c.new-5.result.items;
+    }) =
     subst IsBoard
-    (sym (λ k. record { task = record { program = same k; goal = c.args.goal; budget = c.args.budget; limit = c.args.limit; query = asked k }; nodes = nodes k; answers = told k; best = None; pool = c.args.budget; out = c.new-4.ensures.items k; burnt = 0; reasons = c.new-5.ensures.items k }))
+    (sym (λ k. record {
+      task = record { program = same k; goal = c.args.goal; budget = c.args.budget; limit = c.args.limit; query = asked k };
+      nodes =
+          nodes k;
+      answers = told k;
+      best = None;
+      pool = c.args.budget;
+      out = c.new-4.ensures.items k;
+      burnt = 0;
+      reasons =
+          c.new-5.ensures.items k;
+    }))
     (IsBoard-start t c.requires) in
     record {
       board = board;
@@ -63,4 +85,15 @@ returns c =
     let listed : c.new.result.sets ≡ [] = ap (λ (l : Listed). l.sets) c.new.ensures in
     let told : answers_in r c.new.result.sets c.new-2.result.items ≡ [] =
     ap (λ (x : List Atoms). answers_in r x c.new-2.result.items) listed ∙ ap (λ (x : List Atoms). answers_in r [] x) c.new-2.ensures.items ∙ in-none r in
-    λ k. record { task = record { program = same k; goal = c.args.goal; budget = c.args.budget; limit = c.args.limit; query = asked k }; nodes = nodes k; answers = told k; best = None; pool = c.args.budget; out = c.new-4.ensures.items k; burnt = 0; reasons = c.new-5.ensures.items k }
+    λ k. record {
+      task = record { program = same k; goal = c.args.goal; budget = c.args.budget; limit = c.args.limit; query = asked k };
+      nodes =
+          nodes k;
+      answers = told k;
+      best = None;
+      pool = c.args.budget;
+      out = c.new-4.ensures.items k;
+      burnt = 0;
+      reasons =
+          c.new-5.ensures.items k;
+    }

@@ -13,7 +13,8 @@ use Rattle.asp_core.proofs.state.State.unbettered.Goals as goal
 pub returns-in-None-clause-none : goal.returns-in-None-clause-none
 returns-in-None-clause-none c = λ _.
     let asked : optimises c.self.inside.goal ≡ true = ap (λ (b : Board). optimises b.task.goal) c.self.view_is ∙ c.requires in
-    subst (λ (b : Board). is_excused b c.args.set.now ≡ false) c.self.view_is (unexcused-none (board_of c.self.inside) c.args.set.now c.self.invariant.board asked (ap (option_map (λ x. x.0)) c.in-None.is))
+    subst (λ (b : Board). is_excused b c.args.set.now ≡ false) c.self.view_is
+    (unexcused-none (board_of c.self.inside) c.args.set.now c.self.invariant.board asked (ap (option_map (λ x. x.0)) c.in-None.is))
 
 pub returns-then-lt-clause-none : goal.returns-then-lt-clause-none
 returns-then-lt-clause-none c = λ _.

@@ -20,4 +20,11 @@ overflow_cast-result c = let i = c.self.inside in omega (arith, c.self.invariant
 pub returns : goal.returns
 returns c =
     let i = c.self.inside in
-    omega (arith, ap (λ (x : List Nogood). length x) c.self.view_is, length-drop i.skipped (stored i.blocks.items i.tail.items), length-stored i.blocks.items i.tail.items, c.len.ensures, c.len-2.ensures)
+    omega (
+      arith,
+      ap (λ (x : List Nogood). length x) c.self.view_is,
+      length-drop i.skipped (stored i.blocks.items i.tail.items),
+      length-stored i.blocks.items i.tail.items,
+      c.len.ensures,
+      c.len-2.ensures,
+    )

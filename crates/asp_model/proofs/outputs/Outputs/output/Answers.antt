@@ -5,7 +5,13 @@ use Rattle.asp_model.proofs.ZippedLaws.{length-zipped, length-second, first_at, 
 use Rattle.asp_model.proofs.outputs.Outputs.output.Goals as goal
 
 pub index-row-requires : goal.index-row-requires
-index-row-requires c = omega (arith, c.requires, length-zipped (λ k. k < length c.self.inside.conditions) (output_of c.self.inside.conditions) c.self.inside.rows.items c.self.inside.texts c.self.invariant, ap length c.self.view_is)
+index-row-requires c = omega (
+  arith,
+  c.requires,
+  length-zipped (λ k. k < length c.self.inside.conditions) (output_of c.self.inside.conditions) c.self.inside.rows.items c.self.inside.texts
+      c.self.invariant,
+  ap length c.self.view_is,
+)
 
 pub row-requires : goal.row-requires
 row-requires c =
@@ -17,7 +23,8 @@ row-requires-2 c =
     let ks : List ℕ = c.self.inside.rows.items in
     let rows = length-zipped (λ k. k < length c.self.inside.conditions) (output_of c.self.inside.conditions) ks c.self.inside.texts c.self.invariant in
     let lt : c.args.output < length ks = omega (arith, c.requires, rows, ap length c.self.view_is) in
-    subst (λ (k : ℕ). k < length c.self.inside.conditions) (sym c.index-row.ensures) (first_at (λ k. k < length c.self.inside.conditions) ks c.self.inside.texts c.args.output c.index-row.result.now c.self.invariant lt)
+    subst (λ (k : ℕ). k < length c.self.inside.conditions) (sym c.index-row.ensures)
+    (first_at (λ k. k < length c.self.inside.conditions) ks c.self.inside.texts c.args.output c.index-row.result.now c.self.invariant lt)
 
 pub returns : goal.returns
 returns c =

@@ -55,7 +55,8 @@ invariant_of-self c =
     (subst (λ (xs : List ℕ). IsPlaced (set m v true) (items ++ v ∷ []) xs) (sym e2) (placed_push m items places v t.placed vm vp vn out)) in
     let li : length c.rise.new.items ≡ length items + 1 = omega (arith, c.rise.auto.items, ap (length {A = ℕ}) e1, length-append items (v ∷ [])) in
     let lp : length c.rise.new.places ≡ length places = omega (arith, c.rise.auto.places, ap (length {A = ℕ}) e2, length-set places v (length items)) in
-    let ei : length c.rise.new.items ≡ c.push_reserved.new.self.len = omega (arith, li, c.push_reserved.new.self.ok.0, ap (length {A = ℕ}) c.push_reserved.ensures.items, length-append items (v ∷ [])) in
+    let ei : length c.rise.new.items ≡ c.push_reserved.new.self.len =
+    omega (arith, li, c.push_reserved.new.self.ok.0, ap (length {A = ℕ}) c.push_reserved.ensures.items, length-append items (v ∷ [])) in
     let ep : length c.rise.new.places ≡ c.self.inside.places.len = omega (arith, lp, c.self.inside.places.ok.0) in
     let n : c.len-at.result + 1 ≡ length c.rise.new.items = omega (arith, li, c.len-at.ensures, c.self.inside.items.ok.0) in
     let heap : IsHeap (rank_at a c.rise.new.items) (length c.rise.new.items) =

@@ -8,7 +8,8 @@ loop-index-init c = opened_none _ _ c.new-thieves.ensures.items c.new-owners.ens
 pub loop-index-preserved : goal.loop-index-preserved
 loop-index-preserved c = subst (λ l. Opened (c.loop-index.index + 1) l c.push-in-loop-index.new.self.items) (sym c.in_ok-push.ensures.items)
     (subst (λ l. Opened (c.loop-index.index + 1) (c.loop-index.thieves.items ++ c.in_ok-thief.field-0 ∷ []) l) (sym c.in_ok-push-2.ensures.items)
-    (opened_push c.loop-index.index c.loop-index.thieves.items c.loop-index.owners.items c.in_ok-thief.field-0 c.in_ok-owner.owner c.loop-index.invariant c.in_ok-thief.ensures.0 c.in_ok-owner.ensures c.in_ok-thief.ensures.1))
+    (opened_push c.loop-index.index c.loop-index.thieves.items c.loop-index.owners.items c.in_ok-thief.field-0 c.in_ok-owner.owner
+    c.loop-index.invariant c.in_ok-thief.ensures.0 c.in_ok-owner.ensures c.in_ok-thief.ensures.1))
 
 pub invariant_of-result : goal.invariant_of-result
 invariant_of-result c =

@@ -24,5 +24,7 @@ loop-i-preserved c =
           c.condition_of.ensures inv.conditions);
       texts = texts;
       count = omega (arith, inv.count, c.in_ok-push-3.ensures.len);
-      starts = λ k le. ap (λ (ss : List ℕ). get_or ss k 0) c.in_ok-push-3.ensures.items ∙ starts_more c.args.between os i c.len-in-loop-i.result c.loop-i.starts.items inv.count inv.starts (omega (arith, c.len-in-loop-i.ensures, ap (λ (t : List ℕ). length t) texts)) k le;
+      starts = λ k le. ap (λ (ss : List ℕ). get_or ss k 0) c.in_ok-push-3.ensures.items
+          ∙ starts_more c.args.between os i c.len-in-loop-i.result c.loop-i.starts.items inv.count inv.starts
+          (omega (arith, c.len-in-loop-i.ensures, ap (λ (t : List ℕ). length t) texts)) k le;
     }

@@ -7,6 +7,7 @@ loop-i-init c = record { run = run_begins c.args.self.now.between c.args.row.now
 
 pub loop-i-preserved : goal.loop-i-preserved
 loop-i-preserved c = record {
-  run = run_more c.args.self.now.between c.args.row.now.set c.args.outputs.now c.args.from c.loop-i.i (omega (arith, c.loop-i.invariant.more)) (sym c.if-not-shows.false ∙ c.shows.ensures) c.loop-i.invariant.run;
+  run = run_more c.args.self.now.between c.args.row.now.set c.args.outputs.now c.args.from c.loop-i.i (omega (arith, c.loop-i.invariant.more))
+      (sym c.if-not-shows.false ∙ c.shows.ensures) c.loop-i.invariant.run;
   more = omega (arith, c.loop-i.invariant.more);
 }

@@ -13,9 +13,11 @@ invariant_of-self g c =
     let q = c.recall.ensures in
     let new = c.untell.new.propagator in
     subst (λ (x : Trailed). IsFollowed (λ p. g.P.Propagator.explains p (g.P.Propagator.bound new)) (g.P.Propagator.told c.untell.new.propagator) c.recall.new.self x 0) (sym c.clear.ensures)
-    (followed_clear (λ p. g.P.Propagator.explains p (g.P.Propagator.bound new)) (g.P.Propagator.told i.propagator) (g.P.Propagator.told c.untell.new.propagator) i.store c.recall.new.self i.trail i.told q.recalled q.active
+    (followed_clear (λ p. g.P.Propagator.explains p (g.P.Propagator.bound new)) (g.P.Propagator.told i.propagator)
+    (g.P.Propagator.told c.untell.new.propagator) i.store c.recall.new.self i.trail i.told q.recalled q.active
     c.untell.ensures.told
-    (followed_bound g.P.Propagator.explains (g.P.Propagator.bound i.propagator) (g.P.Propagator.bound new) (g.P.Propagator.told i.propagator) i.store i.trail i.told c.untell.ensures.bound c.self.invariant))
+    (followed_bound g.P.Propagator.explains (g.P.Propagator.bound i.propagator) (g.P.Propagator.bound new) (g.P.Propagator.told i.propagator) i.store
+    i.trail i.told c.untell.ensures.bound c.self.invariant))
 
 pub returns : goal.returns
 returns g c =

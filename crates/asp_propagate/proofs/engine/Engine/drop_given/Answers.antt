@@ -9,8 +9,10 @@ invariant_of-self g c =
     let i = c.self.inside in
     let es = i.trail.entries in
     followed_reduced (λ p. g.P.Propagator.explains p (g.P.Propagator.bound c.self.inside.propagator)) (g.P.Propagator.told i.propagator) i.store c.lock_reasons-2.new.store i.trail i.told
-    (locks_given_reduced es i.store c.lock_reasons.new.store c.drop_given.new.self c.lock_reasons-2.new.store c.self.invariant.unlocked c.lock_reasons.ensures c.drop_given.ensures.count c.drop_given.ensures.each c.lock_reasons-2.ensures)
-    (locks_lose es i.store c.lock_reasons.new.store c.drop_given.new.self c.lock_reasons-2.new.store c.self.invariant.unlocked c.lock_reasons.ensures c.drop_given.ensures.loses c.lock_reasons-2.ensures)
+    (locks_given_reduced es i.store c.lock_reasons.new.store c.drop_given.new.self c.lock_reasons-2.new.store c.self.invariant.unlocked
+    c.lock_reasons.ensures c.drop_given.ensures.count c.drop_given.ensures.each c.lock_reasons-2.ensures)
+    (locks_lose es i.store c.lock_reasons.new.store c.drop_given.new.self c.lock_reasons-2.new.store c.self.invariant.unlocked c.lock_reasons.ensures
+    c.drop_given.ensures.loses c.lock_reasons-2.ensures)
     c.self.invariant
 
 pub returns-clause-same : goal.returns-clause-same
@@ -23,11 +25,13 @@ returns-clause-kept g c =
     let i = c.self.inside in
     let es = i.trail.entries in
     subst (λ (x : Propagating). IsReduced x.entries x.slots c.lock_reasons-2.new.store.slots) c.self.view_is
-    (locks_given_reduced es i.store c.lock_reasons.new.store c.drop_given.new.self c.lock_reasons-2.new.store c.self.invariant.unlocked c.lock_reasons.ensures c.drop_given.ensures.count c.drop_given.ensures.each c.lock_reasons-2.ensures)
+    (locks_given_reduced es i.store c.lock_reasons.new.store c.drop_given.new.self c.lock_reasons-2.new.store c.self.invariant.unlocked
+    c.lock_reasons.ensures c.drop_given.ensures.count c.drop_given.ensures.each c.lock_reasons-2.ensures)
 
 pub returns-clause-each : goal.returns-clause-each
 returns-clause-each g c =
     let i = c.self.inside in
     let es = i.trail.entries in
     subst (λ (x : Propagating). DropsGiven x.entries x.slots c.lock_reasons-2.new.store.slots) c.self.view_is
-    (locks_given es i.store c.lock_reasons.new.store c.drop_given.new.self c.lock_reasons-2.new.store c.self.invariant.unlocked c.lock_reasons.ensures c.drop_given.ensures.each c.lock_reasons-2.ensures)
+    (locks_given es i.store c.lock_reasons.new.store c.drop_given.new.self c.lock_reasons-2.new.store c.self.invariant.unlocked c.lock_reasons.ensures
+    c.drop_given.ensures.each c.lock_reasons-2.ensures)

@@ -12,23 +12,28 @@ pub value-value-requires : goal.value-value-requires
 value-value-requires g c =
     let i = c.self.inside in
     subst (λ (v : ℕ). v ≤ i.trail.vars) (sym c.var.ensures)
-    (var_inside (λ p. g.P.Propagator.explains p (g.P.Propagator.bound c.self.inside.propagator)) (g.P.Propagator.told i.propagator) (g.P.Propagator.bound i.propagator) i.store i.trail i.told c.args.self.now c.args.lit.var c.self.view_is c.self.invariant c.requires.var).1
+    (var_inside (λ p. g.P.Propagator.explains p (g.P.Propagator.bound c.self.inside.propagator)) (g.P.Propagator.told i.propagator)
+    (g.P.Propagator.bound i.propagator) i.store i.trail i.told c.args.self.now c.args.lit.var c.self.view_is c.self.invariant
+    c.requires.var).1
 
 pub imply-requires-clause-var : goal.imply-requires-clause-var
 imply-requires-clause-var g c =
     let i = c.self.inside in
-    var_inside (λ p. g.P.Propagator.explains p (g.P.Propagator.bound c.self.inside.propagator)) (g.P.Propagator.told i.propagator) (g.P.Propagator.bound i.propagator) i.store i.trail i.told c.args.self.now c.args.lit.var c.self.view_is c.self.invariant c.requires.var
+    var_inside (λ p. g.P.Propagator.explains p (g.P.Propagator.bound c.self.inside.propagator)) (g.P.Propagator.told i.propagator)
+    (g.P.Propagator.bound i.propagator) i.store i.trail i.told c.args.self.now c.args.lit.var c.self.view_is c.self.invariant c.requires.var
 
 pub imply-requires-clause-none : goal.imply-requires-clause-none
 imply-requires-clause-none g c =
     let i = c.self.inside in
-    none_inside (λ p. g.P.Propagator.explains p (g.P.Propagator.bound c.self.inside.propagator)) (g.P.Propagator.told i.propagator) (g.P.Propagator.bound i.propagator) i.store i.trail i.told c.args.self.now c.args.lit.var c.self.view_is c.self.invariant c.requires.none
+    none_inside (λ p. g.P.Propagator.explains p (g.P.Propagator.bound c.self.inside.propagator)) (g.P.Propagator.told i.propagator)
+    (g.P.Propagator.bound i.propagator) i.store i.trail i.told c.args.self.now c.args.lit.var c.self.view_is c.self.invariant c.requires.none
 
 pub imply-requires-clause-room : goal.imply-requires-clause-room
 imply-requires-clause-room g c =
     let i = c.self.inside in
     let none =
-    none_inside (λ p. g.P.Propagator.explains p (g.P.Propagator.bound c.self.inside.propagator)) (g.P.Propagator.told i.propagator) (g.P.Propagator.bound i.propagator) i.store i.trail i.told c.args.self.now c.args.lit.var c.self.view_is c.self.invariant c.requires.none in
+    none_inside (λ p. g.P.Propagator.explains p (g.P.Propagator.bound c.self.inside.propagator)) (g.P.Propagator.told i.propagator)
+    (g.P.Propagator.bound i.propagator) i.store i.trail i.told c.args.self.now c.args.lit.var c.self.view_is c.self.invariant c.requires.none in
     let some : 0 < c.var.result = omega (arith, c.var.ensures, c.requires.var.0) in
     let few : length i.trail.entries < i.trail.vars =
     c.value-value.ensures.rest some (c.value-value.ensures.value ∙ (ap (value_of (assignment i.trail.vars i.trail.entries)) c.var.ensures ∙ none)) in
@@ -42,7 +47,8 @@ invariant_of-self g c =
     let le : i.trail.seen ≤ length i.trail.entries = omega (arith, c.len-len.ensures.seen, c.len-len.ensures.len) in
     let why = subst (λ (x : Propagating). IsImplied x c.args.lit c.args.id) (sym c.self.view_is) c.requires.implied in
     subst (λ (x : Trailed). IsFollowed (λ p. g.P.Propagator.explains p (g.P.Propagator.bound c.self.inside.propagator)) t i.store x i.told) (sym c.imply.ensures)
-    (followed_imply (λ p. g.P.Propagator.explains p (g.P.Propagator.bound c.self.inside.propagator)) t i.store i.trail i.told e c.args.id why.0 c.extra-extra.ensures.few le refl why.1 why.2 c.self.invariant)
+    (followed_imply (λ p. g.P.Propagator.explains p (g.P.Propagator.bound c.self.inside.propagator)) t i.store i.trail i.told e c.args.id why.0
+    c.extra-extra.ensures.few le refl why.1 why.2 c.self.invariant)
 
 pub returns : goal.returns
 returns g c =

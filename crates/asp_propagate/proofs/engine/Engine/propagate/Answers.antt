@@ -31,9 +31,13 @@ returns-clause-fixpoint g c =
     let b = g.P.Propagator.bound c.propagate.new.propagator in
     let silent = g.P.Propagator.silent in
     subst (λ (n : ℕ). IfOk c.propagate.result (λ r. IfNone r (IsFixpoint (silent (g.P.Propagator.told c.propagate.new.propagator).program b) s (assignment n es)))) e.followed.told.vars
-    (subst (λ (x : Option (List ℤ)). IfOk c.propagate.result (λ r. IfNone r (IsFixpoint (silent (g.P.Propagator.told c.propagate.new.propagator).program x) s (assignment c.propagate.new.trail.vars es))))
+    (subst (λ (x : Option (List ℤ)). IfOk c.propagate.result
+    (λ r. IfNone r
+    (IsFixpoint (silent (g.P.Propagator.told c.propagate.new.propagator).program x) s (assignment c.propagate.new.trail.vars es))))
     (sym e.goes.bound_stays)
-    (subst (λ (p : Program). IfOk c.propagate.result (λ r. IfNone r (IsFixpoint (silent p (g.P.Propagator.bound c.self.inside.propagator)) s (assignment c.propagate.new.trail.vars es)))) (sym e.goes.program) e.fixpoint))
+    (subst (λ (p : Program). IfOk c.propagate.result
+    (λ r. IfNone r (IsFixpoint (silent p (g.P.Propagator.bound c.self.inside.propagator)) s (assignment c.propagate.new.trail.vars es))))
+    (sym e.goes.program) e.fixpoint))
 
 pub returns-clause-violated : goal.returns-clause-violated
 returns-clause-violated g c =

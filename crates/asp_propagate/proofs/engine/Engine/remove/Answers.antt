@@ -13,7 +13,9 @@ invariant_of-self g c =
     let i = c.self.inside in
     let t = g.P.Propagator.told i.propagator in
     subst (λ (x : Stored). IsFollowed (λ p. g.P.Propagator.explains p (g.P.Propagator.bound c.self.inside.propagator)) t x i.trail i.told) (sym c.remove.ensures)
-    (followed_removed (λ p. g.P.Propagator.explains p (g.P.Propagator.bound c.self.inside.propagator)) t i.store i.trail i.told c.args.id (subst (λ (x : Propagating). c.args.id < length x.slots) (sym c.self.view_is) c.requires.slot) (subst (λ (x : Propagating). IsUnnamed x.entries c.args.id) (sym c.self.view_is) c.requires.unnamed) c.self.invariant)
+    (followed_removed (λ p. g.P.Propagator.explains p (g.P.Propagator.bound c.self.inside.propagator)) t i.store i.trail i.told c.args.id
+    (subst (λ (x : Propagating). c.args.id < length x.slots) (sym c.self.view_is) c.requires.slot)
+    (subst (λ (x : Propagating). IsUnnamed x.entries c.args.id) (sym c.self.view_is) c.requires.unnamed) c.self.invariant)
 
 pub returns : goal.returns
 returns g c =

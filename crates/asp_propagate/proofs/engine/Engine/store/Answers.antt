@@ -16,7 +16,8 @@ pub returns-clause-asked : goal.returns-clause-asked
 returns-clause-asked g c =
     let i = c.self.inside in
     subst (λ (x : Propagating). AreAsked (CanAsk (g.P.Propagator.explains x.program x.bound) x.slots x.entries) x.entries) c.self.view_is
-    (all_asked (g.P.Propagator.explains (g.P.Propagator.told i.propagator).program (g.P.Propagator.bound i.propagator)) i.store.slots i.trail.entries c.self.invariant.fits.reasons c.self.invariant.explained)
+    (all_asked (g.P.Propagator.explains (g.P.Propagator.told i.propagator).program (g.P.Propagator.bound i.propagator)) i.store.slots i.trail.entries
+    c.self.invariant.fits.reasons c.self.invariant.explained)
 
 pub returns-clause-said : goal.returns-clause-said
 returns-clause-said g c =

@@ -12,9 +12,11 @@ invariant_of-self g c =
     let u = c.untell_above-self-inside.ensures in
     let q = c.undo_to.ensures in
     let new = c.untell_above-self-inside.new.propagator in
-    subst (λ (x : Trailed). IsFollowed (λ p. g.P.Propagator.explains p (g.P.Propagator.bound new)) (g.P.Propagator.told c.untell_above-self-inside.new.propagator) i.store x c.untell_above-self-inside.result)
+    subst (λ (x : Trailed). IsFollowed (λ p. g.P.Propagator.explains p (g.P.Propagator.bound new))
+    (g.P.Propagator.told c.untell_above-self-inside.new.propagator) i.store x c.untell_above-self-inside.result)
     (sym (cut_trail i.trail c.undo_to.new.self c.args.level q.same q.entries q.seen))
-    (followed_cut (λ p. g.P.Propagator.explains p (g.P.Propagator.bound new)) (g.P.Propagator.told i.propagator) (g.P.Propagator.told c.untell_above-self-inside.new.propagator) i.store i.trail i.told c.untell_above-self-inside.result c.args.level
+    (followed_cut (λ p. g.P.Propagator.explains p (g.P.Propagator.bound new)) (g.P.Propagator.told i.propagator)
+    (g.P.Propagator.told c.untell_above-self-inside.new.propagator) i.store i.trail i.told c.untell_above-self-inside.result c.args.level
     c.len-len.ensures.ordered.rising u.low u.kept u.program u.told
     (followed_bound g.P.Propagator.explains (g.P.Propagator.bound i.propagator) (g.P.Propagator.bound new) (g.P.Propagator.told i.propagator) i.store i.trail i.told u.bound c.self.invariant))
 

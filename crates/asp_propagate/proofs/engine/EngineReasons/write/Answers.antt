@@ -38,7 +38,8 @@ pub returns : goal.returns
 returns g c =
     let i = c.self.inside in
     subst (λ (x : Propagating). IfOk c.explain.result (IsSaid (g.P.Propagator.late x.program x.bound) x.slots x.entries c.args.lit c.args.id)) c.self.view_is
-    (written_said i.trail.vars (g.P.Propagator.late (g.P.Propagator.told i.propagator).program (g.P.Propagator.bound i.propagator)) i.store.slots i.trail.entries c.args.lit c.args.id c.place_of-place.result c.explain.result
+    (written_said i.trail.vars (g.P.Propagator.late (g.P.Propagator.told i.propagator).program (g.P.Propagator.bound i.propagator)) i.store.slots
+    i.trail.entries c.args.lit c.args.id c.place_of-place.result c.explain.result
     c.len-len.ensures.ordered c.if-id-lt-LATE.false c.place_of-place.ensures.within (λ d. c.place_of-place.ensures.var d ∙ c.var.ensures) c.explain.ensures.late c.explain.ensures.reason)
 
 pub explain-requires-clause-told : goal.explain-requires-clause-told
@@ -47,4 +48,5 @@ explain-requires-clause-told g c =
     let why = g.P.Propagator.explains (g.P.Propagator.told i.propagator).program (g.P.Propagator.bound i.propagator) in
     let asks = subst (λ (x : Propagating). CanAsk (g.P.Propagator.explains x.program x.bound) x.slots x.entries c.args.lit c.args.id) (sym c.self.view_is) c.requires in
     let x = late_of why i.store.slots i.trail.entries c.args.lit c.args.id asks c.if-id-lt-LATE.false in
-    late_told_at (g.P.Propagator.told i.propagator) i.trail i.told why c.args.lit c.args.id c.place_of-place.result c.len-len.ensures.ordered c.self.invariant.told c.self.invariant.late_told x c.place_of-place.ensures.within (λ d. c.place_of-place.ensures.var d ∙ c.var.ensures)
+    late_told_at (g.P.Propagator.told i.propagator) i.trail i.told why c.args.lit c.args.id c.place_of-place.result c.len-len.ensures.ordered
+    c.self.invariant.told c.self.invariant.late_told x c.place_of-place.ensures.within (λ d. c.place_of-place.ensures.var d ∙ c.var.ensures)

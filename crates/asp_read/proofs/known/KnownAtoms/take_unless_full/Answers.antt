@@ -7,4 +7,5 @@ returns-then-has-clause-taken c = stays c.self.inside.atoms c.args.self.now c.ar
 
 pub invariant_of-self-2 : goal.invariant_of-self-2
 invariant_of-self-2 c =
-    one_known c.self.inside.atoms c.insert.new.self c.self.inside.recent.items c.self.inside.count c.args.atom c.self.invariant c.in_ok-insert.ensures.inserted (sym c.if-has.ensures) (omega (arith, c.if-self-ge-MOST_ATOMS.false))
+    one_known c.self.inside.atoms c.insert.new.self c.self.inside.recent.items c.self.inside.count c.args.atom c.self.invariant
+    c.in_ok-insert.ensures.inserted (sym c.if-has.ensures) (omega (arith, c.if-self-ge-MOST_ATOMS.false))

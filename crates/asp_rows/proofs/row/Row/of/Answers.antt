@@ -10,7 +10,8 @@ loop-from-preserved c =
     let one = c.word.ensures ∙ ap (λ (S : Atoms). value (map (has S) (take (c.loop-from.from + c.min.result - c.loop-from.from) (drop c.loop-from.from c.args.atoms.now)))) c.as_slice.ensures.value in
     record {
       within = omega (arith, least, c.loop-from.invariant.within);
-      rest = words_more c.args.atoms.now c.args.set.now c.loop-from.from c.min.result c.word.result c.loop-from.words.items _ c.loop-from-test.true c.min.ensures one c.in_ok-push.ensures.ok c.loop-from.invariant.rest;
+      rest = words_more c.args.atoms.now c.args.set.now c.loop-from.from c.min.result c.word.result c.loop-from.words.items _ c.loop-from-test.true
+          c.min.ensures one c.in_ok-push.ensures.ok c.loop-from.invariant.rest;
     }
 
 pub word-requires-clause-ascending : goal.word-requires-clause-ascending

@@ -7,7 +7,8 @@ use Rattle.asp_rows.proofs.row.Row.to_set.Goals as goal
 pub from_ascending-requires : goal.from_ascending-requires
 from_ascending-requires c =
     let all = take_all c.loop-place.place c.args.atoms.now (omega (arith, c.loop-place-test.false)) in
-    subst IsAscending (sym (c.loop-place.invariant ∙ ap (filter (has c.args.self.now.set)) all ∙ filter_is c.args.atoms.now c.args.self.now.set c.requires.ascending c.requires.row.among)) c.requires.row.among.rising
+    subst IsAscending (sym (c.loop-place.invariant ∙ ap (filter (has c.args.self.now.set)) all
+    ∙ filter_is c.args.atoms.now c.args.self.now.set c.requires.ascending c.requires.row.among)) c.requires.row.among.rising
 
 pub returns : goal.returns
 returns c =

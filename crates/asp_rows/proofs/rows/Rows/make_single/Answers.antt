@@ -23,7 +23,12 @@ returns-clause-sets c =
     let up : IsAscending c.self.inside.atoms = subst IsAscending c.as_slice-ascending.ensures.value c.as_slice-ascending.ensures.ascending in
     record {
       sorted = map (λ (x : Row). x.set) c.sort_unstable.new.self.items;
-      permutation = subst (λ (t : List Atoms). IsPermutation t (map (λ (x : Row). x.set) c.sort_unstable.new.self.items)) (ap (λ (l : Listed). l.sets) c.self.view_is) (IsPermutation-map (λ (x : Row). x.set) c.self.inside.rows.items c.sort_unstable.new.self.items c.sort_unstable.ensures.permutation);
-      rising = sorted_map (λ (x : Row). x.set) (IsRowOf c.self.inside.atoms) (λ (x y : Row). slice_cmp nat_cmp x.words.items y.words.items) set_cmp c.sort_unstable.new.self.items (row_cmp_is c.self.inside.atoms up) (All-from_recursion (IsRowOf c.self.inside.atoms) c.sort_unstable.new.self.items all) c.sort_unstable.ensures.sorted;
-      once = filtered_map (λ (x : Row). x.set) (IsRowOf c.self.inside.atoms) (λ (x y : Row). pointwise nat_eq x.words.items y.words.items) same_set c.sort_unstable.new.self.items c.dedup.new.self.items (row_eq_is c.self.inside.atoms up) all c.dedup.ensures.filtered;
+      permutation = subst (λ (t : List Atoms). IsPermutation t (map (λ (x : Row). x.set) c.sort_unstable.new.self.items))
+          (ap (λ (l : Listed). l.sets) c.self.view_is)
+          (IsPermutation-map (λ (x : Row). x.set) c.self.inside.rows.items c.sort_unstable.new.self.items c.sort_unstable.ensures.permutation);
+      rising = sorted_map (λ (x : Row). x.set) (IsRowOf c.self.inside.atoms) (λ (x y : Row). slice_cmp nat_cmp x.words.items y.words.items) set_cmp
+          c.sort_unstable.new.self.items (row_cmp_is c.self.inside.atoms up)
+          (All-from_recursion (IsRowOf c.self.inside.atoms) c.sort_unstable.new.self.items all) c.sort_unstable.ensures.sorted;
+      once = filtered_map (λ (x : Row). x.set) (IsRowOf c.self.inside.atoms) (λ (x y : Row). pointwise nat_eq x.words.items y.words.items) same_set
+          c.sort_unstable.new.self.items c.dedup.new.self.items (row_eq_is c.self.inside.atoms up) all c.dedup.ensures.filtered;
     }

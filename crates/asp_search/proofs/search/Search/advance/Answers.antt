@@ -45,7 +45,8 @@ invariant_of-self-in_err-met g c =
     let i = c.self.inside in
     let t = i.state in
     let sound : IsSound t.program = subst IsSound c.self.invariant.0.program c.program-program.ensures.sound in (
-      search_told i.compiled.now i.mode t c.propagate.new.self i.learner i.checker (used_in i.compiled.now i.mode i.known.items i.seen) i.blocking.items i.bound i.last (g.P.Propagator.gives t.program t.bound)
+      search_told i.compiled.now i.mode t c.propagate.new.self i.learner i.checker (used_in i.compiled.now i.mode i.known.items i.seen)
+          i.blocking.items i.bound i.last (g.P.Propagator.gives t.program t.bound)
           (ap (λ (x : SearchView). x.program) c.propagate.ensures.same) (ap (λ (x : SearchView). x.bound) c.propagate.ensures.same)
           (λ n h. g.met.P.Propagator.sound t.program t.bound n (used_in i.compiled.now i.mode i.known.items i.seen) sound h) c.propagate.ensures.adds c.self.invariant.0,
       c.self.invariant.1,
@@ -61,7 +62,8 @@ returns-in_err-met-clause-err g c =
     let p = c.propagate.ensures in
     let new : Searching = view_of i.mode u i.pace (answers_known i.known.items i.seen) None in
     let sound : IsSound t.program = subst IsSound c.self.invariant.0.program c.program-program.ensures.sound in
-    let counts : (n : Nogood) → g.P.Propagator.gives t.program t.bound n → Counts t.bound n.base = λ n h. (g.met.P.Propagator.sound t.program t.bound n (used_in i.compiled.now i.mode i.known.items i.seen) sound h).counts in
+    let counts : (n : Nogood) → g.P.Propagator.gives t.program t.bound n → Counts t.bound n.base =
+    λ n h. (g.met.P.Propagator.sound t.program t.bound n (used_in i.compiled.now i.mode i.known.items i.seen) sound h).counts in
     let fails : IsFailure (g.P.Propagator.gives s.program s.bound) s new f f = λ q e.
     subst (λ (z : Searching). Fails (g.P.Propagator.gives z.program z.bound) z new q f f) c.self.view_is
     (adds_fail (g.P.Propagator.gives t.program t.bound) i.mode t u i.pace (answers_known i.known.items i.seen) i.last q f counts p.adds p.implies p.same) in
@@ -72,7 +74,8 @@ invariant_of-self-in-Some g c =
     let i = c.self.inside in
     let t = i.state in
     let sound : IsSound t.program = subst IsSound c.self.invariant.0.program c.program-program.ensures.sound in (
-      search_told i.compiled.now i.mode t c.propagate.new.self i.learner i.checker (used_in i.compiled.now i.mode i.known.items i.seen) i.blocking.items i.bound i.last (g.P.Propagator.gives t.program t.bound)
+      search_told i.compiled.now i.mode t c.propagate.new.self i.learner i.checker (used_in i.compiled.now i.mode i.known.items i.seen)
+          i.blocking.items i.bound i.last (g.P.Propagator.gives t.program t.bound)
           (ap (λ (x : SearchView). x.program) c.propagate.ensures.same) (ap (λ (x : SearchView). x.bound) c.propagate.ensures.same)
           (λ n h. g.met.P.Propagator.sound t.program t.bound n (used_in i.compiled.now i.mode i.known.items i.seen) sound h) c.propagate.ensures.adds c.self.invariant.0,
       c.self.invariant.1,
@@ -95,7 +98,8 @@ invariant_of-self-in-None g c =
     let i = c.self.inside in
     let t = i.state in
     let sound : IsSound t.program = subst IsSound c.self.invariant.0.program c.program-program.ensures.sound in (
-      search_told i.compiled.now i.mode t c.propagate.new.self i.learner i.checker (used_in i.compiled.now i.mode i.known.items i.seen) i.blocking.items i.bound i.last (g.P.Propagator.gives t.program t.bound)
+      search_told i.compiled.now i.mode t c.propagate.new.self i.learner i.checker (used_in i.compiled.now i.mode i.known.items i.seen)
+          i.blocking.items i.bound i.last (g.P.Propagator.gives t.program t.bound)
           (ap (λ (x : SearchView). x.program) c.propagate.ensures.same) (ap (λ (x : SearchView). x.bound) c.propagate.ensures.same)
           (λ n h. g.met.P.Propagator.sound t.program t.bound n (used_in i.compiled.now i.mode i.known.items i.seen) sound h) c.propagate.ensures.adds c.self.invariant.0,
       c.self.invariant.1,
@@ -123,7 +127,8 @@ returns-in-Some-clause-ok g c =
     let p = c.propagate.ensures in
     let new : Searching = view_of i.mode u i.pace (answers_known i.known.items i.seen) None in
     let sound : IsSound t.program = subst IsSound c.self.invariant.0.program c.program-program.ensures.sound in
-    let counts : (n : Nogood) → g.P.Propagator.gives t.program t.bound n → Counts t.bound n.base = λ n h. (g.met.P.Propagator.sound t.program t.bound n (used_in i.compiled.now i.mode i.known.items i.seen) sound h).counts in
+    let counts : (n : Nogood) → g.P.Propagator.gives t.program t.bound n → Counts t.bound n.base =
+    λ n h. (g.met.P.Propagator.sound t.program t.bound n (used_in i.compiled.now i.mode i.known.items i.seen) sound h).counts in
     let on : Continues (g.P.Propagator.gives s.program s.bound) s new =
     subst (λ (z : Searching). Continues (g.P.Propagator.gives z.program z.bound) z new) c.self.view_is
     (adds_continue (g.P.Propagator.gives t.program t.bound) i.mode t u i.pace (answers_known i.known.items i.seen) i.last counts p.adds p.implies p.same) in
@@ -142,7 +147,8 @@ returns-in-Some-clause-err g c =
     let p = c.propagate.ensures in
     let new : Searching = view_of i.mode u i.pace (answers_known i.known.items i.seen) None in
     let sound : IsSound t.program = subst IsSound c.self.invariant.0.program c.program-program.ensures.sound in
-    let counts : (n : Nogood) → g.P.Propagator.gives t.program t.bound n → Counts t.bound n.base = λ n h. (g.met.P.Propagator.sound t.program t.bound n (used_in i.compiled.now i.mode i.known.items i.seen) sound h).counts in
+    let counts : (n : Nogood) → g.P.Propagator.gives t.program t.bound n → Counts t.bound n.base =
+    λ n h. (g.met.P.Propagator.sound t.program t.bound n (used_in i.compiled.now i.mode i.known.items i.seen) sound h).counts in
     let on : Continues (g.P.Propagator.gives s.program s.bound) s new =
     subst (λ (z : Searching). Continues (g.P.Propagator.gives z.program z.bound) z new) c.self.view_is
     (adds_continue (g.P.Propagator.gives t.program t.bound) i.mode t u i.pace (answers_known i.known.items i.seen) i.last counts p.adds p.implies p.same) in
@@ -158,7 +164,8 @@ returns-in-None-clause-ok g c =
     let p = c.propagate.ensures in
     let new : Searching = view_of i.mode u i.pace (answers_known i.known.items i.seen) None in
     let sound : IsSound t.program = subst IsSound c.self.invariant.0.program c.program-program.ensures.sound in
-    let counts : (n : Nogood) → g.P.Propagator.gives t.program t.bound n → Counts t.bound n.base = λ n h. (g.met.P.Propagator.sound t.program t.bound n (used_in i.compiled.now i.mode i.known.items i.seen) sound h).counts in
+    let counts : (n : Nogood) → g.P.Propagator.gives t.program t.bound n → Counts t.bound n.base =
+    λ n h. (g.met.P.Propagator.sound t.program t.bound n (used_in i.compiled.now i.mode i.known.items i.seen) sound h).counts in
     let on : Continues (g.P.Propagator.gives s.program s.bound) s new =
     subst (λ (z : Searching). Continues (g.P.Propagator.gives z.program z.bound) z new) c.self.view_is
     (adds_continue (g.P.Propagator.gives t.program t.bound) i.mode t u i.pace (answers_known i.known.items i.seen) i.last counts p.adds p.implies p.same) in
@@ -177,7 +184,8 @@ returns-in-None-clause-err g c =
     let p = c.propagate.ensures in
     let new : Searching = view_of i.mode u i.pace (answers_known i.known.items i.seen) None in
     let sound : IsSound t.program = subst IsSound c.self.invariant.0.program c.program-program.ensures.sound in
-    let counts : (n : Nogood) → g.P.Propagator.gives t.program t.bound n → Counts t.bound n.base = λ n h. (g.met.P.Propagator.sound t.program t.bound n (used_in i.compiled.now i.mode i.known.items i.seen) sound h).counts in
+    let counts : (n : Nogood) → g.P.Propagator.gives t.program t.bound n → Counts t.bound n.base =
+    λ n h. (g.met.P.Propagator.sound t.program t.bound n (used_in i.compiled.now i.mode i.known.items i.seen) sound h).counts in
     let on : Continues (g.P.Propagator.gives s.program s.bound) s new =
     subst (λ (z : Searching). Continues (g.P.Propagator.gives z.program z.bound) z new) c.self.view_is
     (adds_continue (g.P.Propagator.gives t.program t.bound) i.mode t u i.pace (answers_known i.known.items i.seen) i.last counts p.adds p.implies p.same) in

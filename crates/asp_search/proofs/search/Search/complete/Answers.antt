@@ -64,7 +64,8 @@ fault-requires-clause-whole g c =
 pub fault-requires-clause-atoms : goal.fault-requires-clause-atoms
 fault-requires-clause-atoms g c =
     let i = c.self.inside in
-    atoms_for i.compiled.now c.trail.result.now.vars i.state c.trail.result.now.entries c.in_ok-interp.interp c.self.invariant.0.program c.trail.ensures.vars c.trail.ensures.entries c.in_ok-interp.ensures
+    atoms_for i.compiled.now c.trail.result.now.vars i.state c.trail.result.now.entries c.in_ok-interp.interp c.self.invariant.0.program
+    c.trail.ensures.vars c.trail.ensures.entries c.in_ok-interp.ensures
 
 pub returns-in_err-fault-clause-err : goal.returns-in_err-fault-clause-err
 returns-in_err-fault-clause-err g c =
@@ -140,10 +141,12 @@ invariant_of-self-in-Some g c =
     let fault : IsFault t.program (g.P.Propagator.gives t.program t.bound) (var_count t.program) t.entries n =
     subst (λ (x : Program). IsFault x (g.P.Propagator.gives x t.bound) (var_count x) t.entries n) c.self.invariant.0.program verdict in
     let a = c.in_ok-id-in-Some.ensures.ok in (
-      search_added p i.mode t u i.learner c.fault.new.checker (used_in i.compiled.now i.mode i.known.items i.seen) i.blocking.items i.bound i.last i.last _ n kind.Given (ap (λ (x : SearchView). x.program) e) (ap (λ (x : SearchView). x.bound) e) a
+      search_added p i.mode t u i.learner c.fault.new.checker (used_in i.compiled.now i.mode i.known.items i.seen) i.blocking.items i.bound i.last
+          i.last _ n kind.Given (ap (λ (x : SearchView). x.program) e) (ap (λ (x : SearchView). x.bound) e) a
           (fault_useful t.program (used_in i.compiled.now i.mode i.known.items i.seen) t.bound (g.P.Propagator.gives t.program t.bound) (var_count t.program) t.entries n fault)
           (added_last t.slots u.slots _ n kind.Given i.last a c.self.invariant.0.last_stands)
-          (search_checked p i.mode t i.learner i.checker c.fault.new.checker (used_in i.compiled.now i.mode i.known.items i.seen) i.blocking.items i.bound i.last c.fault.ensures.same c.self.invariant.0),
+          (search_checked p i.mode t i.learner i.checker c.fault.new.checker (used_in i.compiled.now i.mode i.known.items i.seen) i.blocking.items
+          i.bound i.last c.fault.ensures.same c.self.invariant.0),
       c.self.invariant.1,
     )
 
@@ -169,7 +172,8 @@ returns-in_ok-id-in-Some-clause-ok g c =
     subst (λ (x : Program). IsFault x (g.P.Propagator.gives x t.bound) (var_count x) t.entries n) c.self.invariant.0.program verdict in
     let on : Continues (g.P.Propagator.gives s.program s.bound) s m =
     subst (λ (z : Searching). Continues (g.P.Propagator.gives z.program z.bound) z m) c.self.view_is
-    (fault_continues (g.P.Propagator.gives t.program t.bound) i.mode t u i.pace (answers_known i.known.items i.seen) i.last _ n kind.Given fault c.in_ok-id-in-Some.ensures.same c.in_ok-id-in-Some.ensures.ok) in
+    (fault_continues (g.P.Propagator.gives t.program t.bound) i.mode t u i.pace (answers_known i.known.items i.seen) i.last _ n kind.Given fault
+    c.in_ok-id-in-Some.ensures.same c.in_ok-id-in-Some.ensures.ok) in
     IfOk-weaker c.meet.result
     (IsStep (g.P.Propagator.gives m.program m.bound) (g.P.Propagator.silent m.program m.bound) m c.meet.new.self f c.meet.new.fuel)
     (IsStep (g.P.Propagator.gives s.program s.bound) (g.P.Propagator.silent s.program s.bound) s c.meet.new.self f c.meet.new.fuel)
@@ -191,5 +195,6 @@ returns-in_ok-id-in-Some-clause-err g c =
     subst (λ (x : Program). IsFault x (g.P.Propagator.gives x t.bound) (var_count x) t.entries n) c.self.invariant.0.program verdict in
     let on : Continues (g.P.Propagator.gives s.program s.bound) s m =
     subst (λ (z : Searching). Continues (g.P.Propagator.gives z.program z.bound) z m) c.self.view_is
-    (fault_continues (g.P.Propagator.gives t.program t.bound) i.mode t u i.pace (answers_known i.known.items i.seen) i.last _ n kind.Given fault c.in_ok-id-in-Some.ensures.same c.in_ok-id-in-Some.ensures.ok) in
+    (fault_continues (g.P.Propagator.gives t.program t.bound) i.mode t u i.pace (answers_known i.known.items i.seen) i.last _ n kind.Given fault
+    c.in_ok-id-in-Some.ensures.same c.in_ok-id-in-Some.ensures.ok) in
     on_err_weaker c.meet.result (fails_on g.P.Propagator.gives g.P.Propagator.silent s m c.meet.new.self f c.meet.new.fuel on) c.meet.ensures.err

@@ -25,7 +25,8 @@ unreachable-requires g c =
 pub cover-requires-clause-program : goal.cover-requires-clause-program
 cover-requires-clause-program g c =
     let i = c.self.inside in
-    (seen_with i.mode i.compiled.now c.in-Some.seen c.in_ok-known-in-Some.known c.args.interp.now (seen_by i.mode i.compiled.now i.seen c.in-Some.seen c.self.invariant.1 c.in-Some.is) c.in_ok-known-in-Some.ensures).0.program
+    (seen_with i.mode i.compiled.now c.in-Some.seen c.in_ok-known-in-Some.known c.args.interp.now
+    (seen_by i.mode i.compiled.now i.seen c.in-Some.seen c.self.invariant.1 c.in-Some.is) c.in_ok-known-in-Some.ensures).0.program
 
 pub cover-requires-clause-counted : goal.cover-requires-clause-counted
 cover-requires-clause-counted g c = c.self.invariant.0.program
@@ -37,7 +38,8 @@ pub invariant_of-self : goal.invariant_of-self
 invariant_of-self g c =
     let i = c.self.inside in
     let e = c.in_err-cover.ensures.err.0 in (
-      subst (λ (ids : List ℕ). IsSearch i.compiled.now i.mode c.cover.new.state i.learner i.checker (used_in i.compiled.now i.mode i.known.items i.seen) ids i.bound i.last) (sym c.in_err-cover.ensures.err.1)
+      subst (λ (ids : List ℕ). IsSearch i.compiled.now i.mode c.cover.new.state i.learner i.checker
+          (used_in i.compiled.now i.mode i.known.items i.seen) ids i.bound i.last) (sym c.in_err-cover.ensures.err.1)
           (search_stays i.compiled.now i.mode i.state c.cover.new.state i.learner i.checker (used_in i.compiled.now i.mode i.known.items i.seen) i.blocking.items i.bound i.last
           (ap (λ (y : SearchView). y.program) e) (ap (λ (y : SearchView). y.bound) e) (ap (λ (y : SearchView). y.slots) e) c.self.invariant.0),
       c.self.invariant.1,
@@ -47,7 +49,8 @@ pub returns-in_err-cover-clause-err : goal.returns-in_err-cover-clause-err
 returns-in_err-cover-clause-err g c =
     let i = c.self.inside in
     let new : Searching = view_of i.mode c.cover.new.state i.pace (answers_known i.known.items i.seen) i.last in
-    always_err c.from_residual-in_err-cover.result (new ≡ c.args.self.now) (ap (λ (x : SearchView). view_of i.mode x i.pace (answers_known i.known.items i.seen) i.last) c.in_err-cover.ensures.err.0 ∙ c.self.view_is)
+    always_err c.from_residual-in_err-cover.result (new ≡ c.args.self.now)
+    (ap (λ (x : SearchView). view_of i.mode x i.pace (answers_known i.known.items i.seen) i.last) c.in_err-cover.ensures.err.0 ∙ c.self.view_is)
 
 pub invariant_of-self-2 : goal.invariant_of-self-2
 invariant_of-self-2 g c =
@@ -61,8 +64,11 @@ invariant_of-self-2 g c =
     let more = seen_with i.mode p x y S sx c.in_ok-known-in-Some.ensures in
     let K : List Atoms = answers_known i.known.items i.seen in
     let known : K ≡ x.sets = ap (answers_known i.known.items) c.in-Some.is in
-    let sets : y.sets ≡ common_sets y.reasoning p (K ++ S ∷ []) = more.2 ∙ ap (λ (r : Reasoning). common_sets r p (x.sets ++ S ∷ [])) (sym more.1) ∙ ap (λ (L : List Atoms). common_sets y.reasoning p (L ++ S ∷ [])) (sym known) in (
-      search_covers p i.mode y.reasoning i.state c.cover.new.state i.learner i.checker K y.sets i.blocking.items c.cover.new.blocking.items i.bound i.last i.last more.0.reasoning c.in_ok-cover.ensures.ok
+    let sets : y.sets ≡ common_sets y.reasoning p (K ++ S ∷ []) =
+    more.2 ∙ ap (λ (r : Reasoning). common_sets r p (x.sets ++ S ∷ [])) (sym more.1)
+    ∙ ap (λ (L : List Atoms). common_sets y.reasoning p (L ++ S ∷ [])) (sym known) in (
+      search_covers p i.mode y.reasoning i.state c.cover.new.state i.learner i.checker K y.sets i.blocking.items c.cover.new.blocking.items i.bound
+          i.last i.last more.0.reasoning c.in_ok-cover.ensures.ok
           (used_with y.reasoning p K y.sets S sets) (some_with y.reasoning p K y.sets S sets) (subst (λ (o : Option ℕ). IsLast c.cover.new.state.slots o) (sym entered.last) tt) c.self.invariant.0,
       still_seen i.mode p y more.0,
     )
@@ -81,10 +87,14 @@ returns-clause-ok g c = λ r f e.
     let K : List Atoms = answers_known i.known.items i.seen in
     let known : K ≡ x.sets = ap (answers_known i.known.items) c.in-Some.is in
     let sets : y.sets ≡ common_sets y.reasoning i.state.program (K ++ S ∷ []) =
-    more.2 ∙ ap (λ (w : Reasoning). common_sets w p (x.sets ++ S ∷ [])) (sym more.1) ∙ ap (λ (L : List Atoms). common_sets y.reasoning p (L ++ S ∷ [])) (sym known) ∙ ap (λ (z : Program). common_sets y.reasoning z (K ++ S ∷ [])) c.self.invariant.0.program in
+    more.2 ∙ ap (λ (w : Reasoning). common_sets w p (x.sets ++ S ∷ [])) (sym more.1)
+    ∙ ap (λ (L : List Atoms). common_sets y.reasoning p (L ++ S ∷ [])) (sym known)
+    ∙ ap (λ (z : Program). common_sets y.reasoning z (K ++ S ∷ [])) c.self.invariant.0.program in
     let covers : Covers (covering_nogood y.reasoning i.state.program y.sets) i.state c.cover.new.state c.cover.new.blocking.items =
     subst (λ (z : Program). Covers (covering_nogood y.reasoning z y.sets) i.state c.cover.new.state c.cover.new.blocking.items) c.self.invariant.0.program c.in_ok-cover.ensures.ok in
     let new : Searching = view_of i.mode c.cover.new.state i.pace y.sets i.last in
-    let first = covered_answer (g.P.Propagator.gives i.state.program i.state.bound) i.mode y.reasoning i.state c.cover.new.state i.pace K y.sets i.last q S f c.cover.new.blocking.items more.0.reasoning entered.last found sets covers in
-    subst (λ (z : List Literal). Answers (g.P.Propagator.gives c.args.self.now.program c.args.self.now.bound) c.args.self.now new z f f S) (same_cube c.args.self.now.cube q r c.requires.found.1.cube e)
+    let first = covered_answer (g.P.Propagator.gives i.state.program i.state.bound) i.mode y.reasoning i.state c.cover.new.state i.pace K y.sets
+    i.last q S f c.cover.new.blocking.items more.0.reasoning entered.last found sets covers in
+    subst (λ (z : List Literal). Answers (g.P.Propagator.gives c.args.self.now.program c.args.self.now.bound) c.args.self.now new z f f S)
+    (same_cube c.args.self.now.cube q r c.requires.found.1.cube e)
     (subst (λ (s : Searching). Answers (g.P.Propagator.gives s.program s.bound) s new q f f S) c.self.view_is first)

@@ -34,7 +34,8 @@ pub invariant_of-self-in-Some : goal.invariant_of-self-in-Some
 invariant_of-self-in-Some g c =
     let i = c.self.inside in
     let e = c.in_ok-decide.ensures.same in (
-      search_stays i.compiled.now i.mode i.state c.decide.new.self i.learner i.checker (used_in i.compiled.now i.mode i.known.items i.seen) i.blocking.items i.bound i.last (ap (λ (x : SearchView). x.program) e)
+      search_stays i.compiled.now i.mode i.state c.decide.new.self i.learner i.checker (used_in i.compiled.now i.mode i.known.items i.seen)
+          i.blocking.items i.bound i.last (ap (λ (x : SearchView). x.program) e)
           (ap (λ (x : SearchView). x.bound) e) (ap (λ (x : SearchView). x.slots) e) c.self.invariant.0,
       c.self.invariant.1,
     )
@@ -43,7 +44,8 @@ pub invariant_of-self-in-None : goal.invariant_of-self-in-None
 invariant_of-self-in-None g c =
     let i = c.self.inside in
     let e = c.in_ok-decide.ensures.same in (
-      search_stays i.compiled.now i.mode i.state c.decide.new.self i.learner i.checker (used_in i.compiled.now i.mode i.known.items i.seen) i.blocking.items i.bound i.last (ap (λ (x : SearchView). x.program) e)
+      search_stays i.compiled.now i.mode i.state c.decide.new.self i.learner i.checker (used_in i.compiled.now i.mode i.known.items i.seen)
+          i.blocking.items i.bound i.last (ap (λ (x : SearchView). x.program) e)
           (ap (λ (x : SearchView). x.bound) e) (ap (λ (x : SearchView). x.slots) e) c.self.invariant.0,
       c.self.invariant.1,
     )
@@ -59,7 +61,9 @@ returns-in-Some-clause-ok g c = λ q e.
     let last : i.last ≡ None = ap (λ (x : Searching). x.last) c.self.view_is ∙ c.requires.entered.1.last in
     let fixpoint : IsFixpoint (g.P.Propagator.silent i.state.program i.state.bound) i.state.slots (values_of i.state) =
     subst (λ (x : Searching). IsFixpoint (g.P.Propagator.silent x.program x.bound) x.slots (values_now x)) (sym c.self.view_is) c.requires.fixpoint in
-    let decides = decides_now (g.P.Propagator.gives i.state.program i.state.bound) (g.P.Propagator.silent i.state.program i.state.bound) i.mode i.state u i.pace (answers_known i.known.items i.seen) i.last f
+    let decides =
+    decides_now (g.P.Propagator.gives i.state.program i.state.bound) (g.P.Propagator.silent i.state.program i.state.bound) i.mode i.state u i.pace
+    (answers_known i.known.items i.seen) i.last f
     c.in_ok-decide.field-0 c.in-Some.field-0 c.in-Some.is last fixpoint d.same d.next d.entries d.decisions in
     subst (λ (z : Searching). Decides (g.P.Propagator.gives z.program z.bound) (g.P.Propagator.silent z.program z.bound) z new f f) c.self.view_is decides
 

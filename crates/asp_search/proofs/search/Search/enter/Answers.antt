@@ -8,7 +8,8 @@ pub invariant_of-self : goal.invariant_of-self
 invariant_of-self g c =
     let i = c.self.inside in
     let e = c.enter.ensures.same in (
-      search_same i.compiled.now i.mode i.state c.enter.new.self i.learner i.checker (used_in i.compiled.now i.mode i.known.items i.seen) i.blocking.items i.bound i.last None (ap (λ (x : SearchView). x.program) e)
+      search_same i.compiled.now i.mode i.state c.enter.new.self i.learner i.checker (used_in i.compiled.now i.mode i.known.items i.seen)
+          i.blocking.items i.bound i.last None (ap (λ (x : SearchView). x.program) e)
           (ap (λ (x : SearchView). x.bound) e) (ap (λ (x : SearchView). x.slots) e) tt c.self.invariant.0,
       c.self.invariant.1,
     )
@@ -17,7 +18,8 @@ pub invariant_of-self-2 : goal.invariant_of-self-2
 invariant_of-self-2 g c =
     let i = c.self.inside in
     let e = c.enter.ensures.same in (
-      search_same i.compiled.now i.mode i.state c.enter.new.self i.learner i.checker (used_in i.compiled.now i.mode i.known.items i.seen) i.blocking.items i.bound i.last None (ap (λ (x : SearchView). x.program) e)
+      search_same i.compiled.now i.mode i.state c.enter.new.self i.learner i.checker (used_in i.compiled.now i.mode i.known.items i.seen)
+          i.blocking.items i.bound i.last None (ap (λ (x : SearchView). x.program) e)
           (ap (λ (x : SearchView). x.bound) e) (ap (λ (x : SearchView). x.slots) e) tt c.self.invariant.0,
       c.self.invariant.1,
     )

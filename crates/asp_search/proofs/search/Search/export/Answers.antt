@@ -17,7 +17,9 @@ returns-in-Some-clause-shared g c =
     let most = c.longest.result in
     let kept : Option Nogood = nogood_at c.store-store.result.now.slots id in
     let shares : IfSome (only_shared most kept) (IsShared t.program) =
-    only_is most t.program kept (λ n e shared. kept_shared most t.program (used_in c.self.inside.compiled.now c.self.inside.mode c.self.inside.known.items c.self.inside.seen) t.bound t.slots id n c.self.invariant.0.useful c.store-store.ensures.small
+    only_is most t.program kept
+    (λ n e shared. kept_shared most t.program (used_in c.self.inside.compiled.now c.self.inside.mode c.self.inside.known.items c.self.inside.seen)
+    t.bound t.slots id n c.self.invariant.0.useful c.store-store.ensures.small
     (sym (ap (λ (xs : List (Option StoredNogood)). nogood_at xs id) c.store-store.ensures.slots) ∙ e) shared) in
     IfOk-weaker c.copy_shared.result (λ (copy : Option Nogood). copy ≡ only_shared most kept) (λ (copy : Option Nogood). IfSome copy (IsShared s.program))
     (λ copy e. subst (λ (x : Searching). IfSome copy (IsShared x.program)) c.self.view_is (subst (λ (o : Option Nogood). IfSome o (IsShared t.program)) (sym e) shares))

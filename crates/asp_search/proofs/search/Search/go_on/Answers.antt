@@ -35,7 +35,8 @@ returns-clause-ok g c =
     IfOk-weaker c.decide.result
     (IsStep (g.P.Propagator.gives m.program m.bound) (g.P.Propagator.silent m.program m.bound) m c.decide.new.self f c.decide.new.fuel)
     (IsStep (g.P.Propagator.gives s.program s.bound) (g.P.Propagator.silent s.program s.bound) s c.decide.new.self f c.decide.new.fuel)
-    (steps_on g.P.Propagator.gives g.P.Propagator.silent s m c.decide.new.self f c.decide.new.fuel (continues_raised (g.P.Propagator.gives s.program s.bound) s m m.ranking c.follow.ensures)) c.decide.ensures.ok
+    (steps_on g.P.Propagator.gives g.P.Propagator.silent s m c.decide.new.self f c.decide.new.fuel
+    (continues_raised (g.P.Propagator.gives s.program s.bound) s m m.ranking c.follow.ensures)) c.decide.ensures.ok
 
 pub returns-clause-err : goal.returns-clause-err
 returns-clause-err g c =
@@ -43,4 +44,5 @@ returns-clause-err g c =
     let m = c.follow.new.self in
     let f = c.args.fuel.now in
     on_err_weaker c.decide.result
-    (fails_on g.P.Propagator.gives g.P.Propagator.silent s m c.decide.new.self f c.decide.new.fuel (continues_raised (g.P.Propagator.gives s.program s.bound) s m m.ranking c.follow.ensures)) c.decide.ensures.err
+    (fails_on g.P.Propagator.gives g.P.Propagator.silent s m c.decide.new.self f c.decide.new.fuel
+    (continues_raised (g.P.Propagator.gives s.program s.bound) s m m.ranking c.follow.ensures)) c.decide.ensures.err

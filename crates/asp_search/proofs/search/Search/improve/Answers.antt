@@ -43,5 +43,6 @@ returns-clause-ok g c = λ r f e.
     (c.in_ok-copy.ensures ∙ c.in_ok-cost.ensures) c.set_bound.ensures c.undo_to.ensures.same in
     let new : Searching = view_of i.mode c.undo_to.new.self i.pace (answers_known i.known.items i.seen) i.last in
     let first = improved (g.P.Propagator.gives i.state.program i.state.bound) i.mode i.state c.undo_to.new.self i.pace (answers_known i.known.items i.seen) i.last q S f opt entered.last found state in
-    subst (λ (x : List Literal). Answers (g.P.Propagator.gives c.args.self.now.program c.args.self.now.bound) c.args.self.now new x f f S) (same_cube c.args.self.now.cube q r c.requires.found.1.cube e)
+    subst (λ (x : List Literal). Answers (g.P.Propagator.gives c.args.self.now.program c.args.self.now.bound) c.args.self.now new x f f S)
+    (same_cube c.args.self.now.cube q r c.requires.found.1.cube e)
     (subst (λ (s : Searching). Answers (g.P.Propagator.gives s.program s.bound) s new q f f S) c.self.view_is first)

@@ -23,7 +23,8 @@ invariant_of-self-2 g c =
     let useful : IsUseful i.state.program (used_in i.compiled.now i.mode i.known.items i.seen) i.state.bound n =
     useful_for i.compiled.now i.state i.mode (answers_known i.known.items i.seen) n c.self.invariant.0.program
     (subst (λ (x : Searching). IsUseful x.program (used x) x.bound n) (sym c.self.view_is) (of_use s.program (used s) s.mode s.bound n c.requires.useful c.requires.good)) in (
-      search_added i.compiled.now i.mode i.state c.keep.new.self i.learner i.checker (used_in i.compiled.now i.mode i.known.items i.seen) i.blocking.items i.bound i.last i.last c.in_ok-keep.field-0 m kind.Learnt (ap (λ (x : SearchView). x.program) e)
+      search_added i.compiled.now i.mode i.state c.keep.new.self i.learner i.checker (used_in i.compiled.now i.mode i.known.items i.seen)
+          i.blocking.items i.bound i.last i.last c.in_ok-keep.field-0 m kind.Learnt (ap (λ (x : SearchView). x.program) e)
           (ap (λ (x : SearchView). x.bound) e) a (subst (IsUseful i.state.program (used_in i.compiled.now i.mode i.known.items i.seen) i.state.bound) (sym c.in_ok-copy.ensures) useful)
           (added_last i.state.slots c.keep.new.self.slots c.in_ok-keep.field-0 m kind.Learnt i.last a c.self.invariant.0.last_stands) c.self.invariant.0,
       c.self.invariant.1,

@@ -9,7 +9,8 @@ pub invariant_of-self : goal.invariant_of-self
 invariant_of-self g c =
     let i = c.self.inside in
     let u : SearchView = c.leave.new.self in (
-      search_same i.compiled.now i.mode i.state u i.learner i.checker (used_in i.compiled.now i.mode i.known.items i.seen) i.blocking.items i.bound i.last None (ap (λ (x : SearchView). x.program) c.leave.ensures.same)
+      search_same i.compiled.now i.mode i.state u i.learner i.checker (used_in i.compiled.now i.mode i.known.items i.seen) i.blocking.items i.bound
+          i.last None (ap (λ (x : SearchView). x.program) c.leave.ensures.same)
           (ap (λ (x : SearchView). x.bound) c.leave.ensures.same) (ap (λ (x : SearchView). x.slots) c.leave.ensures.same) tt c.self.invariant.0,
       c.self.invariant.1,
     )

@@ -29,13 +29,20 @@ pay-requires-clause-met g c =
     let q = c.requires.entered.0 in
     let e = subst (λ (s : Searching). IsEntered s q) (sym c.self.view_is) c.requires.entered.1 in
     let l : Learned = learned.Jump c.in-Jump.nogood c.in-Jump.level c.in-Jump.lit in
-    let x = subst (λ (y : Learned). Explains (g.P.Propagator.gives i.state.program i.state.bound) (var_count i.state.program) i.state.slots i.state.entries c.args.id y) c.in-Jump.is c.in_ok-nogood.ensures.explains in
+    let x = subst (λ (y : Learned). Explains (g.P.Propagator.gives i.state.program i.state.bound) (var_count i.state.program) i.state.slots
+    i.state.entries c.args.id y) c.in-Jump.is c.in_ok-nogood.ensures.explains in
     let U = used_up (reasoning_of i.mode) i.state.program (answers_known i.known.items i.seen) in
     let sound : IsSound i.state.program = subst IsSound c.self.invariant.0.program c.program-program.ensures.sound in
     let useful = all_useful_for i.compiled.now i.state i.mode (answers_known i.known.items i.seen) c.self.invariant.0.program c.self.invariant.0.useful in
-    let settled = settled_reasons i.compiled.now i.state i.mode (answers_known i.known.items i.seen) (g.P.Propagator.gives i.state.program i.state.bound) (g.P.Propagator.late i.state.program i.state.bound) c.self.invariant.0.program
-    c.program-program.ensures.sound (g.met.P.Propagator.sound i.state.program i.state.bound) (g.met.P.Propagator.given i.state.program i.state.bound) c.self.invariant.0.useful c.store-store.ensures.implied in
-    (q, met_of (g.P.Propagator.gives i.state.program i.state.bound) i.mode i.state i.pace (answers_known i.known.items i.seen) i.last q c.args.id l e c.trail-trail.ensures.ordered c.trail-trail.ensures.begun settled useful (λ n h. g.met.P.Propagator.sound i.state.program i.state.bound n U sound h) x)
+    let settled = settled_reasons i.compiled.now i.state i.mode (answers_known i.known.items i.seen)
+    (g.P.Propagator.gives i.state.program i.state.bound) (g.P.Propagator.late i.state.program i.state.bound) c.self.invariant.0.program
+    c.program-program.ensures.sound (g.met.P.Propagator.sound i.state.program i.state.bound) (g.met.P.Propagator.given i.state.program i.state.bound)
+    c.self.invariant.0.useful c.store-store.ensures.implied in (
+      q,
+      met_of (g.P.Propagator.gives i.state.program i.state.bound) i.mode i.state i.pace (answers_known i.known.items i.seen) i.last q c.args.id l e
+          c.trail-trail.ensures.ordered c.trail-trail.ensures.begun settled useful
+          (λ n h. g.met.P.Propagator.sound i.state.program i.state.bound n U sound h) x,
+    )
 
 pub note_conflict-requires : goal.note_conflict-requires
 note_conflict-requires g c = omega (arith, c.self.invariant.0.counted, c.trail.ensures.vars)
@@ -59,13 +66,18 @@ returns-in-InCube-clause-ok g c = λ r h.
     let f = c.args.fuel.now in
     let e = subst (λ (s : Searching). IsEntered s q) (sym c.self.view_is) c.requires.entered.1 in
     let n = c.in-InCube.nogood in
-    let x = subst (λ (y : Learned). Explains (g.P.Propagator.gives i.state.program i.state.bound) (var_count i.state.program) i.state.slots i.state.entries c.args.id y) c.in-InCube.is c.in_ok-nogood.ensures.explains in
+    let x = subst (λ (y : Learned). Explains (g.P.Propagator.gives i.state.program i.state.bound) (var_count i.state.program) i.state.slots
+    i.state.entries c.args.id y) c.in-InCube.is c.in_ok-nogood.ensures.explains in
     let U = used_up (reasoning_of i.mode) i.state.program (answers_known i.known.items i.seen) in
     let sound : IsSound i.state.program = subst IsSound c.self.invariant.0.program c.program-program.ensures.sound in
     let useful = all_useful_for i.compiled.now i.state i.mode (answers_known i.known.items i.seen) c.self.invariant.0.program c.self.invariant.0.useful in
-    let settled = settled_reasons i.compiled.now i.state i.mode (answers_known i.known.items i.seen) (g.P.Propagator.gives i.state.program i.state.bound) (g.P.Propagator.late i.state.program i.state.bound) c.self.invariant.0.program
-    c.program-program.ensures.sound (g.met.P.Propagator.sound i.state.program i.state.bound) (g.met.P.Propagator.given i.state.program i.state.bound) c.self.invariant.0.useful c.store-store.ensures.implied in
-    let m = met_of (g.P.Propagator.gives i.state.program i.state.bound) i.mode i.state i.pace (answers_known i.known.items i.seen) i.last q c.args.id (learned.InCube n) e c.trail-trail.ensures.ordered c.trail-trail.ensures.begun settled useful (λ n h. g.met.P.Propagator.sound i.state.program i.state.bound n U sound h) x in
+    let settled = settled_reasons i.compiled.now i.state i.mode (answers_known i.known.items i.seen)
+    (g.P.Propagator.gives i.state.program i.state.bound) (g.P.Propagator.late i.state.program i.state.bound) c.self.invariant.0.program
+    c.program-program.ensures.sound (g.met.P.Propagator.sound i.state.program i.state.bound) (g.met.P.Propagator.given i.state.program i.state.bound)
+    c.self.invariant.0.useful c.store-store.ensures.implied in
+    let m = met_of (g.P.Propagator.gives i.state.program i.state.bound) i.mode i.state i.pace (answers_known i.known.items i.seen) i.last q c.args.id
+    (learned.InCube n) e c.trail-trail.ensures.ordered c.trail-trail.ensures.begun settled useful
+    (λ n h. g.met.P.Propagator.sound i.state.program i.state.bound n U sound h) x in
     let new : Searching = view_of i.mode i.state i.pace (answers_known i.known.items i.seen) i.last in
     let G = g.P.Propagator.gives i.state.program i.state.bound in
     let closes = met_closes G i.mode i.state i.pace (answers_known i.known.items i.seen) i.last q f c.args.id n m in

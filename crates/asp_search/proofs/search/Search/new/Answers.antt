@@ -20,8 +20,8 @@ invariant_of-result g c =
     c.in_ok-state.ensures.slots e in
     let seen = c.in_ok-seen.seen in
     let none : used_in p c.args.mode [] seen ≡ [] = ap (used_up (reasoning_of c.args.mode) p) c.in_ok-seen.ensures.known ∙ none_used (reasoning_of c.args.mode) p in (
-      subst (λ (ks : List Atoms). IsSearch p c.args.mode t c.in_ok-learner.learner c.in_ok-checker.checker (used_in p c.args.mode ks seen) c.new-8.result.items None None) (sym c.new-7.ensures.items)
-          (subst (λ (blocking : List ℕ). IsSearch p c.args.mode t c.in_ok-learner.learner c.in_ok-checker.checker (used_in p c.args.mode [] seen) blocking None None) (sym c.new-8.ensures.items)
+      subst (λ (ks : List Atoms). IsSearch p c.args.mode t c.in_ok-learner.learner c.in_ok-checker.checker (used_in p c.args.mode ks seen) c.new-7.result.items None None) (sym c.new-6.ensures.items)
+          (subst (λ (blocking : List ℕ). IsSearch p c.args.mode t c.in_ok-learner.learner c.in_ok-checker.checker (used_in p c.args.mode [] seen) blocking None None) (sym c.new-7.ensures.items)
           (subst (λ (ks : List Atoms). IsSearch p c.args.mode t c.in_ok-learner.learner c.in_ok-checker.checker ks [] None None) (sym none) first)),
       c.in_ok-seen.ensures.seen,
     )
@@ -31,6 +31,6 @@ returns-clause-same g c =
     let p = c.args.compiled.now in
     let t : SearchView = c.in_ok-state.state in
     let e : t ≡ first_state p t.slots = unbounded_state p _ t c.requires.unbounded c.in_ok-state.ensures.same in
-    subst (λ (ks : List Atoms). view_of c.args.mode t c.new-5.result (answers_known ks c.in_ok-seen.seen) None ≡ new_search p c.args.mode t.slots) (sym c.new-7.ensures.items)
-    (subst (λ (ks : List Atoms). view_of c.args.mode t c.new-5.result ks None ≡ new_search p c.args.mode t.slots) (sym c.in_ok-seen.ensures.known)
-    (search_is_new p c.args.mode t c.new-5.result e c.new-5.ensures))
+    subst (λ (ks : List Atoms). view_of c.args.mode t c.new-4.result (answers_known ks c.in_ok-seen.seen) None ≡ new_search p c.args.mode t.slots) (sym c.new-6.ensures.items)
+    (subst (λ (ks : List Atoms). view_of c.args.mode t c.new-4.result ks None ≡ new_search p c.args.mode t.slots) (sym c.in_ok-seen.ensures.known)
+    (search_is_new p c.args.mode t c.new-4.result e c.new-4.ensures))

@@ -31,7 +31,8 @@ burn-requires-clause-program g c =
     let shows = met_shows (g.P.Propagator.gives i.state.program i.state.bound) i.mode i.state i.pace (answers_known i.known.items i.seen) i.last q c.args.id c.args.nogood c.args.to c.args.lit m in
     let clash = clash_for i.compiled.now (reasoning_of i.mode) (answers_known i.known.items i.seen) i.bound i.state c.args.id c.args.lit c.in_ok-conflict.conflict c.self.invariant.0.program
     c.self.invariant.0.bounded c.in_ok-conflict.ensures in
-    let is = conflict_of (g.P.Propagator.gives i.state.program i.state.bound) i.mode i.state i.pace (answers_known i.known.items i.seen) i.last q c.args.id c.args.lit c.in_ok-conflict.conflict m.entered shows clash in
+    let is = conflict_of (g.P.Propagator.gives i.state.program i.state.bound) i.mode i.state i.pace (answers_known i.known.items i.seen) i.last q
+    c.args.id c.args.lit c.in_ok-conflict.conflict m.entered shows clash in
     is.program ∙ (ap (λ (s : Searching). s.program) c.self.view_is ∙ sym c.requires.program)
 
 pub note_conflict-requires : goal.note_conflict-requires
@@ -77,7 +78,8 @@ returns-then-left-eq0-clause-ok g c = λ r e.
     c.self.invariant.0.bounded c.in_ok-conflict.ensures in
     let stops = met_stops (g.P.Propagator.gives i.state.program i.state.bound) i.mode i.state i.pace (answers_known i.known.items i.seen) i.last q f c.args.id c.args.lit x m.last
     (sym c.left.ensures.left ∙ c.if-left-eq0.true) m.entered shows clash
-    (shown_holds (g.P.Propagator.gives i.state.program i.state.bound) i.mode i.state i.pace (answers_known i.known.items i.seen) i.last q c.args.id (learned.Jump c.args.nogood c.args.to c.args.lit) m c.args.lit shows) in
+    (shown_holds (g.P.Propagator.gives i.state.program i.state.bound) i.mode i.state i.pace (answers_known i.known.items i.seen) i.last q c.args.id
+    (learned.Jump c.args.nogood c.args.to c.args.lit) m c.args.lit shows) in
     subst (λ (y : List Literal). Stops (g.P.Propagator.gives s.program s.bound) s s y f f x) (same_cube s.cube q r c.requires.met.1.entered e)
     (subst (λ (z : Searching). Stops (g.P.Propagator.gives z.program z.bound) z z q f f x) c.self.view_is stops)
 
@@ -85,7 +87,8 @@ pub invariant_of-self : goal.invariant_of-self
 invariant_of-self g c =
     let i = c.self.inside in
     let e = c.in_err-new.ensures.err in (
-      search_stays i.compiled.now i.mode i.state c.jump.new.state i.learner i.checker (used_in i.compiled.now i.mode i.known.items i.seen) i.blocking.items i.bound i.last (ap (λ (x : SearchView). x.program) e)
+      search_stays i.compiled.now i.mode i.state c.jump.new.state i.learner i.checker (used_in i.compiled.now i.mode i.known.items i.seen)
+          i.blocking.items i.bound i.last (ap (λ (x : SearchView). x.program) e)
           (ap (λ (x : SearchView). x.bound) e) (ap (λ (x : SearchView). x.slots) e) c.self.invariant.0,
       c.self.invariant.1,
     )
@@ -106,7 +109,8 @@ returns-in_err-new-clause-err g c =
     let is = conflict_of (g.P.Propagator.gives i.state.program i.state.bound) i.mode i.state i.pace (answers_known i.known.items i.seen) i.last q c.args.id c.args.lit x m.entered shows clash in
     let left : 0 < f.left = omega (arith, c.left.ensures.left, c.if-left-eq0.false) in
     let new : Searching = view_of i.mode u c.count.new.self (answers_known i.known.items i.seen) i.last in
-    let paid = fails_paid (g.P.Propagator.gives i.state.program i.state.bound) i.mode i.state i.pace (answers_known i.known.items i.seen) i.last q f h x u c.count.new.self u.ranking is left c.burn.ensures
+    let paid = fails_paid (g.P.Propagator.gives i.state.program i.state.bound) i.mode i.state i.pace (answers_known i.known.items i.seen) i.last q f h
+    x u c.count.new.self u.ranking is left c.burn.ensures
     c.in_err-new.ensures.err in
     let fails : IsFailure (g.P.Propagator.gives s.program s.bound) s new f h = λ r e.
     subst (λ (y : List Literal). Fails (g.P.Propagator.gives s.program s.bound) s new y f h) (same_cube s.cube q r c.requires.met.1.entered e)
@@ -123,9 +127,12 @@ invariant_of-self-2 g c =
     let m = subst (λ (s : Searching). IsMet (g.P.Propagator.gives s.program s.bound) s q c.args.id (learned.Jump c.args.nogood c.args.to c.args.lit)) (sym c.self.view_is) c.requires.met.1 in
     let e = c.in_ok-new.ensures.ok in
     let last = newest_last i.state.slots u.slots new c.args.nogood kind.Learnt c.in_ok-new.ensures.added in
-    let added = search_added i.compiled.now i.mode i.state u i.learner i.checker (used_in i.compiled.now i.mode i.known.items i.seen) i.blocking.items i.bound i.last (Some new) new c.args.nogood kind.Learnt
+    let added = search_added i.compiled.now i.mode i.state u i.learner i.checker (used_in i.compiled.now i.mode i.known.items i.seen) i.blocking.items
+    i.bound i.last (Some new) new c.args.nogood kind.Learnt
     (ap (λ (x : SearchView). x.program) e) (ap (λ (x : SearchView). x.bound) e) c.in_ok-new.ensures.added
-    (useful_for i.compiled.now i.state i.mode (answers_known i.known.items i.seen) c.args.nogood c.self.invariant.0.program (met_useful (g.P.Propagator.gives i.state.program i.state.bound) i.mode i.state i.pace (answers_known i.known.items i.seen) i.last q c.args.id (learned.Jump c.args.nogood c.args.to c.args.lit) m)) last c.self.invariant.0 in (
+    (useful_for i.compiled.now i.state i.mode (answers_known i.known.items i.seen) c.args.nogood c.self.invariant.0.program
+    (met_useful (g.P.Propagator.gives i.state.program i.state.bound) i.mode i.state i.pace (answers_known i.known.items i.seen) i.last q
+    c.args.id (learned.Jump c.args.nogood c.args.to c.args.lit) m)) last c.self.invariant.0 in (
       search_thinned i.compiled.now i.mode u w i.learner i.checker (used_in i.compiled.now i.mode i.known.items i.seen) i.blocking.items i.bound (Some new) (Some new) u.entries
           (ap (λ (x : SearchView). x.program) c.sweep.ensures.same) (ap (λ (x : SearchView). x.bound) c.sweep.ensures.same) c.sweep.ensures.reduced
           (last_named u.slots w.slots new (jumped_named i.state u w.slots c.args.to new c.args.lit (ap (λ (x : SearchView). x.entries) e) c.sweep.ensures.reduced) last) added,
@@ -150,12 +157,15 @@ returns-clause-ok g c = λ r e.
     let w = c.sweep.new.state in
     let d = c.count.new.self in
     let new : Searching = view_of i.mode w d (answers_known i.known.items i.seen) (Some c.in_ok-new.new) in
-    let jumped = met_learns (g.P.Propagator.gives i.state.program i.state.bound) i.mode i.state i.pace (answers_known i.known.items i.seen) i.last q f h x u c.count.new.self u.slots u.ranking c.args.id c.in_ok-new.new
+    let jumped = met_learns (g.P.Propagator.gives i.state.program i.state.bound) i.mode i.state i.pace (answers_known i.known.items i.seen) i.last q f
+    h x u c.count.new.self u.slots u.ranking c.args.id c.in_ok-new.new
     c.args.to c.args.nogood c.args.lit m is left c.burn.ensures c.in_ok-new.ensures.added c.in_ok-new.ensures.ok c.count.ensures in
     let G = g.P.Propagator.gives i.state.program i.state.bound in
     let named = jumped_named i.state u w.slots c.args.to c.in_ok-new.new c.args.lit (ap (λ (x : SearchView). x.entries) c.in_ok-new.ensures.ok) c.sweep.ensures.reduced in
-    let swept = learns_swept G (view_of i.mode i.state i.pace (answers_known i.known.items i.seen) i.last) (view_of i.mode u d (answers_known i.known.items i.seen) (Some c.in_ok-new.new)) w.slots q f h
+    let swept = learns_swept G (view_of i.mode i.state i.pace (answers_known i.known.items i.seen) i.last)
+    (view_of i.mode u d (answers_known i.known.items i.seen) (Some c.in_ok-new.new)) w.slots q f h
     (λ id is. subst (λ (k : ℕ). kept_at w.slots k ≡ kept_at u.slots k) (same_Some c.in_ok-new.new id is) named) c.sweep.ensures.reduced c.sweep.ensures.others jumped in
-    let learns = subst (λ (x : SearchView). Learns G (view_of i.mode i.state i.pace (answers_known i.known.items i.seen) i.last) (view_of i.mode x d (answers_known i.known.items i.seen) (Some c.in_ok-new.new)) q f h) (sym c.sweep.ensures.same) swept in
+    let learns = subst (λ (x : SearchView). Learns G (view_of i.mode i.state i.pace (answers_known i.known.items i.seen) i.last)
+    (view_of i.mode x d (answers_known i.known.items i.seen) (Some c.in_ok-new.new)) q f h) (sym c.sweep.ensures.same) swept in
     subst (λ (y : List Literal). Learns (g.P.Propagator.gives s.program s.bound) s new y f h) (same_cube s.cube q r c.requires.met.1.entered e)
     (subst (λ (z : Searching). Learns (g.P.Propagator.gives z.program z.bound) z new q f h) c.self.view_is learns)

@@ -36,7 +36,8 @@ invariant_of-self g c =
     let less : IsSubset (unshown r p x.sets) (unshown r p K) =
     subst (λ (q : Program). IsSubset (unshown r q x.sets) (unshown r q K)) program
     (subst (λ (s : Searching). IsSubset (unshown r x.program x.sets) (unshown r x.program s.known)) (sym c.self.view_is) c.requires.all) in (
-      search_covers p i.mode r i.state c.renew.new.state i.learner i.checker K x.sets i.blocking.items c.renew.new.blocking.items i.bound i.last None sought c.in-Ok.ensures.ok (used-less r p K x.sets less c.requires.some) c.requires.some tt c.self.invariant.0,
+      search_covers p i.mode r i.state c.renew.new.state i.learner i.checker K x.sets i.blocking.items c.renew.new.blocking.items i.bound i.last None
+          sought c.in-Ok.ensures.ok (used-less r p K x.sets less c.requires.some) c.requires.some tt c.self.invariant.0,
       still_seen i.mode p x (record { program = program; reasoning = sought }),
     )
 
@@ -53,7 +54,8 @@ pub invariant_of-self-in-Err : goal.invariant_of-self-in-Err
 invariant_of-self-in-Err g c =
     let i = c.self.inside in
     let e = c.in-Err.ensures.err.0 in (
-      subst (λ (ids : List ℕ). IsSearch i.compiled.now i.mode c.renew.new.state i.learner i.checker (used_in i.compiled.now i.mode i.known.items i.seen) ids i.bound i.last) (sym c.in-Err.ensures.err.1)
+      subst (λ (ids : List ℕ). IsSearch i.compiled.now i.mode c.renew.new.state i.learner i.checker
+          (used_in i.compiled.now i.mode i.known.items i.seen) ids i.bound i.last) (sym c.in-Err.ensures.err.1)
           (search_stays i.compiled.now i.mode i.state c.renew.new.state i.learner i.checker (used_in i.compiled.now i.mode i.known.items i.seen) i.blocking.items i.bound i.last
           (ap (λ (y : SearchView). y.program) e) (ap (λ (y : SearchView). y.bound) e) (ap (λ (y : SearchView). y.slots) e) c.self.invariant.0),
       c.self.invariant.1,

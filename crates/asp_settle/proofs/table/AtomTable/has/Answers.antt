@@ -13,4 +13,5 @@ returns-then-place-len c =
 pub returns-else-place-len : goal.returns-else-place-len
 returns-else-place-len c =
     let flags = c.self.inside.flags.items in
-    le-ltb c.args.atom c.len.result c.if-place-len.false ∙ sym (get_or_past flags c.args.atom false (omega (arith, c.self.inside.flags.ok.0))) ∙ sym (has-table flags c.args.atom) ∙ ap (λ s. has s c.args.atom) c.self.view_is
+    le-ltb c.args.atom c.len.result c.if-place-len.false ∙ sym (get_or_past flags c.args.atom false (omega (arith, c.self.inside.flags.ok.0)))
+    ∙ sym (has-table flags c.args.atom) ∙ ap (λ s. has s c.args.atom) c.self.view_is

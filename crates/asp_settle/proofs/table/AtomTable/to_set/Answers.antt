@@ -21,4 +21,6 @@ from_ascending-requires c = subst IsAscending (sym c.loop-place.invariant) (plac
 
 pub returns : goal.returns
 returns c =
-    c.from_ascending.ensures ∙ c.loop-place.invariant ∙ ap (places_from 0) (take_all c.loop-place.place c.as_slice-flag-items.result.now c.loop-place-test.false ∙ c.as_slice-flag-items.ensures.value) ∙ c.self.view_is
+    c.from_ascending.ensures ∙ c.loop-place.invariant
+    ∙ ap (places_from 0)
+    (take_all c.loop-place.place c.as_slice-flag-items.result.now c.loop-place-test.false ∙ c.as_slice-flag-items.ensures.value) ∙ c.self.view_is

@@ -31,7 +31,8 @@ returns-clause-given c =
 pub invariant_of-self : goal.invariant_of-self
 invariant_of-self c =
     let i = c.self.inside in
-    subst (λ (f : Rest). IsKept i.compiled.now i.components i.values i.sources.items i.ranks.ranks i.queue i.tight i.weighted i.loose.items i.waiting i.joined f) (sym c.in_err-keep.ensures.err) c.self.invariant
+    subst (λ (f : Rest). IsKept i.compiled.now i.components i.values i.sources.items i.ranks.ranks i.queue i.tight i.weighted i.loose.items i.waiting
+    i.joined f) (sym c.in_err-keep.ensures.err) c.self.invariant
 
 pub invariant_of-self-2 : goal.invariant_of-self-2
 invariant_of-self-2 c =

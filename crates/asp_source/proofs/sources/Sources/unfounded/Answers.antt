@@ -10,15 +10,22 @@ use Rattle.asp_source.proofs.sources.Sources.unfounded.Goals as goal
 pub returns-then-self-clause-none : goal.returns-then-self-clause-none
 returns-then-self-clause-none c =
     subst (λ (t : Told). (U : Atoms) → IsUnfoundedLoop t.program t.values U → ⊥) c.self.view_is
-    (tight_none c.self.inside.compiled.now c.self.inside.components c.self.inside.values c.self.inside.sources.items c.self.inside.ranks.ranks c.self.inside.queue c.self.inside.tight c.self.inside.weighted c.self.inside.loose.items c.self.inside.waiting c.self.inside.joined c.self.inside.found c.self.invariant c.if-self.true)
+    (tight_none c.self.inside.compiled.now c.self.inside.components c.self.inside.values c.self.inside.sources.items c.self.inside.ranks.ranks
+    c.self.inside.queue c.self.inside.tight c.self.inside.weighted c.self.inside.loose.items c.self.inside.waiting c.self.inside.joined
+    c.self.inside.found c.self.invariant c.if-self.true)
 
 pub invariant_of-self : goal.invariant_of-self
 invariant_of-self c =
     let t = c.first_unfounded.new.sources in
     let m = c.first_unfounded.new.loose in
-    kept_after c.self.inside.compiled.now c.self.inside.components c.self.inside.values c.args.values.now c.self.inside.sources.items c.self.inside.ranks.ranks c.self.inside.queue c.self.inside.tight c.self.inside.weighted c.self.inside.loose.items c.self.inside.waiting c.self.inside.joined c.self.inside.found c.self.inside.sources.len c.self.inside.loose.len t c.first_unfounded.new.ranks.ranks c.first_unfounded.new.queue m c.first_unfounded.new.waiting c.first_unfounded.new.joined
+    kept_after c.self.inside.compiled.now c.self.inside.components c.self.inside.values c.args.values.now c.self.inside.sources.items
+    c.self.inside.ranks.ranks c.self.inside.queue c.self.inside.tight c.self.inside.weighted c.self.inside.loose.items c.self.inside.waiting
+    c.self.inside.joined c.self.inside.found c.self.inside.sources.len c.self.inside.loose.len t c.first_unfounded.new.ranks.ranks
+    c.first_unfounded.new.queue m c.first_unfounded.new.waiting c.first_unfounded.new.joined
     (sym c.requires ∙ ap (λ (t : Told). t.values) (sym c.self.view_is)) c.self.invariant c.if-self.false
-    (c.first_unfounded.auto.sources ∙ c.refresh.auto.sources ∙ c.as_mut_slice-sources.ensures.len) (c.first_unfounded.auto.loose ∙ c.as_mut_slice-loose.ensures.len) (c.first_unfounded.auto.loose ∙ ap length c.as_mut_slice-loose.ensures.value)
+    (c.first_unfounded.auto.sources ∙ c.refresh.auto.sources ∙ c.as_mut_slice-sources.ensures.len)
+    (c.first_unfounded.auto.loose ∙ c.as_mut_slice-loose.ensures.len)
+    (c.first_unfounded.auto.loose ∙ ap length c.as_mut_slice-loose.ensures.value)
     c.first_unfounded.ensures.pointers c.first_unfounded.ensures.blank c.first_unfounded.ensures.room c.first_unfounded.ensures.seats
 
 pub returns-clause-none : goal.returns-clause-none

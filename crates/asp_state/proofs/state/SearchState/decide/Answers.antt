@@ -29,7 +29,8 @@ invariant_of-self-in-Some g c =
     let ordered : IsOrdered (var_count p) es =
     subst (λ (k : ℕ). IsOrdered k es) c.trail.ensures.vars (subst (λ (xs : List Entry). IsOrdered c.trail.result.now.vars xs) c.trail.ensures.entries c.len-len.ensures.ordered) in
     let fixpoint =
-    fixpoint_completion (assignment (var_count p) es) i.engine.slots (completion p) (subst (λ (t : SearchView). AreAtFixpoint t.slots (values_of t)) (sym c.self.view_is) c.requires.fixpoint) c.self.invariant.0.completed in
+    fixpoint_completion (assignment (var_count p) es) i.engine.slots (completion p)
+    (subst (λ (t : SearchView). AreAtFixpoint t.slots (values_of t)) (sym c.self.view_is) c.requires.fixpoint) c.self.invariant.0.completed in
     let waits : AreWaiting (var_count p) (es ++ e ∷ []) c.next.new.self =
     subst (λ (k : ℕ). AreWaiting k (es ++ e ∷ []) c.next.new.self) c.trail-2.ensures.vars
     (subst (λ (xs : List Entry). AreWaiting c.trail-2.result.now.vars (xs ++ e ∷ []) c.next.new.self) c.trail-2.ensures.entries

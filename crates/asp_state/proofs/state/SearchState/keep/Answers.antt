@@ -9,8 +9,11 @@ use Rattle.asp_state.proofs.state.SearchState.keep.Goals as goal
 
 pub invariant_of-self : goal.invariant_of-self
 invariant_of-self g c =
-    let i = c.self.inside in
-    (kept_either c.keep.result i.engine c.keep.new.self (option_map (λ q. q.items) i.cube) (is_some i.clash) i.decisions.items i.order c.args.nogood c.args.kind c.keep.ensures.ok c.keep.ensures.err c.self.invariant.0, c.self.invariant.1)
+    let i = c.self.inside in (
+      kept_either c.keep.result i.engine c.keep.new.self (option_map (λ q. q.items) i.cube) (is_some i.clash) i.decisions.items i.order c.args.nogood
+          c.args.kind c.keep.ensures.ok c.keep.ensures.err c.self.invariant.0,
+      c.self.invariant.1,
+    )
 
 pub returns-clause-same : goal.returns-clause-same
 returns-clause-same g c =

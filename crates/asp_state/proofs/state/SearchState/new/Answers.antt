@@ -29,7 +29,10 @@ invariant_of-result g c =
     let b = g.P.Propagator.bound c.args.propagator in
     let slots = c.keep_completion.new.engine.slots in
     let o = c.in_ok-order.ensures in
-    let first = given_first p c.vars-vars.result c.in_ok-order.order c.begin_unlisted.new.order c.age.new.self c.prefer_derived.new.order c.vars-vars.ensures.count o.fresh o.vars o.all c.begin_unlisted.ensures c.age.ensures.aged (c.prefer_derived.ensures ∙ c.in-Ok.ensures.order) in
+    let first =
+    given_first p c.vars-vars.result c.in_ok-order.order c.begin_unlisted.new.order c.age.new.self c.prefer_derived.new.order
+    c.vars-vars.ensures.count o.fresh o.vars o.all c.begin_unlisted.ensures c.age.ensures.aged (c.prefer_derived.ensures ∙ c.in-Ok.ensures.order)
+    in
     let same : c.keep_completion.new.engine ≡ record { program = p; entries = []; slots = slots; bound = b } =
     c.keep_completion.ensures.same
     ∙ ap (λ (f : Propagating). let e : Propagating = record f { slots = slots } in e) c.in_ok-engine.ensures
@@ -51,12 +54,25 @@ returns-in-Ok-clause-same g c =
     let b = g.P.Propagator.bound c.args.propagator in
     let slots = c.keep_completion.new.engine.slots in
     let o = c.in_ok-order.ensures in
-    let first = given_first p c.vars-vars.result c.in_ok-order.order c.begin_unlisted.new.order c.age.new.self c.prefer_derived.new.order c.vars-vars.ensures.count o.fresh o.vars o.all c.begin_unlisted.ensures c.age.ensures.aged (c.prefer_derived.ensures ∙ c.in-Ok.ensures.order) in
+    let first =
+    given_first p c.vars-vars.result c.in_ok-order.order c.begin_unlisted.new.order c.age.new.self c.prefer_derived.new.order
+    c.vars-vars.ensures.count o.fresh o.vars o.all c.begin_unlisted.ensures c.age.ensures.aged (c.prefer_derived.ensures ∙ c.in-Ok.ensures.order)
+    in
     let same : c.keep_completion.new.engine ≡ record { program = p; entries = []; slots = slots; bound = b } =
     c.keep_completion.ensures.same
     ∙ ap (λ (f : Propagating). let e : Propagating = record f { slots = slots } in e) c.in_ok-engine.ensures
     ∙ ap (λ (x : Program). let e : Propagating = record { program = x; entries = []; slots = slots; bound = b } in e) c.requires.program in
-    let view : Propagating → Ranking → List Literal → SearchView = λ f r ds. record { program = f.program; bound = f.bound; cube = None; clashing = false; decisions = ds; entries = f.entries; slots = f.slots; ranking = r } in
+    let view : Propagating → Ranking → List Literal → SearchView =
+    λ f r ds. record {
+      program = f.program;
+      bound = f.bound;
+      cube = None;
+      clashing = false;
+      decisions = ds;
+      entries = f.entries;
+      slots = f.slots;
+      ranking = r;
+    } in
     let begun : Propagating = record { program = p; entries = []; slots = slots; bound = b } in
     ap (λ (f : Propagating). view f c.prefer_derived.new.order c.new-in-Ok.result.items) same
     ∙ ap (λ (r : Ranking). view begun r c.new-in-Ok.result.items) first.first
@@ -66,4 +82,5 @@ pub returns-in-Ok-clause-slots : goal.returns-in-Ok-clause-slots
 returns-in-Ok-clause-slots g c =
     let p = c.args.compiled.now in
     let slots = c.keep_completion.new.engine.slots in
-    completed_alone p slots (subst (λ (xs : List (Option StoredNogood)). AddsForever (map pure (completion p)) xs slots) (ap (λ (f : Propagating). f.slots) c.in_ok-engine.ensures) c.in-Ok.ensures.adds)
+    completed_alone p slots (subst (λ (xs : List (Option StoredNogood)). AddsForever (map pure (completion p)) xs slots)
+    (ap (λ (f : Propagating). f.slots) c.in_ok-engine.ensures) c.in-Ok.ensures.adds)

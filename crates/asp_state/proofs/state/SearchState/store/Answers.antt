@@ -23,7 +23,8 @@ returns-clause-few g c =
 pub returns-clause-small : goal.returns-clause-small
 returns-clause-small g c =
     subst (λ (t : SearchView). AreSmall (var_count t.program) t.slots) c.self.view_is
-    (subst (λ (n : ℕ). AreSmall n c.self.inside.engine.slots) c.store.ensures.vars (subst (λ (xs : List (Option StoredNogood)). AreSmall c.store.result.now.vars xs) c.store.ensures.slots c.extra-extra.ensures.small))
+    (subst (λ (n : ℕ). AreSmall n c.self.inside.engine.slots) c.store.ensures.vars
+    (subst (λ (xs : List (Option StoredNogood)). AreSmall c.store.result.now.vars xs) c.store.ensures.slots c.extra-extra.ensures.small))
 
 pub returns-clause-completed : goal.returns-clause-completed
 returns-clause-completed g c = subst (λ (t : SearchView). KeepsCompletion t.program t.slots) c.self.view_is c.self.invariant.0.completed

@@ -27,7 +27,8 @@ invariant_of-self c =
 
 pub returns-clause-extends : goal.returns-clause-extends
 returns-clause-extends c =
-    subst (λ (xs : List (Option StoredNogood)). Extends xs c.args.trail.now.entries c.propagate.new.trail.entries) (c.as_slice.ensures.value ∙ ap (λ (s : Stored). s.slots) c.self.view_is) c.propagate.ensures.extends
+    subst (λ (xs : List (Option StoredNogood)). Extends xs c.args.trail.now.entries c.propagate.new.trail.entries)
+    (c.as_slice.ensures.value ∙ ap (λ (s : Stored). s.slots) c.self.view_is) c.propagate.ensures.extends
 
 pub returns-clause-fits : goal.returns-clause-fits
 returns-clause-fits c =

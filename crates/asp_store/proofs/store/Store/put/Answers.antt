@@ -53,6 +53,10 @@ returns-clause-ok c =
     let e : record i.watches { rows = c.clear.new.self; apart = c.push.new.self } ≡ z = λ j. record i.watches { rows = b j; apart = c.push.new.self } in
     let more : IsAdded (view_of i.vars slots i.watches i.given.items) (view_of i.vars (set slots c.args.id (Some k)) z after) c.args.id c.args.nogood c.args.kind =
     added_put (view_of i.vars slots i.watches i.given.items) c.args.id c.args.nogood c.args.kind c.push.new.self h inside free c.in_ok-push.ensures.ok in
-    subst (λ (s : Stored). IsAdded s (view_of i.vars (set slots c.args.id (Some k)) (record i.watches { rows = c.clear.new.self; apart = c.push.new.self }) c.note_given.new.given.items) c.args.id c.args.nogood c.args.kind) c.self.view_is
-    (subst (λ (xs : List ℕ). IsAdded (view_of i.vars slots i.watches i.given.items) (view_of i.vars (set slots c.args.id (Some k)) (record i.watches { rows = c.clear.new.self; apart = c.push.new.self }) xs) c.args.id c.args.nogood c.args.kind) (sym noted)
+    subst (λ (s : Stored). IsAdded s
+    (view_of i.vars (set slots c.args.id (Some k)) (record i.watches { rows = c.clear.new.self; apart = c.push.new.self })
+    c.note_given.new.given.items) c.args.id c.args.nogood c.args.kind) c.self.view_is
+    (subst (λ (xs : List ℕ). IsAdded (view_of i.vars slots i.watches i.given.items)
+    (view_of i.vars (set slots c.args.id (Some k)) (record i.watches { rows = c.clear.new.self; apart = c.push.new.self }) xs) c.args.id
+    c.args.nogood c.args.kind) (sym noted)
     (subst (λ (w : Watches). IsAdded (view_of i.vars slots i.watches i.given.items) (view_of i.vars (set slots c.args.id (Some k)) w after) c.args.id c.args.nogood c.args.kind) (sym e) more))

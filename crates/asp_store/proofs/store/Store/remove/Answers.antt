@@ -58,4 +58,5 @@ returns c =
     let len : length c.remove_slot.new.slots ≡ i.slots.len = omega (arith, ap (length {A = Option StoredNogood}) e, length-set slots c.args.id None, i.slots.ok.0) in
     let k : c.args.id < length i.watches.rows = omega (arith, h, c.self.invariant.net.paired) in
     rw (take_at c.remove_slot.new.slots)
-    ((λ j. let s : Stored = record { vars = i.vars; slots = e j; rows = c.clear.ensures j; apart = i.watches.apart; given = i.given.items } in s) ∙ ap (λ (s : Stored). removed s c.args.id) c.self.view_is)
+    ((λ j. let s : Stored = record { vars = i.vars; slots = e j; rows = c.clear.ensures j; apart = i.watches.apart; given = i.given.items } in s)
+    ∙ ap (λ (s : Stored). removed s c.args.id) c.self.view_is)

@@ -16,4 +16,5 @@ invariant_of-self c =
     let len : length c.set_locked.new.slots ≡ i.slots.len =
     omega (arith, ap (length {A = Option StoredNogood}) e, length-set slots c.args.id (with_lock false (kept_at slots c.args.id)), i.slots.ok.0) in
     rw (take_at c.set_locked.new.slots)
-    (subst (λ (xs : List (Option StoredNogood)). IsStore i.vars xs i.watches i.extra i.given.items) (sym e) (store_lock i.vars slots i.watches i.given.items i.extra c.args.id false h c.self.invariant))
+    (subst (λ (xs : List (Option StoredNogood)). IsStore i.vars xs i.watches i.extra i.given.items) (sym e)
+    (store_lock i.vars slots i.watches i.given.items i.extra c.args.id false h c.self.invariant))

@@ -22,4 +22,5 @@ loop-line-preserved c =
     }
 
 pub returns : goal.returns
-returns c = all_passed _ c.loop-line.self c.args.self.now c.in_default.ensures.line (rw c.in_default.is at c.next_line.follows.holds-at-none) c.loop-line.invariant.same c.loop-line.invariant.counted c.loop-line.invariant.fed
+returns c = all_passed _ c.loop-line.self c.args.self.now c.in_default.ensures.line (rw c.in_default.is at c.next_line.follows.holds-at-none)
+    c.loop-line.invariant.same c.loop-line.invariant.counted c.loop-line.invariant.fed

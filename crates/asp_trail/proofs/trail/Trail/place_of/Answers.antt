@@ -20,4 +20,5 @@ returns-clause-var c d =
     let f = place_found c.self.inside.vars c.self.inside.entries.items c.self.inside.values c.self.inside.places.items c.self.inside.levels.items c.self.inside.seen c.args.var c.self.invariant has in
     let at : c.index.result.now ≡ get_or c.self.inside.places.items c.args.var 0 =
     c.index.ensures ∙ same_default c.self.inside.places.items c.args.var c.index.result.now 0 (omega (arith, small, c.self.invariant.placed)) in
-    subst (λ (t : Trailed). (get_or t.entries c.index.result.now d).lit.var ≡ c.args.var) c.self.view_is (subst (λ (k : ℕ). (get_or c.self.inside.entries.items k d).lit.var ≡ c.args.var) (sym at) (f.1 d))
+    subst (λ (t : Trailed). (get_or t.entries c.index.result.now d).lit.var ≡ c.args.var) c.self.view_is
+    (subst (λ (k : ℕ). (get_or c.self.inside.entries.items k d).lit.var ≡ c.args.var) (sym at) (f.1 d))

@@ -10,4 +10,5 @@ invariant_of-self c =
     let first = rw (← c.self.view_is) at c.requires.decided in
     let place = rw (← c.self.view_is) at c.next_place-place.ensures in
     rw (c.push_reserved.ensures.items, c.set.ensures, c.var-var.ensures)
-    (new_entry_at c.self.inside.vars c.self.inside.entries.items c.self.inside.values c.self.inside.places.items c.self.inside.levels.items c.self.inside.seen c.args.entry _ place c.self.invariant v n lo hi first)
+    (new_entry_at c.self.inside.vars c.self.inside.entries.items c.self.inside.values c.self.inside.places.items c.self.inside.levels.items
+    c.self.inside.seen c.args.entry _ place c.self.invariant v n lo hi first)

@@ -10,7 +10,8 @@ loop-self-preserved c =
     let old : Trailed = c.loop-self.self in
     let d : Entry = record { lit = record { var = 0; truth = true }; level = 0; reason = None } in (
       c.pop.ensures.same ∙ ap (λ (t : Trailed). let r : Trailed = record { vars = t.vars; entries = new.entries; seen = new.seen; room = t.room } in r) c.loop-self.invariant.0,
-      cut_pop c.args.level old.entries new.entries (get_or old.entries (length old.entries - 1) d) (c.pop.ensures.entries d) (omega (arith, c.loop-self-test.true, c.level.ensures.level)) ∙ c.loop-self.invariant.1,
+      cut_pop c.args.level old.entries new.entries (get_or old.entries (length old.entries - 1) d) (c.pop.ensures.entries d)
+          (omega (arith, c.loop-self-test.true, c.level.ensures.level)) ∙ c.loop-self.invariant.1,
       omega (arith, c.pop.ensures.len, c.loop-self.invariant.2),
       omega (arith, c.pop.ensures.len, c.pop.ensures.seen, c.loop-self.invariant.3),
     )

@@ -14,9 +14,11 @@ index-requires-2 c = omega (arith, half c.self.inside.falses.items c.args.var c.
 pub returns-then-index-2 : goal.returns-then-index-2
 returns-then-index-2 c =
     rw (c.if-index.false, c.if-index-2.true) at
-    (value_of_two c.self.inside.falses.items c.args.var _ _ c.index.result.now c.index-2.result.now c.args.self.now c.self.invariant c.self.view_is c.requires refl refl c.index.ensures c.index-2.ensures)
+    (value_of_two c.self.inside.falses.items c.args.var _ _ c.index.result.now c.index-2.result.now c.args.self.now c.self.invariant c.self.view_is
+    c.requires refl refl c.index.ensures c.index-2.ensures)
 
 pub returns-else-index-2 : goal.returns-else-index-2
 returns-else-index-2 c =
     rw (c.if-index.false, c.if-index-2.false) at
-    (value_of_two c.self.inside.falses.items c.args.var _ _ c.index.result.now c.index-2.result.now c.args.self.now c.self.invariant c.self.view_is c.requires refl refl c.index.ensures c.index-2.ensures)
+    (value_of_two c.self.inside.falses.items c.args.var _ _ c.index.result.now c.index-2.result.now c.args.self.now c.self.invariant c.self.view_is
+    c.requires refl refl c.index.ensures c.index-2.ensures)

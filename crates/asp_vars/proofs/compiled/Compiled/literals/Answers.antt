@@ -21,4 +21,5 @@ returns-clause-literals c = row_is c
 pub returns-clause-atoms : goal.returns-clause-atoms
 returns-clause-atoms c =
     let p : Program = c.args.self.now in
-    subst (λ (ls : List Literal). All (λ l. IsAtomVar p l.var) ls) (sym (row_is c)) (all_of (λ (l : Literal). IsAtomVar p l.var) (form_literals p (nth_body p c.args.body)) (literal_vars p c.args.body c.requires))
+    subst (λ (ls : List Literal). All (λ l. IsAtomVar p l.var) ls) (sym (row_is c))
+    (all_of (λ (l : Literal). IsAtomVar p l.var) (form_literals p (nth_body p c.args.body)) (literal_vars p c.args.body c.requires))

@@ -13,5 +13,8 @@ invariant_of-self c =
     let of_program : x.program ≡ u.program =
     ap (λ (z : Clash). z.program) c.conflict.view_is ∙ c.requires.program ∙ sym (ap (λ (z : Units). z.program) c.self.view_is) in
     let least_is : c.least.result ≡ least_of u.least x.bound = c.least.ensures ∙ ap (λ l. least_of l x.bound) c.take.ensures.value in
-    let left_is : f.left ≡ c.args.self.now.left = ap (λ (z : Units). z.left) c.self.view_is in
-    (omega (arith, left_is, c.requires.left, c.self.invariant.0), IsPaid-burn u w x refl of_program refl (ap (λ b. f.reasoned || b) c.is_some.ensures) c.max-self-inside.ensures least_is c.self.invariant.1 c.conflict.invariant)
+    let left_is : f.left ≡ c.args.self.now.left = ap (λ (z : Units). z.left) c.self.view_is in (
+      omega (arith, left_is, c.requires.left, c.self.invariant.0),
+      IsPaid-burn u w x refl of_program refl (ap (λ b. f.reasoned || b) c.is_some.ensures)
+          c.max-self-inside.ensures least_is c.self.invariant.1 c.conflict.invariant,
+    )

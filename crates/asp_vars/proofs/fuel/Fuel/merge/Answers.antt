@@ -9,7 +9,14 @@ invariant_of-self c =
     let g = c.other.inside in
     let u : Units = record { program = f.program.value; left = f.left; burnt = f.burnt; reasoned = f.reasoned; known = f.known; least = f.least } in
     let v : Units = record { program = g.program.value; left = g.left; burnt = g.burnt; reasoned = g.reasoned; known = g.known; least = g.least } in
-    let w : Units = record { program = f.program.value; left = f.left + g.left; burnt = f.burnt + g.burnt; reasoned = f.reasoned || g.reasoned; known = c.max-self-inside.result; least = c.least.result } in
+    let w : Units = record {
+      program = f.program.value;
+      left = f.left + g.left;
+      burnt = f.burnt + g.burnt;
+      reasoned = f.reasoned || g.reasoned;
+      known = c.max-self-inside.result;
+      least = c.least.result;
+    } in
     let of_program : v.program ≡ u.program =
     ap (λ (z : Units). z.program) c.other.view_is ∙ c.requires.program ∙ sym (ap (λ (z : Units). z.program) c.self.view_is) in
     let least_is : c.least.result ≡ least_of u.least v.least = c.least.ensures ∙ ap (λ l. least_of l v.least) c.take.ensures.value in

@@ -9,7 +9,12 @@ pub push_reserved-requires : goal.push_reserved-requires
 push_reserved-requires c =
     let h = rw (← c.self.view_is) at c.requires.body in
     let was = get_or_read c.self.inside.tallies.items _ _ h c.index.ensures (record { reached = 0; missed = 0; start = 0; queued = false }) in
-    omega (arith, c.self.inside.queue.ok.0, free c.self.inside.tallies.items c.self.inside.queue.items _ c.args.place.now.body c.self.invariant h (ap (λ (t : Tally). t.queued) (sym was) ∙ c.if-tally.false))
+    omega (
+      arith,
+      c.self.inside.queue.ok.0,
+      free c.self.inside.tallies.items c.self.inside.queue.items _ c.args.place.now.body c.self.invariant h
+          (ap (λ (t : Tally). t.queued) (sym was) ∙ c.if-tally.false),
+    )
 
 pub invariant_of-self : goal.invariant_of-self
 invariant_of-self c =

@@ -43,13 +43,17 @@ returns-in-Some-clause-excluded c =
     c.self.invariant.rowed same c.requires.vars c.requires.explained c.lit-lit.ensures.lit c.index-shape.ensures c.row-row.ensures in
     subst (λ (t : Told). IsExcluded t.program c.in-Some.nogood) c.self.view_is
     (brief_excluded i.program.value c.args.trail.now c.args.place c.args.name c.index-shape.result.now c.row-row.result.now c.lit-lit.result c.in-Some.nogood c.self.invariant.sound o
-    (subst (λ (x : Option Nogood). IfSome x (λ n. IsBrief (before c.args.trail.now c.args.place) c.index-shape.result.now c.row-row.result.now c.lit-lit.result n.lits)) c.in-Some.is c.in_ok-nogood.ensures.lits)
+    (subst (λ (x : Option Nogood). IfSome x
+    (λ n. IsBrief (before c.args.trail.now c.args.place) c.index-shape.result.now c.row-row.result.now c.lit-lit.result n.lits))
+    c.in-Some.is c.in_ok-nogood.ensures.lits)
     (subst (λ (x : Option Nogood). IfSome x (λ n. n.base ≡ base.Pure)) c.in-Some.is c.in_ok-nogood.ensures.base))
 
 pub returns-in-Some-clause-reason : goal.returns-in-Some-clause-reason
 returns-in-Some-clause-reason c =
     brief_reason c.args.trail.now c.args.place c.lit-lit.result c.index-shape.result.now c.row-row.result.now c.in-Some.nogood c.len-len.ensures.ordered c.requires.place
-    (subst (λ (x : Option Nogood). IfSome x (λ n. IsBrief (before c.args.trail.now c.args.place) c.index-shape.result.now c.row-row.result.now c.lit-lit.result n.lits)) c.in-Some.is c.in_ok-nogood.ensures.lits)
+    (subst (λ (x : Option Nogood). IfSome x
+    (λ n. IsBrief (before c.args.trail.now c.args.place) c.index-shape.result.now c.row-row.result.now c.lit-lit.result n.lits))
+    c.in-Some.is c.in_ok-nogood.ensures.lits)
     c.lit-lit.ensures.lit
 
 pub speech_at-speech-requires-clause-var : goal.speech_at-speech-requires-clause-var
@@ -91,7 +95,8 @@ returns-clause-excluded c =
     let o = own_at i.program.value c.args.self.now.program i.shapes.items i.rows c.args.trail.now c.args.place c.args.name c.index-shape.result.now c.row-row.result.now c.lit-lit.result
     c.self.invariant.rowed same c.requires.vars c.requires.explained c.lit-lit.ensures.lit c.index-shape.ensures c.row-row.ensures in
     subst (λ (t : Told). IfOk c.speak.result (IsExcluded t.program)) c.self.view_is
-    (excluded_as i.program.value c.args.trail.now c.args.place c.args.name c.index-shape.result.now c.row-row.result.now c.lit-lit.result c.speech_at-speech.result c.speak.result c.self.invariant.sound o
+    (excluded_as i.program.value c.args.trail.now c.args.place c.args.name c.index-shape.result.now c.row-row.result.now c.lit-lit.result
+    c.speech_at-speech.result c.speak.result c.self.invariant.sound o
     c.speech_at-speech.ensures.speaks c.speak.ensures.lits c.speak.ensures.base)
 
 pub returns-clause-reason : goal.returns-clause-reason
