@@ -121,8 +121,10 @@ judges p others A r units itself sound paid false Limited none says =
 judges p others A r units itself sound paid false Unfinished none says = let left : r.paid.left ≡ 0 = says.1 in omega (arith, left, paid)
 
 -- what a search for one model says of the others of some literals
-pub tries-by : (given : Options) (p : Program) (others : List ℤ) (units : ℕ) (s : Sought) (v : Verdict) → seeks_consequences (Some given.mode) ≡ false → IsSound p → p.assumptions ≡ [] → IsSound (with_query p others)
-    → IsSought given (with_query p others) one_model units s → v ≡ verdict_by (is_some_of s.report.results.answers) s.report.results.end → Tries p others units (record { verdict = v; spent = s.report.spent })
+pub tries-by : (given : Options) (p : Program) (others : List ℤ) (units : ℕ) (s : Sought) (v : Verdict) →
+    seeks_consequences (Some given.mode) ≡ false → IsSound p → p.assumptions ≡ [] → IsSound (with_query p others)
+    → IsSought given (with_query p others) one_model units s → v ≡ verdict_by (is_some_of s.report.results.answers) s.report.results.end →
+    Tries p others units (record { verdict = v; spent = s.report.spent })
 tries-by given p others units s v e itself none sound sought is =
     let q = with_query p others in
     let same = bare-with p others none in
@@ -143,5 +145,6 @@ same-mode (Some mode) p query = refl
 pub same-about : (given : Options) (p : Program) (query : List ℤ) → about given p ≡ about given (with_query p query)
 same-about given p query = ap (λ (mode : Mode). record { mode = mode; models = 0; all_optima = false; by_name = false }) (same-mode given.mode p query)
 
-pub sought-query : (given : Options) (p : Program) (query : List ℤ) (ask : Ask) (units : ℕ) (s : Sought) → ask ≡ about given p → IsSought given (with_query p query) ask units s → IsSought given (with_query p query) (about given (with_query p query)) units s
+pub sought-query : (given : Options) (p : Program) (query : List ℤ) (ask : Ask) (units : ℕ) (s : Sought) → ask ≡ about given p →
+    IsSought given (with_query p query) ask units s → IsSought given (with_query p query) (about given (with_query p query)) units s
 sought-query given p query ask units s is sought = subst (λ (x : Ask). IsSought given (with_query p query) x units s) (is ∙ same-about given p query) sought

@@ -55,7 +55,8 @@ listed-once : (xs : List ℤ) (l : ℤ) → is_listed (dedup int_eq xs) l ≡ is
 listed-once [] l = refl
 listed-once (x ∷ xs) l = listed-once_from x xs l
 
-length-by : (k x : ℤ) (xs : List ℤ) (b : Bool) → length (dedup_from int_eq k xs) ≤ length xs + 1 → length (dedup_from int_eq x xs) ≤ length xs + 1 → length (cond b (dedup_from int_eq k xs) (k ∷ dedup_from int_eq x xs)) ≤ length (x ∷ xs) + 1
+length-by : (k x : ℤ) (xs : List ℤ) (b : Bool) → length (dedup_from int_eq k xs) ≤ length xs + 1 → length (dedup_from int_eq x xs) ≤ length xs + 1 →
+    length (cond b (dedup_from int_eq k xs) (k ∷ dedup_from int_eq x xs)) ≤ length (x ∷ xs) + 1
 length-by k x xs true one other = omega (arith, one)
 length-by k x xs false one other = omega (arith, other)
 
@@ -93,7 +94,8 @@ IsOther l k xs = (is_listed xs k ≡ true) × (int_eq k l ≡ false)
 other-more : (l k x : ℤ) (xs : List ℤ) → IsOther l k xs → IsOther l k (x ∷ xs)
 other-more l k x xs r = (or_right (int_eq x k) (is_listed xs k) r.0, r.1)
 
-other-by : (l k x : ℤ) (xs : List ℤ) (b : Bool) → int_eq x l ≡ b → (is_listed (without l xs) k ≡ true → IsOther l k xs) → is_listed (cond (not b) (x ∷ without l xs) (without l xs)) k ≡ true → IsOther l k (x ∷ xs)
+other-by : (l k x : ℤ) (xs : List ℤ) (b : Bool) → int_eq x l ≡ b → (is_listed (without l xs) k ≡ true → IsOther l k xs) →
+    is_listed (cond (not b) (x ∷ without l xs) (without l xs)) k ≡ true → IsOther l k (x ∷ xs)
 other-by l k x xs true e rest h = other-more l k x xs (rest h)
 other-by l k x xs false e rest h =
     either (IsOther l k (x ∷ xs)) (int_eq x k) (is_listed (without l xs) k) h

@@ -39,8 +39,10 @@ spends : (c : Option Core) (spent left units all : ℕ) → spent + left ≡ uni
 spends None spent left units all a b h = tt
 spends (Some c) spent left units all a b h = λ spent_all. let e = h spent_all in omega (arith, a, b, e)
 
-pub reply-is : (given : Options) (p : Program) (query : List ℤ) (units : ℕ) (s : Sought) (c : Option Core) (left spent : ℕ) → seeks_consequences (Some given.mode) ≡ false → IsSound (with_query p query)
-    → IsSought given (with_query p query) (about given (with_query p query)) units s → left ≡ units - s.report.spent → IsReason given.core_min p (p.assumptions ++ query) (is_refuted s.report.results) left c
+pub reply-is : (given : Options) (p : Program) (query : List ℤ) (units : ℕ) (s : Sought) (c : Option Core) (left spent : ℕ) →
+    seeks_consequences (Some given.mode) ≡ false → IsSound (with_query p query)
+    → IsSought given (with_query p query) (about given (with_query p query)) units s → left ≡ units - s.report.spent →
+    IsReason given.core_min p (p.assumptions ++ query) (is_refuted s.report.results) left c
     → spent ≡ s.report.spent + spent_in c → IsReply given p query units (record { sought = s; core = c; spent = spent })
 reply-is given p query units s c left spent e sound sought rest reason all =
     let b = sought.report.budget in
@@ -74,14 +76,14 @@ pub step-means : (given : Options) (p : Program) (query : List ℤ) (number : �
 step-means given p query number c held held' w w' x (Ok d) is text quiet goes = (record { x = x; is = is; text = text; goes = goes }, quiet)
 step-means given p query number c held held' w w' x (Err Partial) is text quiet goes = (record { x = x; is = is; text = text; goes = goes }, quiet)
 step-means given p query number c held held' w w' x (Err Unknown) is text quiet goes = (record { x = x; is = is; text = text; goes = goes }, quiet)
-step-means given p query number c held held' w w' x (Err status) is text quiet goes = absurd goes
+step-means given p query number c held held' w w' x (Err end) is text quiet goes = absurd goes
 
 -- what follows a reply doesn't say that the sink failed
 pub goes-closed : (c : Course) (x : Answered) (result : Result Course SeriesEnd) (is_closed : Bool) → GoesOn c x result → IfErr result (λ s. TellsClosed s is_closed)
 goes-closed c x (Ok d) is_closed goes = tt
 goes-closed c x (Err Partial) is_closed goes = tt
 goes-closed c x (Err Unknown) is_closed goes = tt
-goes-closed c x (Err status) is_closed goes = absurd goes
+goes-closed c x (Err end) is_closed goes = absurd goes
 
 pub goes-sent : (result : Result Course SeriesEnd) (is_sent : Bool) → is_sent ≡ true → IfErr result (λ s. IsSentOn s is_sent)
 goes-sent (Ok d) is_sent sent = tt
@@ -92,9 +94,11 @@ goes-sent_on (Ok d) is_sent sent = sent
 goes-sent_on (Err s) is_sent sent = tt
 
 -- a front of the text of a reply was written
-pub breaks : (given : Options) (p : Program) (query : List ℤ) (number : ℕ) (c : Course) (held held' : Option (List ℕ)) (w w' : ℕ) (y : Reply) (text : List ℕ) → IsReply given p query c.left y → text ≡ answered_text given p query number (answered_of y)
+pub breaks : (given : Options) (p : Program) (query : List ℤ) (number : ℕ) (c : Course) (held held' : Option (List ℕ)) (w w' : ℕ) (y : Reply)
+    (text : List ℕ) → IsReply given p query c.left y → text ≡ answered_text given p query number (answered_of y)
     → AppendsFront held held' text → Rose w w' → w ≤ w' → Breaks given p query number c held held' w w'
-breaks given p query number c held held' w w' y text reply same front rose later = record { x = answered_of y; is = reply.answered; text = subst (AppendsFront held held') same front; cause = rose; later = later }
+breaks given p query number c held held' w w' y text reply same front rose later =
+    record { x = answered_of y; is = reply.answered; text = subst (AppendsFront held held') same front; cause = rose; later = later }
 
 -- ---- one more query
 nothing-left : {A : Type 0} (n : ℕ) (x : A) (xs : List A) → drop n [] ≡ x ∷ xs → ⊥
@@ -112,7 +116,8 @@ done-parts false b e = absurd (false≢true e)
 not-open : (x : Answered) → is_done x.done.results.end ≡ true → is_open x ≡ true → ⊥
 not-open x done o = false≢true (sym (ap not done) ∙ o)
 
-pub answered-push : (given : Options) (p : Program) (queries : List (List ℤ)) (query : List ℤ) (rest : List (List ℤ)) (units : ℕ) (xs : List Answered) (x : Answered) (left : ℕ) → drop (length xs) queries ≡ query ∷ rest
+pub answered-push : (given : Options) (p : Program) (queries : List (List ℤ)) (query : List ℤ) (rest : List (List ℤ)) (units : ℕ) (xs : List Answered)
+    (x : Answered) (left : ℕ) → drop (length xs) queries ≡ query ∷ rest
     → AreAnswered given p queries units xs left → all_done xs ≡ true → IsAnsweredBy given p query left x → AreAnswered given p queries units (xs ++ x ∷ []) (left - x.spent)
 answered-push given p [] query rest units [] x left at are done is = absurd (nothing-left zero query rest at)
 answered-push given p [] query rest units (y ∷ xs) x left at are done is = absurd are
@@ -126,7 +131,8 @@ answered-push given p (q ∷ queries) query rest units (y ∷ xs) x left at are 
     let both = done-parts (is_done y.done.results.end) (all_done xs) done in
     (are.0, λ o. absurd (not-open y both.0 o), answered-push given p queries query rest (units - y.spent) xs x left at are.2 both.1 is)
 
-pub text-push : (given : Options) (p : Program) (queries : List (List ℤ)) (query : List ℤ) (rest : List (List ℤ)) (units n : ℕ) (xs : List Answered) (x : Answered) (left : ℕ) → drop (length xs) queries ≡ query ∷ rest
+pub text-push : (given : Options) (p : Program) (queries : List (List ℤ)) (query : List ℤ) (rest : List (List ℤ)) (units n : ℕ) (xs : List Answered)
+    (x : Answered) (left : ℕ) → drop (length xs) queries ≡ query ∷ rest
     → AreAnswered given p queries units xs left → series_text given p queries n (xs ++ x ∷ []) ≡ series_text given p queries n xs ++ answered_text given p query (n + length xs) x
 text-push given p [] query rest units n [] x left at are = absurd (nothing-left zero query rest at)
 text-push given p [] query rest units n (y ∷ xs) x left at are = absurd are
@@ -164,29 +170,34 @@ model-push (y ∷ xs) x = by (has_model y.done.results) (model-push xs x)
     by false h = h
 
 -- the place of the next query
-next-at : (count : ℕ) (queries : List (List ℤ)) (xs : List Answered) (query : List ℤ) (rest : List (List ℤ)) → length xs ≡ count → drop count queries ≡ query ∷ rest → drop (length xs) queries ≡ query ∷ rest
+next-at : (count : ℕ) (queries : List (List ℤ)) (xs : List Answered) (query : List ℤ) (rest : List (List ℤ)) → length xs ≡ count →
+    drop count queries ≡ query ∷ rest → drop (length xs) queries ≡ query ∷ rest
 next-at count queries xs query rest is at = ap (λ (n : ℕ). drop n queries) is ∙ at
 
 -- the text with one more
-text-more : (given : Options) (s : Series) (count : ℕ) (query : List ℤ) (rest : List (List ℤ)) (held held' held'' : Option (List ℕ)) (w w' : ℕ) (c : Course) (x : Answered) → (at : IsAt given s.program s.queries held held' w w' count c)
+text-more : (given : Options) (s : Series) (count : ℕ) (query : List ℤ) (rest : List (List ℤ)) (held held' held'' : Option (List ℕ)) (w w' : ℕ)
+    (c : Course) (x : Answered) → (at : IsAt given s.program s.queries held held' w w' count c)
     → drop count s.queries ≡ query ∷ rest → text_of given s (at.xs ++ x ∷ []) ≡ text_of given s at.xs ++ answered_text given s.program query (count + 1) x
 text-more given s count query rest held held' held'' w w' c x at next =
     text-push given s.program s.queries query rest given.budget 1 at.xs x c.left (next-at count s.queries at.xs query rest at.count_is next) at.answered
     ∙ ap (λ (k : ℕ). text_of given s at.xs ++ answered_text given s.program query k x) (let e = at.count_is in let f : 1 + length at.xs ≡ count + 1 = omega (arith, e) in f)
 
-some-more : (given : Options) (s : Series) (count : ℕ) (query : List ℤ) (rest : List (List ℤ)) (held held' : Option (List ℕ)) (w w' : ℕ) (c : Course) (x : Answered) → (at : IsAt given s.program s.queries held held' w w' count c)
+some-more : (given : Options) (s : Series) (count : ℕ) (query : List ℤ) (rest : List (List ℤ)) (held held' : Option (List ℕ)) (w w' : ℕ) (c : Course)
+    (x : Answered) → (at : IsAt given s.program s.queries held held' w w' count c)
     → drop count s.queries ≡ query ∷ rest → IsAnsweredBy given s.program query c.left x → AreAnswered given s.program s.queries given.budget (at.xs ++ x ∷ []) (c.left - x.spent)
 some-more given s count query rest held held' w w' c x at next is =
     answered-push given s.program s.queries query rest given.budget at.xs x c.left (next-at count s.queries at.xs query rest at.count_is next) at.answered at.done is
 
-pub at-more : (given : Options) (s : Series) (count : ℕ) (query : List ℤ) (rest : List (List ℤ)) (held held' held'' : Option (List ℕ)) (w w' w'' : ℕ) (c d : Course) → IsAt given s.program s.queries held held' w w' count c
+pub at-more : (given : Options) (s : Series) (count : ℕ) (query : List ℤ) (rest : List (List ℤ)) (held held' held'' : Option (List ℕ)) (w w' w'' : ℕ)
+    (c d : Course) → IsAt given s.program s.queries held held' w w' count c
     → drop count s.queries ≡ query ∷ rest → StepMeans given s.program query (count + 1) c held' held'' w' w'' (Ok d) → IsAt given s.program s.queries held held'' w w'' (count + 1) d
 at-more given s count query rest held held' held'' w w' w'' c d at next step =
     let x = step.0.x in
     let is = step.0.goes.1 in
     record {
       xs = at.xs ++ x ∷ [];
-      answered = subst (λ (y : Course). AreAnswered given s.program s.queries given.budget (at.xs ++ x ∷ []) y.left) (sym is) (some-more given s count query rest held held' w w' c x at next step.0.is);
+      answered = subst (λ (y : Course). AreAnswered given s.program s.queries given.budget (at.xs ++ x ∷ []) y.left) (sym is)
+          (some-more given s count query rest held held' w w' c x at next step.0.is);
       count_is = length-append at.xs (x ∷ []) ∙ ap (λ (n : ℕ). n + 1) at.count_is;
       done = done-push at.xs x at.done ∙ step.0.goes.0;
       any = model-push at.xs x ∙ ap (λ (b : Bool). b || has_model x.done.results) at.any ∙ sym (ap (λ (y : Course). y.any) is);
@@ -195,8 +206,9 @@ at-more given s count query rest held held' held'' w w' w'' c d at next step =
     }
 
 -- the end at a query
-pub at-stops : (given : Options) (s : Series) (count : ℕ) (query : List ℤ) (rest : List (List ℤ)) (held held' held'' : Option (List ℕ)) (w w' w'' : ℕ) (c : Course) (end : SeriesEnd) → IsAt given s.program s.queries held held' w w' count c
-    → drop count s.queries ≡ query ∷ rest → StepMeans given s.program query (count + 1) c held' held'' w' w'' (Err status) → Asks given s held held'' w w'' status
+pub at-stops : (given : Options) (s : Series) (count : ℕ) (query : List ℤ) (rest : List (List ℤ)) (held held' held'' : Option (List ℕ)) (w w' w'' : ℕ)
+    (c : Course) (end : SeriesEnd) → IsAt given s.program s.queries held held' w w' count c
+    → drop count s.queries ≡ query ∷ rest → StepMeans given s.program query (count + 1) c held' held'' w' w'' (Err end) → Asks given s held held'' w w'' end
 at-stops given s count query rest held held' held'' w w' w'' c Partial at next step =
     let x = step.0.x in
     record {
@@ -242,11 +254,11 @@ at-stops given s count query rest held held' held'' w w' w'' c (WriteFault close
       };
       later = let l = step.later in omega (arith, b, l);
     }
-at-stops given s count query rest held held' held'' w w' w'' c status at next step = absurd step
+at-stops given s count query rest held held' held'' w w' w'' c end at next step = absurd step
 
 -- ---- the end of a series
 pub settled : (given : Options) (s : Series) (held held' held'' : Option (List ℕ)) (w w' w'' : ℕ) (c : Course) (end : SeriesEnd) → IsAt given s.program s.queries held held' w w' (length s.queries) c
-    → Keeps held' held'' → w' ≤ w'' → EndMeans c.any w' w'' status → Asks given s held held'' w w'' status
+    → Keeps held' held'' → w' ≤ w'' → EndMeans c.any w' w'' end → Asks given s held held'' w w'' end
 settled given s held held' held'' w w' w'' c All at kept later means = record {
   means = record {
     xs = at.xs;
@@ -276,28 +288,32 @@ settled given s held held' held'' w w' w'' c (WriteFault closed) at kept later m
   };
   later = let a = at.quiet in omega (arith, a, later);
 }
-settled given s held held' held'' w w' w'' c status at kept later means = absurd means
+settled given s held held' held'' w w' w'' c end at kept later means = absurd means
 
 -- a fault of the sink is told
-pub asks-flushed : (given : Options) (s : Series) (count : ℕ) (held held' held'' : Option (List ℕ)) (w w' w'' : ℕ) (c : Course) (query : List ℤ) (number : ℕ) (end : SeriesEnd) → IsAt given s.program s.queries held held' w w' count c
-    → StepMeans given s.program query number c held' held'' w' w'' (Err status) → TellsFaults w w'' status
+pub asks-flushed : (given : Options) (s : Series) (count : ℕ) (held held' held'' : Option (List ℕ)) (w w' w'' : ℕ) (c : Course) (query : List ℤ)
+    (number : ℕ) (end : SeriesEnd) → IsAt given s.program s.queries held held' w w' count c
+    → StepMeans given s.program query number c held' held'' w' w'' (Err end) → TellsFaults w w'' end
 asks-flushed given s count held held' held'' w w' w'' c query number Partial at step = λ kept. step.1 ∙ at.quiet
 asks-flushed given s count held held' held'' w w' w'' c query number Unknown at step = λ kept. step.1 ∙ at.quiet
 asks-flushed given s count held held' held'' w w' w'' c query number Memory at step = λ kept. step.1 ∙ at.quiet
 asks-flushed given s count held held' held'' w w' w'' c query number (WriteFault closed) at step = λ kept. absurd (kept (closed, refl))
-asks-flushed given s count held held' held'' w w' w'' c query number status at step = absurd step
+asks-flushed given s count held held' held'' w w' w'' c query number end at step = absurd step
 
-pub end-flushed : (any : Bool) (w w' w'' : ℕ) (end : SeriesEnd) → w' ≡ w → EndMeans any w' w'' status → TellsFaults w w'' status
+pub end-flushed : (any : Bool) (w w' w'' : ℕ) (end : SeriesEnd) → w' ≡ w → EndMeans any w' w'' end → TellsFaults w w'' end
 end-flushed any w w' w'' All quiet means = λ kept. means.1 ∙ quiet
 end-flushed any w w' w'' NoModel quiet means = λ kept. means.1 ∙ quiet
 end-flushed any w w' w'' (WriteFault closed) quiet means = λ kept. absurd (kept (closed, refl))
-end-flushed any w w' w'' status quiet means = absurd means
+end-flushed any w w' w'' end quiet means = absurd means
 
 -- ---- the next of the queries
 pub next-query : (queries read : List (List ℤ)) (i : ℕ) (x y : List ℤ) → read ≡ queries → i < length read → x ≡ get_or read i x → y ≡ x → drop i queries ≡ y ∷ drop (i + 1) queries
 next-query queries read i x y same within at is =
     subst (λ (qs : List (List ℤ)). drop i qs ≡ y ∷ drop (i + 1) qs) same (subst (λ (q : List ℤ). drop i read ≡ q ∷ drop (i + 1) read) (sym is) (drop_turn read i x within at))
 
-pub sound-query : (p : Program) (queries read : List (List ℤ)) (i : ℕ) (x y : List ℤ) → read ≡ queries → i < length read → x ≡ get_or read i x → y ≡ x → AllByRecursion (λ q. IsSound (with_query p q)) queries → IsSound (with_query p y)
+pub sound-query : (p : Program) (queries read : List (List ℤ)) (i : ℕ) (x y : List ℤ) → read ≡ queries → i < length read → x ≡ get_or read i x →
+    y ≡ x → AllByRecursion (λ q. IsSound (with_query p q)) queries → IsSound (with_query p y)
 sound-query p queries read i x y same within at is all =
-    subst (λ (q : List ℤ). IsSound (with_query p q)) (sym (is ∙ at)) (at_each (λ (q : List ℤ). IsSound (with_query p q)) read i x (subst (AllByRecursion (λ (q : List ℤ). IsSound (with_query p q))) (sym same) all) within)
+    subst (λ (q : List ℤ). IsSound (with_query p q)) (sym (is ∙ at))
+    (at_each (λ (q : List ℤ). IsSound (with_query p q)) read i x
+    (subst (AllByRecursion (λ (q : List ℤ). IsSound (with_query p q))) (sym same) all) within)

@@ -62,7 +62,8 @@ least-reason p literals all units c sound bare same least = record {
 }
 
 -- all that was assumed
-pub whole-reason : (p : Program) (literals all : List ℤ) (units : ℕ) → AreSame literals all → Refutes p literals → IsReason false p literals true units (Some (record { literals = all; minimal = false; spent = 0 }))
+pub whole-reason : (p : Program) (literals all : List ℤ) (units : ℕ) → AreSame literals all → Refutes p literals →
+    IsReason false p literals true units (Some (record { literals = all; minimal = false; spent = 0 }))
 whole-reason p literals all units same none = record {
   core = (record { among = λ l h. sym (same.same l) ∙ h; suffices = refutes-more p literals all (λ l h. same.same l ∙ h) none }, λ e. absurd (false≢true e));
   paid = omega arith;

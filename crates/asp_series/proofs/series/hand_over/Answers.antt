@@ -27,4 +27,5 @@ pub returns-in-Err-clause-means : goal.returns-in-Err-clause-means
 returns-in-Err-clause-means g c =
     let x = c.args.asking.now in
     breaks x.options.now x.program.now x.literals.now c.args.number c.args.course _ _ _ _ c.args.reply.now _ c.requires.reply
-    (text-answered x.options.now x.program.now x.literals.now c.args.course.left c.args.number c.args.reply.now c.requires.plain c.requires.reply) c.in-Err.ensures.writes.front c.in-Err.ensures.writes.cause c.in-Err.ensures.writes.later
+    (text-answered x.options.now x.program.now x.literals.now c.args.course.left c.args.number c.args.reply.now c.requires.plain c.requires.reply)
+    c.in-Err.ensures.writes.front c.in-Err.ensures.writes.cause c.in-Err.ensures.writes.later
