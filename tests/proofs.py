@@ -13,7 +13,7 @@ line of a loop for each supported set that isn't stable. So no proof was made by
 import random
 import subprocess
 import sys
-from itertools import product
+from itertools import accumulate, product
 
 import reference
 
@@ -191,7 +191,8 @@ def placed(line):
 
 
 def proof_of(numbered, mode, answers, lines):
-    return "\n".join(["proof 2", mode] + [f"a {counted(sorted(s))}" for s in answers] + [placed(it) for it in lines] + ["0", ""])
+    changes = [sorted(set(s) ^ set(before)) for s, before in zip(answers, [set(), *answers])]
+    return "\n".join(["proof 2", mode] + [f"a {counted(it)}" for it in changes] + [placed(it) for it in lines] + ["0", ""])
 
 
 def needed(numbered, mode, answers, lines, is_a_yes):
@@ -205,7 +206,8 @@ def needed(numbered, mode, answers, lines, is_a_yes):
 
 # ---- what is changed
 def is_right(numbered, mode, text):
-    answers = [set(map(int, line.split()[2:])) for line in text.split("\n") if line.startswith("a ")]
+    changes = (set(map(int, line.split()[2:])) for line in text.split("\n") if line.startswith("a "))
+    answers = list(accumulate(changes, set.symmetric_difference))
     all_of_them = list(reference.answers(numbered.program))
     if mode == "enum":
         return len(answers) == len(all_of_them) and all(s in all_of_them for s in answers)

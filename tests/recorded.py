@@ -49,7 +49,12 @@ def without_an_answer(proof, choose):
     answers = [it for it, line in enumerate(lines) if line.startswith(b"a ")]
     if not answers:
         return None
-    del lines[choose.choice(answers)]
+    out = choose.choice(answers)
+    if out + 1 in answers:
+        # The next one then differs from the one before both.
+        one, other = (set(map(int, lines[at].split()[2:])) for at in (out, out + 1))
+        lines[out + 1] = b" ".join([b"a", *(b"%d" % it for it in (len(one ^ other), *sorted(one ^ other)))])
+    del lines[out]
     return b"\n".join(lines)
 
 

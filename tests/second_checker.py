@@ -149,7 +149,7 @@ def read_smodels(text):
     return program.finish()
 
 
-# ---- proofs: the lines after the first two, as they come, each with its place, its set and its nogood. Names aren't looked at.
+# ---- proofs: the lines after the first two, as they come, each with its place, its set or change and its nogood. Names aren't looked at.
 def counted(numbers):
     need(numbers and 0 <= numbers[0] < len(numbers), PROOF)
     return numbers[1:numbers[0] + 1], numbers[numbers[0] + 1:]
@@ -346,6 +346,7 @@ def judge(program, text):
     assumed = set()
     for number, (kind, place, atoms, nogood) in enumerate(lines_of_proof(rest[0]), 3):
         if kind == b"a":
+            atoms = sorted(set(atoms) ^ set(sets[-1] if sets else []))
             if sets and (is_opt or min(set(atoms) ^ set(sets[-1]), default=0) not in atoms):
                 return 2, number
             if not program.atoms >= set(atoms):

@@ -42,7 +42,8 @@ answer_range p S n size = (answers_range p (S ∷ []) n size).0
 made : (v w : ℕ) (s t : Bool) (l : Literal) → l ≡ record { var = v; truth = s } → v ≡ w → s ≡ t → l ≡ record { var = w; truth = t }
 made v w s t l is var truth = is ∙ ap (λ u. let m : Literal = record { var = u; truth = s } in m) var ∙ ap (λ b. let m : Literal = record { var = w; truth = b } in m) truth
 
-literal_at : (p : Program) (S : Atoms) (i v : ℕ) (t : Bool) (l : Literal) → i < length (atoms_of p) → l ≡ record { var = v; truth = t } → v ≡ i + 1 → t ≡ has S (nth_atom p i) → l ≡ get_or (nogood_of_answer p S) i l
+literal_at : (p : Program) (S : Atoms) (i v : ℕ) (t : Bool) (l : Literal) → i < length (atoms_of p) → l ≡ record { var = v; truth = t } → v ≡ i + 1 →
+    t ≡ has S (nth_atom p i) → l ≡ get_or (nogood_of_answer p S) i l
 literal_at p S i v t l lt is var truth =
     made v (var_of_atom p (nth_atom p i)) t (has S (nth_atom p i)) l is (var ∙ add-one i ∙ sym (var_of_nth_atom p i lt)) truth
     ∙ sym (get_or-map (λ a. let m : Literal = record { var = var_of_atom p a; truth = has S a } in m) (atoms_of p) i 0 l lt)
@@ -50,7 +51,8 @@ literal_at p S i v t l lt is var truth =
 size_is : (p : Program) (S : Atoms) → length (nogood_of_answer p S) ≡ length (atoms_of p)
 size_is p S = length-map (atoms_of p) (λ a. let m : Literal = record { var = var_of_atom p a; truth = has S a } in m)
 
-pub answer_more : (p : Program) (S : Atoms) (x : List (Option Bool)) (i v : ℕ) (t : Bool) (l : Literal) (before now : Look) → i < length (atoms_of p) → l ≡ record { var = v; truth = t } → v ≡ i + 1 → t ≡ has S (nth_atom p i) →
+pub answer_more : (p : Program) (S : Atoms) (x : List (Option Bool)) (i v : ℕ) (t : Bool) (l : Literal) (before now : Look) →
+    i < length (atoms_of p) → l ≡ record { var = v; truth = t } → v ≡ i + 1 → t ≡ has S (nth_atom p i) →
     ((n : List Literal) → IsSeen x n before → IsSeen x (n ++ l ∷ []) now) → IsSeen x (take i (nogood_of_answer p S)) before → IsSeen x (take (i + 1) (nogood_of_answer p S)) now
 answer_more p S x i v t l before now lt is var truth more h =
     let size = size_is p S in
@@ -59,7 +61,8 @@ answer_more p S x i v t l before now lt is var truth more h =
 pub answer_missed : (p : Program) (S : Atoms) (x : List (Option Bool)) (i : ℕ) (now : Look) → now ≡ look.Fixpoint → IsSeen x (take i (nogood_of_answer p S)) now → IsAtFixpoint x (nogood_of_answer p S)
 answer_missed p S x i now e h = fixpoint_whole x (nogood_of_answer p S) i (subst (IsSeen x (take i (nogood_of_answer p S))) e h)
 
-pub answer_whole : (p : Program) (S : Atoms) (x : List (Option Bool)) (i : ℕ) (now : Look) → length (atoms_of p) ≤ i → IsSeen x (take i (nogood_of_answer p S)) now → IsSeen x (nogood_of_answer p S) now
+pub answer_whole : (p : Program) (S : Atoms) (x : List (Option Bool)) (i : ℕ) (now : Look) → length (atoms_of p) ≤ i →
+    IsSeen x (take i (nogood_of_answer p S)) now → IsSeen x (nogood_of_answer p S) now
 answer_whole p S x i now le h = let size = size_is p S in seen_whole x (nogood_of_answer p S) i now (omega (arith, size, le)) h
 
 -- the nogood of the answer at a place
@@ -73,20 +76,26 @@ answer_count p Ss = length-map Ss (nogood_of_answer p)
 pub with_answers : (p : Program) (Ss : List Atoms) (rows : List (List Literal)) → AllByRecursion (AreOf p) rows → AllByRecursion (AreOf p) (map (nogood_of_answer p) Ss ++ rows)
 with_answers p Ss rows of = each-append (AreOf p) (map (nogood_of_answer p) Ss) rows (answers_of p Ss) of
 
-pub all_of_program : (p : Program) (Ss : List Atoms) (rows placed : List (List Literal)) → AllByRecursion (AreOf p) rows → AllByRecursion (AreOf p) placed → AllByRecursion (AreOf p) (placed ++ (map (nogood_of_answer p) Ss ++ rows))
+pub all_of_program : (p : Program) (Ss : List Atoms) (rows placed : List (List Literal)) → AllByRecursion (AreOf p) rows →
+    AllByRecursion (AreOf p) placed → AllByRecursion (AreOf p) (placed ++ (map (nogood_of_answer p) Ss ++ rows))
 all_of_program p Ss rows placed of also = each-append (AreOf p) placed (map (nogood_of_answer p) Ss ++ rows) also (with_answers p Ss rows of)
 
 -- ---- the same with nogoods in places
-stocked : (p : Program) (Ss : List Atoms) (rows placed : List (List Literal)) (bound : Option Bound) → AllByRecursion (AreOf p) rows → AllByRecursion (AreOf p) placed → AreNogoodsOf p (all_of (stock (known_with p Ss rows bound) placed)) (placed ++ (map (nogood_of_answer p) Ss ++ rows))
+stocked : (p : Program) (Ss : List Atoms) (rows placed : List (List Literal)) (bound : Option Bound) → AllByRecursion (AreOf p) rows →
+    AllByRecursion (AreOf p) placed → AreNogoodsOf p (all_of (stock (known_with p Ss rows bound) placed))
+    (placed ++ (map (nogood_of_answer p) Ss ++ rows))
 stocked p Ss rows placed bound of also = nogoods_known p (placed ++ (map (nogood_of_answer p) Ss ++ rows)) bound (all_of_program p Ss rows placed of also)
 
-pub placed_stocked : (p : Program) (Ss : List Atoms) (rows placed : List (List Literal)) (bound : Option Bound) → AllByRecursion (AreOf p) rows → AllByRecursion (AreOf p) placed → AreNogoodsOf p (all_of (stock (known_with p Ss rows bound) placed)) placed
+pub placed_stocked : (p : Program) (Ss : List Atoms) (rows placed : List (List Literal)) (bound : Option Bound) → AllByRecursion (AreOf p) rows →
+    AllByRecursion (AreOf p) placed → AreNogoodsOf p (all_of (stock (known_with p Ss rows bound) placed)) placed
 placed_stocked p Ss rows placed bound of also = each-front _ placed (map (nogood_of_answer p) Ss ++ rows) (stocked p Ss rows placed bound of also)
 
-pub answers_stocked : (p : Program) (Ss : List Atoms) (rows placed : List (List Literal)) (bound : Option Bound) → AllByRecursion (AreOf p) rows → AllByRecursion (AreOf p) placed → AreNogoodsOf p (all_of (stock (known_with p Ss rows bound) placed)) (map (nogood_of_answer p) Ss)
+pub answers_stocked : (p : Program) (Ss : List Atoms) (rows placed : List (List Literal)) (bound : Option Bound) → AllByRecursion (AreOf p) rows →
+    AllByRecursion (AreOf p) placed → AreNogoodsOf p (all_of (stock (known_with p Ss rows bound) placed)) (map (nogood_of_answer p) Ss)
 answers_stocked p Ss rows placed bound of also = each-front _ (map (nogood_of_answer p) Ss) rows (back-append _ placed (map (nogood_of_answer p) Ss ++ rows) (stocked p Ss rows placed bound of also))
 
-pub rows_stocked : (p : Program) (Ss : List Atoms) (rows placed : List (List Literal)) (bound : Option Bound) → AllByRecursion (AreOf p) rows → AllByRecursion (AreOf p) placed → AreNogoodsOf p (all_of (stock (known_with p Ss rows bound) placed)) rows
+pub rows_stocked : (p : Program) (Ss : List Atoms) (rows placed : List (List Literal)) (bound : Option Bound) → AllByRecursion (AreOf p) rows →
+    AllByRecursion (AreOf p) placed → AreNogoodsOf p (all_of (stock (known_with p Ss rows bound) placed)) rows
 rows_stocked p Ss rows placed bound of also = back-append _ (map (nogood_of_answer p) Ss) rows (back-append _ placed (map (nogood_of_answer p) Ss ++ rows) (stocked p Ss rows placed bound of also))
 
 pub one_behind : (first rows new : List (List Literal)) (n : List Literal) → new ≡ rows ++ n ∷ [] → first ++ new ≡ (first ++ rows) ++ n ∷ []

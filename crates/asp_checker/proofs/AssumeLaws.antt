@@ -32,7 +32,8 @@ not_contrary y l a b =
     differ false e = cc
 
 -- A literal of the line follows from the line.
-assumed_follows : (p : Program) (k : Known) (n : List Literal) (x : List (Option Bool)) (i : ℕ) (l : Literal) → i < length n → l ≡ get_or n i l → l.var < length x → Follow p k n x → Follow p k n (set x l.var (Some l.truth))
+assumed_follows : (p : Program) (k : Known) (n : List Literal) (x : List (Option Bool)) (i : ℕ) (l : Literal) → i < length n → l ≡ get_or n i l →
+    l.var < length x → Follow p k n x → Follow p k n (set x l.var (Some l.truth))
 assumed_follows p k n x i l lt e inside follow y propagated h v b is = cases (eqb v l.var) refl
   where
     cases : (t : Bool) → t ≡ eqb v l.var → value_of y v ≡ Some b
@@ -46,7 +47,8 @@ assumed_follows p k n x i l lt e inside follow y propagated h v b is = cases (eq
         follow y propagated h v b (sym (get_or-set_other x l.var v (Some l.truth) None apart) ∙ is)
 
 -- Where a literal fails, two of the line's are contrary.
-fails_refuted : (p : Program) (k : Known) (n : List Literal) (x : List (Option Bool)) (i : ℕ) (l : Literal) → i < length n → l ≡ get_or n i l → holds_in x (complement l) ≡ true → Follow p k n x → LeadsToConflict p k n
+fails_refuted : (p : Program) (k : Known) (n : List Literal) (x : List (Option Bool)) (i : ℕ) (l : Literal) → i < length n → l ≡ get_or n i l →
+    holds_in x (complement l) ≡ true → Follow p k n x → LeadsToConflict p k n
 fails_refuted p k n x i l lt e fails follow = record { none = λ y propagated. cases y propagated (list_all (holds_in y) n) refl }
   where
     cases : (y : List (Option Bool)) → IsPropagated p k y → (b : Bool) → b ≡ list_all (holds_in y) n → list_all (holds_in y) n ≡ false
@@ -71,7 +73,9 @@ held_more x l m inside open_or_held h = cases (eqb m.var l.var) refl
         let same : m.var ≡ l.var = eqb-true m.var l.var (sym q) in
         let was : value_of x l.var ≡ Some m.truth = ap (value_of x) (sym same) ∙ value-held x m h in
         let truth : m.truth ≡ l.truth = some_false m.truth l (ap (λ o. agrees o (complement l)) (sym was) ∙ open_or_held) in
-        held-value (set x l.var (Some l.truth)) m (ap (value_of (set x l.var (Some l.truth))) same ∙ get_or-set_same x l.var (Some l.truth) None inside ∙ ap (λ t. let o : Option Bool = Some t in o) (sym truth))
+        held-value (set x l.var (Some l.truth)) m
+        (ap (value_of (set x l.var (Some l.truth))) same ∙ get_or-set_same x l.var (Some l.truth) None inside
+        ∙ ap (λ t. let o : Option Bool = Some t in o) (sym truth))
     cases false q =
         let apart : m.var ≢ l.var = λ same. false≢true (q ∙ eq-eqb m.var l.var same) in
         held-value (set x l.var (Some l.truth)) m (get_or-set_other x l.var m.var (Some l.truth) None apart ∙ value-held x m h)
@@ -88,7 +92,8 @@ one_more y (m ∷ n) l h e = let parts = and_parts (holds_in y m) (list_all (hol
 pub none_held : (x : List (Option Bool)) (n : List Literal) → AreHeld x x (take 0 n) n
 none_held x n = record { size = refl; hold = refl; follow = λ p k f. f }
 
-pub held_next : (x z y : List (Option Bool)) (n : List Literal) (i : ℕ) (l : Literal) → i < length n → l ≡ get_or n i l → l.var < length z → AreHeld x z (take i n) n → IsAssumed z y l true → AreHeld x y (take (i + 1) n) n
+pub held_next : (x z y : List (Option Bool)) (n : List Literal) (i : ℕ) (l : Literal) → i < length n → l ≡ get_or n i l → l.var < length z →
+    AreHeld x z (take i n) n → IsAssumed z y l true → AreHeld x y (take (i + 1) n) n
 held_next x z y n i l lt e inside h assumed =
     let w : List (Option Bool) = set z l.var (Some l.truth) in
     let here : holds_in w l ≡ true = held-value w l (get_or-set_same z l.var (Some l.truth) None inside) in
@@ -100,7 +105,8 @@ held_next x z y n i l lt e inside h assumed =
       follow = λ p k f. assumed_follows p k n z i l lt e inside (h.follow p k f);
     })
 
-pub contrary_found : (x z y : List (Option Bool)) (n : List Literal) (i : ℕ) (l : Literal) → i < length n → l ≡ get_or n i l → AreHeld x z (take i n) n → IsAssumed z y l false → AreAssumed x y n n false
+pub contrary_found : (x z y : List (Option Bool)) (n : List Literal) (i : ℕ) (l : Literal) → i < length n → l ≡ get_or n i l →
+    AreHeld x z (take i n) n → IsAssumed z y l false → AreAssumed x y n n false
 contrary_found x z y n i l lt e h fails = λ p k f. fails_refuted p k n z i l lt e fails (h.follow p k f)
 
 pub held_whole : (x y : List (Option Bool)) (n : List Literal) (i : ℕ) → length n ≤ i → AreHeld x y (take i n) n → AreAssumed x y n n true

@@ -54,7 +54,8 @@ each_at P (x ∷ xs) d h = (h 0 (omega arith), each_at P xs d (λ j lt. h (suc j
 bodies-weighted : (p : Program) → IsSound p → AllByRecursion (λ b. AreItems (form_items b)) (bodies_of p)
 bodies-weighted p sound = each_at (λ b. AreItems (form_items b)) (bodies_of p) (body.All []) (λ j lt. nth_weighted p j sound lt)
 
-each_broken : (p : Program) (x y : List (Option Bool)) (bs : List Body) → AllByRecursion (λ b. AreItems (form_items b)) bs → AreWithin x y → AllByRecursion (λ b. is_broken p x b ≡ true → is_broken p y b ≡ true) bs
+each_broken : (p : Program) (x y : List (Option Bool)) (bs : List Body) → AllByRecursion (λ b. AreItems (form_items b)) bs → AreWithin x y →
+    AllByRecursion (λ b. is_broken p x b ≡ true → is_broken p y b ≡ true) bs
 each_broken p x y [] h within = tt
 each_broken p x y (b ∷ bs) h within = (broken-more p x y b h.0 within, each_broken p x y bs h.1 within)
 
@@ -89,7 +90,8 @@ reaches-more p (Some c) x y within e =
 
 pub blocked-more : (p : Program) (bound : Option (List ℤ)) (x y : List (Option Bool)) → IsSound p → AreWithin x y → is_blocked p bound x ≡ true → is_blocked p bound y ≡ true
 blocked-more p bound x y sound within e = elim (or_cases (list_any (is_broken p x) (bodies_of p)) (reaches_bound p bound x) e) [
-  | inl h ↦ or_left (list_any (is_broken p y) (bodies_of p)) (reaches_bound p bound y) (list_any-weaker (is_broken p x) (is_broken p y) (bodies_of p) (each_broken p x y (bodies_of p) (bodies-weighted p sound) within) h)
+  | inl h ↦ or_left (list_any (is_broken p y) (bodies_of p)) (reaches_bound p bound y)
+      (list_any-weaker (is_broken p x) (is_broken p y) (bodies_of p) (each_broken p x y (bodies_of p) (bodies-weighted p sound) within) h)
   | inr h ↦ or_right (list_any (is_broken p y) (bodies_of p)) (reaches_bound p bound y) (reaches-more p bound x y within h)
 ]
 
@@ -182,23 +184,28 @@ set_back x v b none = set-set x v (Some b) None ∙ ap (set x v) (sym none) ∙ 
 abbrev lit : ℕ → Bool → Literal
 lit v t = record { var = v; truth = t }
 
-implied_lit : (p : Program) (bound : Option (List ℤ)) (x : List (Option Bool)) (v : ℕ) (t : Bool) → 0 < v → v ≤ var_count p → value_of x v ≡ None → is_blocked p bound (set x v (Some t)) ≡ true → IsImplied p bound x (lit v (not t))
+implied_lit : (p : Program) (bound : Option (List ℤ)) (x : List (Option Bool)) (v : ℕ) (t : Bool) → 0 < v → v ≤ var_count p → value_of x v ≡ None →
+    is_blocked p bound (set x v (Some t)) ≡ true → IsImplied p bound x (lit v (not t))
 implied_lit p bound x v true i le none e = record { var = i; of = le; no_value = none; blocked = e }
 implied_lit p bound x v false i le none e = record { var = i; of = le; no_value = none; blocked = e }
 
 -- the literal h would block, so l is implied
-pub implied_other : (p : Program) (bound : Option (List ℤ)) (x : List (Option Bool)) (v : ℕ) (t : Bool) (h l : Literal) → 0 < v → v ≤ var_count p → value_of x v ≡ None → h ≡ lit v t → l ≡ lit v (not t) → is_blocked p bound (set x h.var (Some h.truth)) ≡ true → IsImplied p bound x l
+pub implied_other : (p : Program) (bound : Option (List ℤ)) (x : List (Option Bool)) (v : ℕ) (t : Bool) (h l : Literal) → 0 < v → v ≤ var_count p →
+    value_of x v ≡ None → h ≡ lit v t → l ≡ lit v (not t) → is_blocked p bound (set x h.var (Some h.truth)) ≡ true → IsImplied p bound x l
 implied_other p bound x v t h l i le none eh el e =
     subst (IsImplied p bound x) (sym el) (implied_lit p bound x v t i le none (sym (ap (λ (m : Literal). is_blocked p bound (set x m.var (Some m.truth))) eh) ∙ e))
 
-pub neither_blocks : (p : Program) (bound : Option (List ℤ)) (x : List (Option Bool)) (v : ℕ) (h l : Literal) → h ≡ lit v true → l ≡ lit v false → is_blocked p bound (set x h.var (Some h.truth)) ≡ false → is_blocked p bound (set x l.var (Some l.truth)) ≡ false → (b : Bool) → is_blocked p bound (set x v (Some b)) ≡ false
+pub neither_blocks : (p : Program) (bound : Option (List ℤ)) (x : List (Option Bool)) (v : ℕ) (h l : Literal) → h ≡ lit v true → l ≡ lit v false →
+    is_blocked p bound (set x h.var (Some h.truth)) ≡ false → is_blocked p bound (set x l.var (Some l.truth)) ≡ false → (b : Bool) →
+    is_blocked p bound (set x v (Some b)) ≡ false
 neither_blocks p bound x v h l eh el e f true = sym (ap (λ (m : Literal). is_blocked p bound (set x m.var (Some m.truth))) eh) ∙ e
 neither_blocks p bound x v h l eh el e f false = sym (ap (λ (m : Literal). is_blocked p bound (set x m.var (Some m.truth))) el) ∙ f
 
 pub free_first : (p : Program) (bound : Option (List ℤ)) (x : List (Option Bool)) → AreFree p bound x 0
 free_first p bound x = record { free = λ v b i le none. absurd (omega arith) }
 
-pub free_next : (p : Program) (bound : Option (List ℤ)) (z y : List (Option Bool)) (n : ℕ) → y ≡ z → AreFree p bound z n → (value_of z (n + 1) ≡ None → (b : Bool) → is_blocked p bound (set z (n + 1) (Some b)) ≡ false) → AreFree p bound y (n + 1)
+pub free_next : (p : Program) (bound : Option (List ℤ)) (z y : List (Option Bool)) (n : ℕ) → y ≡ z → AreFree p bound z n →
+    (value_of z (n + 1) ≡ None → (b : Bool) → is_blocked p bound (set z (n + 1) (Some b)) ≡ false) → AreFree p bound y (n + 1)
 free_next p bound z y n e h now = subst (λ w. AreFree p bound w (n + 1)) (sym e) (record {
   free = λ v b i le none. elim (cases_lt v (n + 1)) [
     | inl lt ↦ h.free v b i (omega arith) none

@@ -45,7 +45,8 @@ or_false : (b : Bool) → (b || false) ≡ b
 or_false true = refl
 or_false false = refl
 
-by_value : (x : List (Option Bool)) (v : ℕ) (c high low : ℤ) (o : Option Bool) → value_of x v ≡ o → ((holds_in x (T v) && int_lt high c) || (holds_in x (F v) && int_le c low)) ≡ broken_with o c high low
+by_value : (x : List (Option Bool)) (v : ℕ) (c high low : ℤ) (o : Option Bool) → value_of x v ≡ o →
+    ((holds_in x (T v) && int_lt high c) || (holds_in x (F v) && int_le c low)) ≡ broken_with o c high low
 by_value x v c high low None e = ap (λ (r : Option Bool). (agrees r (T v) && int_lt high c) || (agrees r (F v) && int_le c low)) e
 by_value x v c high low (Some true) e = ap (λ (r : Option Bool). (agrees r (T v) && int_lt high c) || (agrees r (F v) && int_le c low)) e ∙ or_false (int_lt high c) ∙ less_not high c
 by_value x v c high low (Some false) e = ap (λ (r : Option Bool). (agrees r (T v) && int_lt high c) || (agrees r (F v) && int_le c low)) e

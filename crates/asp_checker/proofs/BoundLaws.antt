@@ -48,13 +48,15 @@ levels-push p [] q levels w h are = subst (λ ls. AreLevels p (q ∷ []) (ls ++ 
 levels-push p (r ∷ qs) q [] w h are = absurd h
 levels-push p (r ∷ qs) q (v ∷ levels) w h are = (h.0, levels-push p qs q levels w h.1 are)
 
-pub levels-more : (p : Program) (qs : List ℤ) (i : ℕ) (q : ℤ) (levels new : List (List ℤ)) (w : List ℤ) → i < length qs → q ≡ get_or qs i q → AreLevels p (take i qs) levels → AreWeights p (items_at p.minimize q) w → new ≡ levels ++ w ∷ [] → AreLevels p (take (i + 1) qs) new
+pub levels-more : (p : Program) (qs : List ℤ) (i : ℕ) (q : ℤ) (levels new : List (List ℤ)) (w : List ℤ) → i < length qs → q ≡ get_or qs i q →
+    AreLevels p (take i qs) levels → AreWeights p (items_at p.minimize q) w → new ≡ levels ++ w ∷ [] → AreLevels p (take (i + 1) qs) new
 levels-more p qs i q levels new w lt is h are e =
     let list : take (i + 1) qs ≡ take i qs ++ q ∷ [] = take_more qs i q lt ∙ ap (λ r. take i qs ++ r ∷ []) (sym is) in
     subst (λ rs. AreLevels p rs new) (sym list) (subst (AreLevels p (take i qs ++ q ∷ [])) (sym e) (levels-push p (take i qs) q levels w h are))
 
 -- ---- the comparison
-pub reached-by : (p : Program) (b : Bound) (x : List (Option Bool)) → AreLevels p (priorities p.minimize) b.levels → not (betters (map (level_sum x (var_count p)) b.levels) b.cost) ≡ reaches_bound p (Some b.cost) x
+pub reached-by : (p : Program) (b : Bound) (x : List (Option Bool)) → AreLevels p (priorities p.minimize) b.levels →
+    not (betters (map (level_sum x (var_count p)) b.levels) b.cost) ≡ reaches_bound p (Some b.cost) x
 reached-by p b x h = ap (λ s. not (betters s b.cost)) (levels-are p x (priorities p.minimize) b.levels h)
 
 pub cost-long : (p : Program) (S : Atoms) (levels : List (List ℤ)) (c : List ℤ) → AreLevels p (priorities p.minimize) levels → c ≡ cost p S → length c ≡ length levels
@@ -78,15 +80,19 @@ step : (sums cost : List ℤ) (i : ℕ) (s c : ℤ) (o : Ordering) → i < lengt
 step sums cost i s c o lt lt' es ec eo h =
     let a : drop i sums ≡ s ∷ drop (i + 1) sums = rw (add-one, es) (drop-cons sums i (pos 0) lt) in
     let b : drop i cost ≡ c ∷ drop (i + 1) cost = rw (add-one, ec) (drop-cons cost i (pos 0) lt') in
-    h.same ∙ ap (λ l. slice_cmp int_cmp l (drop i cost)) a ∙ ap (λ l. slice_cmp int_cmp (s ∷ drop (i + 1) sums) l) b ∙ ap (λ r. ordering_then r (slice_cmp int_cmp (drop (i + 1) sums) (drop (i + 1) cost))) eo
+    h.same ∙ ap (λ l. slice_cmp int_cmp l (drop i cost)) a ∙ ap (λ l. slice_cmp int_cmp (s ∷ drop (i + 1) sums) l) b
+    ∙ ap (λ r. ordering_then r (slice_cmp int_cmp (drop (i + 1) sums) (drop (i + 1) cost))) eo
 
-pub compare_less : (sums cost : List ℤ) (i : ℕ) (s c : ℤ) → i < length sums → i < length cost → s ≡ get_or sums i (pos 0) → c ≡ get_or cost i (pos 0) → s <ℤ c → CompareFrom sums cost i → false ≡ not (betters sums cost)
+pub compare_less : (sums cost : List ℤ) (i : ℕ) (s c : ℤ) → i < length sums → i < length cost → s ≡ get_or sums i (pos 0) →
+    c ≡ get_or cost i (pos 0) → s <ℤ c → CompareFrom sums cost i → false ≡ not (betters sums cost)
 compare_less sums cost i s c lt lt' es ec less h = sym (ap (λ o. not (is_lt o)) (step sums cost i s c Less lt lt' es ec (cmp-less s c less) h))
 
-pub compare_greater : (sums cost : List ℤ) (i : ℕ) (s c : ℤ) → i < length sums → i < length cost → s ≡ get_or sums i (pos 0) → c ≡ get_or cost i (pos 0) → c <ℤ s → CompareFrom sums cost i → true ≡ not (betters sums cost)
+pub compare_greater : (sums cost : List ℤ) (i : ℕ) (s c : ℤ) → i < length sums → i < length cost → s ≡ get_or sums i (pos 0) →
+    c ≡ get_or cost i (pos 0) → c <ℤ s → CompareFrom sums cost i → true ≡ not (betters sums cost)
 compare_greater sums cost i s c lt lt' es ec less h = sym (ap (λ o. not (is_lt o)) (step sums cost i s c Greater lt lt' es ec (cmp-greater s c less) h))
 
-pub compare_next : (sums cost : List ℤ) (i : ℕ) (s c : ℤ) → i < length sums → i < length cost → s ≡ get_or sums i (pos 0) → c ≡ get_or cost i (pos 0) → c ≤ℤ s → s ≤ℤ c → CompareFrom sums cost i → CompareFrom sums cost (i + 1)
+pub compare_next : (sums cost : List ℤ) (i : ℕ) (s c : ℤ) → i < length sums → i < length cost → s ≡ get_or sums i (pos 0) →
+    c ≡ get_or cost i (pos 0) → c ≤ℤ s → s ≤ℤ c → CompareFrom sums cost i → CompareFrom sums cost (i + 1)
 compare_next sums cost i s c lt lt' es ec le ge h = record { same = step sums cost i s c Equal lt lt' es ec (cmp-equal s c le ge) h }
 
 past : (xs : List ℤ) (i : ℕ) → length xs ≤ i → drop i xs ≡ []
@@ -96,12 +102,14 @@ past (x ∷ xs) zero le = absurd (omega arith)
 past (x ∷ xs) (suc i) le = past xs i (omega arith)
 
 -- ---- one variable more
-pub level_more : (x : List (Option Bool)) (w : List ℤ) (n v place : ℕ) (s r new : ℤ) → v ≡ n + 1 → place ≡ 2 * v → s ≡ level_sum x n w → r ≡ least (value_of x v) (get_or w place (pos 0)) (get_or w (place + 1) (pos 0)) → new ≡ s +ℤ r → new ≡ level_sum x (n + 1) w
+pub level_more : (x : List (Option Bool)) (w : List ℤ) (n v place : ℕ) (s r new : ℤ) → v ≡ n + 1 → place ≡ 2 * v → s ≡ level_sum x n w →
+    r ≡ least (value_of x v) (get_or w place (pos 0)) (get_or w (place + 1) (pos 0)) → new ≡ s +ℤ r → new ≡ level_sum x (n + 1) w
 level_more x w n v place s r new ev ep es er en =
     let f : ℕ → ℤ = λ u. least (value_of x u) (get_or w (2 * u) (pos 0)) (get_or w (2 * u + 1) (pos 0)) in
     let r_is : r ≡ f v = er ∙ ap (λ q. least (value_of x v) (get_or w q (pos 0)) (get_or w (q + 1) (pos 0))) ep in
     let last : f v ≡ f (suc n) = ap f (ev ∙ add-one n) in
     en ∙ ap (λ a. a +ℤ r) es ∙ ap (λ b. sum_to f n +ℤ b) (r_is ∙ last) ∙ sym (ap (sum_to f) (add-one n))
 
-pub sum_at : (x : List (Option Bool)) (n : ℕ) (levels : List (List ℤ)) (i : ℕ) (w : List ℤ) (s : ℤ) → i < length levels → w ≡ get_or levels i w → s ≡ level_sum x n w → s ≡ get_or (map (level_sum x n) levels) i (pos 0)
+pub sum_at : (x : List (Option Bool)) (n : ℕ) (levels : List (List ℤ)) (i : ℕ) (w : List ℤ) (s : ℤ) → i < length levels → w ≡ get_or levels i w →
+    s ≡ level_sum x n w → s ≡ get_or (map (level_sum x n) levels) i (pos 0)
 sum_at x n levels i w s lt is e = e ∙ ap (level_sum x n) is ∙ sym (get_or-map (level_sum x n) levels i w (pos 0) lt)

@@ -25,7 +25,8 @@ use Rattle.asp_checker.proofs.CloseLaws.{extends_then, rows_range}
 use Rattle.asp_checker.proofs.AssumeLaws.{empty_follows}
 
 -- ---- one nogood
-pub unit_extends : (p : Program) (k : Known) (x y : List (Option Bool)) (n : List Literal) (l : Literal) → IsNogoodOf p k n → length x ≡ var_count p + 1 → IsUnit x n l → y ≡ set x l.var (Some (not l.truth)) → Extends p k x y
+pub unit_extends : (p : Program) (k : Known) (x y : List (Option Bool)) (n : List Literal) (l : Literal) → IsNogoodOf p k n →
+    length x ≡ var_count p + 1 → IsUnit x n l → y ≡ set x l.var (Some (not l.truth)) → Extends p k x y
 unit_extends p k x y n l of size unit e =
     let range = (rows_range p (n ∷ []) (length x) size (of.of, tt)).0 in
     let grown = visit_grows x y n range (l, unit, e) in
@@ -75,7 +76,9 @@ any_behind q [] ys e = e
 any_behind q (x ∷ xs) ys e = any_behind q xs ys (or_parts (q x) (list_any q (xs ++ ys)) e).1
 
 -- fewer nogoods are hit where more aren't
-fewer_conflict : (p : Program) (rows all : List (List Literal)) (bound : Option Bound) (y : List (Option Bool)) → ((q : List Literal → Bool) → list_any q all ≡ false → list_any q rows ≡ false) → has_conflict p (known_by all bound) y ≡ false → has_conflict p (known_by rows bound) y ≡ false
+fewer_conflict : (p : Program) (rows all : List (List Literal)) (bound : Option Bound) (y : List (Option Bool)) →
+    ((q : List Literal → Bool) → list_any q all ≡ false → list_any q rows ≡ false) → has_conflict p (known_by all bound) y ≡ false →
+    has_conflict p (known_by rows bound) y ≡ false
 fewer_conflict p rows all bound y fewer e =
     let k = known_by rows bound in
     let hit : List Literal → Bool = λ n. list_all (holds_in y) n in
@@ -89,7 +92,9 @@ fewer_conflict p rows all bound y fewer e =
     three false true c e f g = absurd (false≢true (sym f))
 
 -- it still does where more is known
-root_grows : (p : Program) (rows all : List (List Literal)) (bound : Option Bound) (x : List (Option Bool)) → ((q : List Literal → Bool) → list_any q all ≡ false → list_any q rows ≡ false) → IsRoot p (known_by rows bound) x → IsRoot p (known_by all bound) x
+root_grows : (p : Program) (rows all : List (List Literal)) (bound : Option Bound) (x : List (Option Bool)) →
+    ((q : List Literal → Bool) → list_any q all ≡ false → list_any q rows ≡ false) → IsRoot p (known_by rows bound) x →
+    IsRoot p (known_by all bound) x
 root_grows p rows all bound x fewer h = record {
   size = h.size;
   follow = λ y propagated e. h.follow y (record {
@@ -156,22 +161,27 @@ trailed_held x trail l inside held = record {
   };
 }
 
-pub trailed_found : (p : Program) (k : Known) (x y : List (Option Bool)) (trail : List Literal) (f : Found) → (f ≡ found.Conflict → ⊥) → IsFoundBy p k x y f → IsTrailedAlike x y trail (trail_with trail f)
+pub trailed_found : (p : Program) (k : Known) (x y : List (Option Bool)) (trail : List Literal) (f : Found) → (f ≡ found.Conflict → ⊥) →
+    IsFoundBy p k x y f → IsTrailedAlike x y trail (trail_with trail f)
 trailed_found p k x y trail found.Conflict isnt s = absurd (isnt refl)
 trailed_found p k x y trail (found.Implied l) isnt s = subst (λ z. IsTrailedAlike x z trail (trail ++ l ∷ [])) (sym s.1) (trailed_set x trail l)
 trailed_found p k x y trail found.Nothing isnt s = subst (λ z. IsTrailedAlike x z trail trail) (sym s) (trailed_itself x trail)
 
-pub taken_next : (z y : List (Option Bool)) (trail : List Literal) (i : ℕ) (l : Literal) → i < length trail → l ≡ get_or trail i l → AreWithin y z → AreTakenBack z (take i trail) → value_of y l.var ≡ None → AreTakenBack y (take (i + 1) trail)
+pub taken_next : (z y : List (Option Bool)) (trail : List Literal) (i : ℕ) (l : Literal) → i < length trail → l ≡ get_or trail i l → AreWithin y z →
+    AreTakenBack z (take i trail) → value_of y l.var ≡ None → AreTakenBack y (take (i + 1) trail)
 taken_next z y trail i l lt e within h none =
     let list : take (i + 1) trail ≡ take i trail ++ l ∷ [] = take_more trail i l lt ∙ ap (λ m. take i trail ++ m ∷ []) (sym e) in
     subst (AreTakenBack y) (sym list)
-    (each-append (λ m. value_of y m.var ≡ None) (take i trail) (l ∷ []) (each_weaker (λ m. value_of z m.var ≡ None) (λ m. value_of y m.var ≡ None) (λ m n. none_within y z m.var within n) (take i trail) h) (none, tt))
+    (each-append (λ m. value_of y m.var ≡ None) (take i trail) (l ∷ [])
+    (each_weaker (λ m. value_of z m.var ≡ None) (λ m. value_of y m.var ≡ None) (λ m n. none_within y z m.var within n) (take i trail) h)
+    (none, tt))
 
 pub trailed_from : (x y : List (Option Bool)) (a trail : List Literal) → a ≡ [] → IsTrailedAlike x y a trail → IsTrailed x y trail
 trailed_from x y a trail empty alike = alike.alike x (subst (IsTrailed x x) (sym empty) (record { size = refl; kept = λ w inside t. inside }))
 
 -- what is taken back leaves what follows from what is known
-pub root_undone : (p : Program) (k : Known) (x y z : List (Option Bool)) (a trail : List Literal) → IsRoot p k x → a ≡ [] → IsTrailedAlike x y a trail → length z ≡ length y → AreWithin z y → AreTakenBack z trail → IsRoot p k z
+pub root_undone : (p : Program) (k : Known) (x y z : List (Option Bool)) (a trail : List Literal) → IsRoot p k x → a ≡ [] →
+    IsTrailedAlike x y a trail → length z ≡ length y → AreWithin z y → AreTakenBack z trail → IsRoot p k z
 root_undone p k x y z a trail h empty alike size within taken =
     let trailed = trailed_from x y a trail empty alike in
     record { size = size ∙ trailed.size ∙ h.size; follow = root_follows p k [] z x h (trailed.kept z within taken) }

@@ -36,7 +36,8 @@ refuted_before p k x y a r = record { conflict = λ n f. r.conflict n (a.follow 
 pub found_conflict : (p : Program) (k : Known) (x : List (Option Bool)) → IsSound p → is_blocked p k.bound x ≡ true → AreRefuted p k x
 found_conflict p k x sound e = record { conflict = λ n f. blocked-conflicts p k x n sound e f }
 
-pub found_implied : (p : Program) (k : Known) (x y : List (Option Bool)) (l : Literal) → IsSound p → length x ≡ var_count p + 1 → IsImplied p k.bound x l → y ≡ set x l.var (Some l.truth) → Extends p k x y × (open_count y < open_count x)
+pub found_implied : (p : Program) (k : Known) (x y : List (Option Bool)) (l : Literal) → IsSound p → length x ≡ var_count p + 1 →
+    IsImplied p k.bound x l → y ≡ set x l.var (Some l.truth) → Extends p k x y × (open_count y < open_count x)
 found_implied p k x y l sound size h e =
     let inside : l.var < length x = let a = h.of in omega arith in
     let forced = blocked-forces p k x l sound h.var h.of size h.blocked in
@@ -53,7 +54,8 @@ found_implied p k x y l sound size h e =
 -- ---- nogoods
 pub nogoods_known : (p : Program) (rows : List (List Literal)) (bound : Option Bound) → AllByRecursion (AreOf p) rows → AreNogoodsOf p (known_by rows bound) rows
 nogoods_known p rows bound of =
-    each_weaker (λ n. IsKnown (known_by rows bound) n × AreOf p n) (IsNogoodOf p (known_by rows bound)) (λ n h. record { known = h.0; of = h.1 }) rows (each_both (IsKnown (known_by rows bound)) (AreOf p) rows (each_among rows) of)
+    each_weaker (λ n. IsKnown (known_by rows bound) n × AreOf p n) (IsNogoodOf p (known_by rows bound)) (λ n h. record { known = h.0; of = h.1 }) rows
+    (each_both (IsKnown (known_by rows bound)) (AreOf p) rows (each_among rows) of)
 
 none_passes : {X : Type 0} (q : X → Bool) (xs : List X) → AllByRecursion (λ x. q x ≡ false) xs → list_any q xs ≡ false
 none_passes q [] h = refl
@@ -64,21 +66,27 @@ none_passes q (x ∷ xs) h = both (q x) (list_any q xs) h.0 (none_passes q xs h.
     both true b e f = absurd (false≢true (sym e))
 
 without_conflict : (p : Program) (k : Known) (x : List (Option Bool)) → AllByRecursion (λ n. list_all (holds_in x) n ≡ false) k.nogoods → is_blocked p k.bound x ≡ false → has_conflict p k x ≡ false
-without_conflict p k x missed free = three (list_any (λ n. list_all (holds_in x) n) k.nogoods) (list_any (is_broken p x) (bodies_of p)) (reaches_bound p k.bound x) (none_passes (λ n. list_all (holds_in x) n) k.nogoods missed) free
+without_conflict p k x missed free =
+    three (list_any (λ n. list_all (holds_in x) n) k.nogoods) (list_any (is_broken p x) (bodies_of p)) (reaches_bound p k.bound x)
+    (none_passes (λ n. list_all (holds_in x) n) k.nogoods missed) free
   where
     three : (a b c : Bool) → a ≡ false → (b || c) ≡ false → (a || b || c) ≡ false
     three false b c e f = f
     three true b c e f = absurd (false≢true (sym e))
 
-pub is_propagated : (p : Program) (k : Known) (x : List (Option Bool)) → length x ≡ var_count p + 1 → AllByRecursion (IsAtFixpoint x) k.nogoods → is_blocked p k.bound x ≡ false → AreFree p k.bound x (var_count p) → IsPropagated p k x
+pub is_propagated : (p : Program) (k : Known) (x : List (Option Bool)) → length x ≡ var_count p + 1 → AllByRecursion (IsAtFixpoint x) k.nogoods →
+    is_blocked p k.bound x ≡ false → AreFree p k.bound x (var_count p) → IsPropagated p k x
 is_propagated p k x size fixpoint free more = record {
   size = size;
   now = without_conflict p k x (each_weaker (IsAtFixpoint x) (λ n. list_all (holds_in x) n ≡ false) (λ n h. h.now) k.nogoods fixpoint) free;
-  one_more = λ v b i le none. without_conflict p k (set x v (Some b)) (each_weaker (IsAtFixpoint x) (λ n. list_all (holds_in (set x v (Some b))) n ≡ false) (λ n h. h.one_more v b none) k.nogoods fixpoint) (more.free v b i le none);
+  one_more = λ v b i le none. without_conflict p k (set x v (Some b))
+      (each_weaker (IsAtFixpoint x) (λ n. list_all (holds_in (set x v (Some b))) n ≡ false) (λ n h. h.one_more v b none) k.nogoods fixpoint)
+      (more.free v b i le none);
 }
 
 -- ---- what a step came to
-pub step_swept : (p : Program) (rows : List (List Literal)) (bound : Option Bound) (x y : List (Option Bool)) (now : Visit) → AllByRecursion (AreOf p) rows → (now ≡ visit.Fixpoint → ⊥) → IsSwept x y rows now → IsStep p (known_by rows bound) x y now
+pub step_swept : (p : Program) (rows : List (List Literal)) (bound : Option Bound) (x y : List (Option Bool)) (now : Visit) →
+    AllByRecursion (AreOf p) rows → (now ≡ visit.Fixpoint → ⊥) → IsSwept x y rows now → IsStep p (known_by rows bound) x y now
 step_swept p rows bound x y visit.Conflict of quiet h = record { conflict = λ n f. h p (known_by rows bound) n (nogoods_known p rows bound of) f }
 step_swept p rows bound x y visit.Implied of quiet h = (
   record { size = h.1.size; within = h.1.within; follow = λ n f. h.0 p (known_by rows bound) n (nogoods_known p rows bound of) f },
@@ -86,12 +94,14 @@ step_swept p rows bound x y visit.Implied of quiet h = (
 )
 step_swept p rows bound x y visit.Fixpoint of quiet h = absurd (quiet refl)
 
-pub step_further : (p : Program) (rows : List (List Literal)) (bound : Option Bound) (x z y : List (Option Bool)) (now : Visit) → length x ≡ var_count p + 1 → IsSwept x z rows visit.Fixpoint → IsFound p (known_by rows bound) z y now → IsStep p (known_by rows bound) x y now
+pub step_further : (p : Program) (rows : List (List Literal)) (bound : Option Bound) (x z y : List (Option Bool)) (now : Visit) →
+    length x ≡ var_count p + 1 → IsSwept x z rows visit.Fixpoint → IsFound p (known_by rows bound) z y now → IsStep p (known_by rows bound) x y now
 step_further p rows bound x z y visit.Conflict size swept h = subst (AreRefuted p (known_by rows bound)) swept.0 h
 step_further p rows bound x z y visit.Implied size swept h = subst (λ w. Extends p (known_by rows bound) w y × (open_count y < open_count w)) swept.0 h
 step_further p rows bound x z y visit.Fixpoint size swept h = (
   h.0 ∙ swept.0,
-  is_propagated p (known_by rows bound) x size swept.1 (subst (λ w. is_blocked p (cost_of_bound bound) w ≡ false) swept.0 h.1) (subst (λ w. AreFree p (cost_of_bound bound) w (var_count p)) swept.0 h.2),
+  is_propagated p (known_by rows bound) x size swept.1 (subst (λ w. is_blocked p (cost_of_bound bound) w ≡ false) swept.0 h.1)
+      (subst (λ w. AreFree p (cost_of_bound bound) w (var_count p)) swept.0 h.2),
 )
 
 -- ---- the range of rows

@@ -31,7 +31,8 @@ pub length-values : (p : Program) (S : Atoms) → length (values p S) ≡ var_co
 length-values p S =
     let a : length (map (has S) (atoms_of p)) ≡ length (atoms_of p) = length-map (atoms_of p) (has S) in
     let b : length (map (body_holds S) (apart_bodies p)) ≡ length (apart_bodies p) = length-map (apart_bodies p) (body_holds S) in
-    let c : length (map (has S) (atoms_of p) ++ map (body_holds S) (apart_bodies p)) ≡ length (map (has S) (atoms_of p)) + length (map (body_holds S) (apart_bodies p)) = length-append (map (has S) (atoms_of p)) (map (body_holds S) (apart_bodies p)) in
+    let c : length (map (has S) (atoms_of p) ++ map (body_holds S) (apart_bodies p)) ≡ length (map (has S) (atoms_of p)) + length
+    (map (body_holds S) (apart_bodies p)) = length-append (map (has S) (atoms_of p)) (map (body_holds S) (apart_bodies p)) in
     omega (arith, a, b, c)
 
 value-assigned : (p : Program) (S : Atoms) (v : ℕ) → v ≤ var_count p → value_of (assigned p S) v ≡ Some (get_or (values p S) v false)
@@ -85,7 +86,9 @@ weight-held p S t [] h = refl
 weight-held p S t (i ∷ items) h =
     ap (λ b. cond b i.1 (pos 0) +ℤ weight_by t p items) h.0 ∙ ap (λ w. cond (holds S i.0) i.1 (pos 0) +ℤ w) (weight-held p S t items h.1)
 
-each_item : (p : Program) (S : Atoms) (t : Literal → Bool) → ((l : ℤ) → has (atoms_of p) (atom_of l) ≡ true → t (literal_of p l) ≡ holds S l) → (items : List (ℤ × ℤ)) → AllByRecursion (λ i. has (atoms_of p) (atom_of i.0) ≡ true) items → AllByRecursion (λ i. t (literal_of p i.0) ≡ holds S i.0) items
+each_item : (p : Program) (S : Atoms) (t : Literal → Bool) → ((l : ℤ) → has (atoms_of p) (atom_of l) ≡ true → t (literal_of p l) ≡ holds S l) →
+    (items : List (ℤ × ℤ)) → AllByRecursion (λ i. has (atoms_of p) (atom_of i.0) ≡ true) items →
+    AllByRecursion (λ i. t (literal_of p i.0) ≡ holds S i.0) items
 each_item p S t f [] stands = tt
 each_item p S t f (i ∷ items) stands = (f i.0 stands.0, each_item p S t f items stands.1)
 
@@ -102,7 +105,9 @@ body-kept p S (body.AtLeast c items) listed stands =
     let b : Body = body.AtLeast c items in
     let y = assigned p S in
     let t : holds_in y (T (var_of_form p b)) ≡ int_le c (weight_of S items) = holds-assigned p S (T (var_of_form p b)) (form-within p b refl listed) ∙ weight-true p S c items listed in
-    let f : holds_in y (F (var_of_form p b)) ≡ not (int_le c (weight_of S items)) = holds-assigned p S (F (var_of_form p b)) (form-within p b refl listed) ∙ is_true-complement (values p S) (T (var_of_form p b)) ∙ ap not (weight-true p S c items listed) in
+    let f : holds_in y (F (var_of_form p b)) ≡ not (int_le c (weight_of S items)) =
+    holds-assigned p S (F (var_of_form p b)) (form-within p b refl listed) ∙ is_true-complement (values p S) (T (var_of_form p b))
+    ∙ ap not (weight-true p S c items listed) in
     let high : weight_by (may_hold y) p items ≡ weight_of S items = weight-held p S (may_hold y) items (each_item p S (may_hold y) (literal-may p S) items stands) in
     let low : weight_by (holds_in y) p items ≡ weight_of S items = weight-held p S (holds_in y) items (each_item p S (holds_in y) (literal-held p S) items stands) in
     rw (t, f, high, low) (not_both c (weight_of S items))
@@ -112,7 +117,9 @@ none_passes q [] h = refl
 none_passes q (x ∷ xs) h = or_from (q x) (list_any q xs) h.0 (none_passes q xs h.1)
 
 bodies-kept : (p : Program) (S : Atoms) → list_any (is_broken p (assigned p S)) (bodies_of p) ≡ false
-bodies-kept p S = none_passes (is_broken p (assigned p S)) (bodies_of p) (each (bodies_of p) (each_both (λ b. list_any (body_eq b) (bodies_of p) ≡ true) (Stands (atoms_of p)) (bodies_of p) (bodies_of-themselves p) (bodies_of-stand p)))
+bodies-kept p S = none_passes (is_broken p (assigned p S)) (bodies_of p)
+    (each (bodies_of p) (each_both (λ b. list_any (body_eq b) (bodies_of p) ≡ true) (Stands (atoms_of p)) (bodies_of p) (bodies_of-themselves p)
+    (bodies_of-stand p)))
   where
     each : (bs : List Body) → AllByRecursion (λ b. (list_any (body_eq b) (bodies_of p) ≡ true) × Stands (atoms_of p) b) bs → AllByRecursion (λ b. is_broken p (assigned p S) b ≡ false) bs
     each [] h = tt
@@ -131,13 +138,15 @@ missed p S (n ∷ ns) h = (cases (list_all (holds_in (assigned p S)) n) refl, mi
     cases false q = sym q
     cases true q = absurd (false≢true (sym h.0 ∙ hits-held (values p S) n (sym q)))
 
-pub propagated-assigned : (p : Program) (k : Known) (S : Atoms) → AllByRecursion (λ n. hits (values p S) n ≡ false) k.nogoods → reaches_bound p k.bound (assigned p S) ≡ false → IsPropagated p k (assigned p S)
+pub propagated-assigned : (p : Program) (k : Known) (S : Atoms) → AllByRecursion (λ n. hits (values p S) n ≡ false) k.nogoods →
+    reaches_bound p k.bound (assigned p S) ≡ false → IsPropagated p k (assigned p S)
 propagated-assigned p k S miss cheap =
     let y = assigned p S in
     let none : list_any (λ n. list_all (holds_in y) n) k.nogoods ≡ false = none_passes (λ n. list_all (holds_in y) n) k.nogoods (missed p S k.nogoods miss) in
     record {
       size = length-map (values p S) (λ b. Some b) ∙ length-values p S;
-      now = or_from (list_any (λ n. list_all (holds_in y) n) k.nogoods || list_any (is_broken p y) (bodies_of p)) (reaches_bound p k.bound y) (or_from (list_any (λ n. list_all (holds_in y) n) k.nogoods) (list_any (is_broken p y) (bodies_of p)) none (bodies-kept p S)) cheap;
+      now = or_from (list_any (λ n. list_all (holds_in y) n) k.nogoods || list_any (is_broken p y) (bodies_of p)) (reaches_bound p k.bound y)
+          (or_from (list_any (λ n. list_all (holds_in y) n) k.nogoods) (list_any (is_broken p y) (bodies_of p)) none (bodies-kept p S)) cheap;
       one_more = λ v b i le gap. let some = value-assigned p S v le in absurd cc;
     }
 
@@ -152,7 +161,10 @@ conflict-excused p excuse k n known of conflict = record { excused = λ S stable
   where
     cases : (S : Atoms) → is_stable p S ≡ true → hits (values p S) n ≡ true → (b : Bool) → b ≡ excuse S → excuse S ≡ true
     cases S stable hit true q = sym q
-    cases S stable hit false q = absurd (false≢true (sym (conflict.none (assigned p S) (propagated-assigned p k S (each k.nogoods known.nogoods) (cheap (reaches_bound p k.bound (assigned p S)) refl))) ∙ held-hits p S n of hit))
+    cases S stable hit false q =
+        absurd (false≢true (sym (conflict.none (assigned p S)
+        (propagated-assigned p k S (each k.nogoods known.nogoods) (cheap (reaches_bound p k.bound (assigned p S)) refl)))
+        ∙ held-hits p S n of hit))
       where
         each : (ns : List (List Literal)) → AllByRecursion (HitsOnly p excuse) ns → AllByRecursion (λ m. hits (values p S) m ≡ false) ns
         each [] h = tt

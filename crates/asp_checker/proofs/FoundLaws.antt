@@ -28,16 +28,20 @@ use Rattle.asp_checker.specs.Loops.{is_answered_rule, has_head}
 within_inside : (p : Program) (U vars : Atoms) (l : ℤ) → AreVarsOf p U vars → has (atoms_of p) (atom_of l) ≡ true → is_within vars (literal_of p l) ≡ is_inside U l
 within_inside p U vars l h stands = ap (λ b. is_positive l && b) (h (atom_of l) stands)
 
-any_within : (p : Program) (U vars : Atoms) (ls : List ℤ) → AreVarsOf p U vars → AllByRecursion (λ l. has (atoms_of p) (atom_of l) ≡ true) ls → list_any (is_within vars) (map (literal_of p) ls) ≡ list_any (is_inside U) ls
+any_within : (p : Program) (U vars : Atoms) (ls : List ℤ) → AreVarsOf p U vars → AllByRecursion (λ l. has (atoms_of p) (atom_of l) ≡ true) ls →
+    list_any (is_within vars) (map (literal_of p) ls) ≡ list_any (is_inside U) ls
 any_within p U vars [] h stand = refl
 any_within p U vars (l ∷ ls) h stand =
     ap (λ b. b || list_any (is_within vars) (map (literal_of p) ls)) (within_inside p U vars l h stand.0)
     ∙ ap (λ b. is_inside U l || b) (any_within p U vars ls h stand.1)
 
-kept_weight : (p : Program) (U vars : Atoms) (n : List Literal) (items : List (ℤ × ℤ)) → AreVarsOf p U vars → AllByRecursion (λ i. has (atoms_of p) (atom_of i.0) ≡ true) items → weigh (is_kept vars n) (map (λ i. literal_of p i.0) items) (map (λ i. i.1) items) ≡ weight_where (is_left p U n) items
+kept_weight : (p : Program) (U vars : Atoms) (n : List Literal) (items : List (ℤ × ℤ)) → AreVarsOf p U vars →
+    AllByRecursion (λ i. has (atoms_of p) (atom_of i.0) ≡ true) items →
+    weigh (is_kept vars n) (map (λ i. literal_of p i.0) items) (map (λ i. i.1) items) ≡ weight_where (is_left p U n) items
 kept_weight p U vars n [] h stand = refl
 kept_weight p U vars n (i ∷ items) h stand =
-    ap (λ b. cond (not b && not (has_literal n (complement (literal_of p i.0)))) i.1 (pos 0) +ℤ weigh (is_kept vars n) (map (λ i. literal_of p i.0) items) (map (λ i. i.1) items)) (within_inside p U vars i.0 h stand.0)
+    ap (λ b. cond (not b && not (has_literal n (complement (literal_of p i.0)))) i.1 (pos 0) +ℤ weigh (is_kept vars n)
+    (map (λ i. literal_of p i.0) items) (map (λ i. i.1) items)) (within_inside p U vars i.0 h stand.0)
     ∙ ap (λ w. cond (is_left p U n i.0) i.1 (pos 0) +ℤ w) (kept_weight p U vars n items h stand.1)
 
 less_not : (a c : ℤ) → not (int_le c a) ≡ int_lt a c
@@ -66,7 +70,8 @@ all_stand p U e = All-from_recursion (λ a. has (atoms_of p) a ≡ true) U (each
 pub vars_stand : (p : Program) (U vars : Atoms) → list_all (has (atoms_of p)) U ≡ true → vars ≡ set_of (map (var_of_atom p) U) → AreVarsOf p U vars
 vars_stand p U vars e is = vars_are p U vars (all_stand p U e) is
 
-pub loop_yes : (p : Program) (U : Atoms) (n : List Literal) → list_all (has (atoms_of p)) U ≡ true → list_any (has_head p n) U ≡ true → list_all (is_answered_rule p U n) (rules_in_force p) ≡ true → IsLoop p U n
+pub loop_yes : (p : Program) (U : Atoms) (n : List Literal) → list_all (has (atoms_of p)) U ≡ true → list_any (has_head p n) U ≡ true →
+    list_all (is_answered_rule p U n) (rules_in_force p) ≡ true → IsLoop p U n
 loop_yes p U n a h b = record { among = a; head = h; bodies = b }
 
 pub loop_headless : (p : Program) (U : Atoms) (n : List Literal) → list_any (has_head p n) U ≡ false → IsLoop p U n → ⊥
@@ -79,7 +84,8 @@ loop_unanswered p U n e h = false≢true (sym e ∙ h.bodies)
 pub outside_rule : (p : Program) (U : Atoms) (n : List Literal) (r : Rule) → list_any (has U) (head_atoms r.head) ≡ false → true ≡ is_answered_rule p U n r
 outside_rule p U n r e = sym (ap (λ b. not b || is_answered p U n (normal r.body)) e)
 
-pub inside_rule : (p : Program) (U : Atoms) (n : List Literal) (r : Rule) (a : Bool) → list_any (has U) (head_atoms r.head) ≡ true → a ≡ is_answered p U n (normal r.body) → a ≡ is_answered_rule p U n r
+pub inside_rule : (p : Program) (U : Atoms) (n : List Literal) (r : Rule) (a : Bool) → list_any (has U) (head_atoms r.head) ≡ true →
+    a ≡ is_answered p U n (normal r.body) → a ≡ is_answered_rule p U n r
 inside_rule p U n r a e f = f ∙ sym (ap (λ b. not b || is_answered p U n (normal r.body)) e)
 
 pub all_not_at : {X : Type 0} (q : X → Bool) (xs : List X) (i : ℕ) (d : X) → i < length xs → q (get_or xs i d) ≡ false → false ≡ list_all q xs
@@ -106,10 +112,12 @@ pub answered_false : (p : Program) (U : Atoms) (n : List Literal) (b : Body) →
 answered_false p U n (body.All literals) e = sym (ap (λ t. t || list_any (is_inside U) literals) e)
 answered_false p U n (body.AtLeast bound items) e = sym (ap (λ t. t || int_lt (weight_where (is_left p U n) items) bound) e)
 
-pub open_weighted : (p : Program) (U vars : Atoms) (n : List Literal) (b : Body) (c : ℤ) → AreVarsOf p U vars → Stands (atoms_of p) b → bound_of b ≡ Some c → has_literal n (complement (literal_of_form p b)) ≡ false →
+pub open_weighted : (p : Program) (U vars : Atoms) (n : List Literal) (b : Body) (c : ℤ) → AreVarsOf p U vars → Stands (atoms_of p) b →
+    bound_of b ≡ Some c → has_literal n (complement (literal_of_form p b)) ≡ false →
     not (int_le c (weigh (is_kept vars n) (form_literals p b) (form_weights b))) ≡ is_answered p U n b
 open_weighted p U vars n b c h stand e f = sym (ap (λ t. t || not (int_le c (weigh (is_kept vars n) (form_literals p b) (form_weights b)))) f) ∙ answered_weighted p U vars n b c h stand e
 
-pub open_normal : (p : Program) (U vars : Atoms) (n : List Literal) (b : Body) → AreVarsOf p U vars → Stands (atoms_of p) b → bound_of b ≡ None → has_literal n (complement (literal_of_form p b)) ≡ false →
+pub open_normal : (p : Program) (U vars : Atoms) (n : List Literal) (b : Body) → AreVarsOf p U vars → Stands (atoms_of p) b → bound_of b ≡ None →
+    has_literal n (complement (literal_of_form p b)) ≡ false →
     list_any (is_within vars) (form_literals p b) ≡ is_answered p U n b
 open_normal p U vars n b h stand e f = sym (ap (λ t. t || list_any (is_within vars) (form_literals p b)) f) ∙ answered_normal p U vars n b h stand e

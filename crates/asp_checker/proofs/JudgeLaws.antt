@@ -52,7 +52,8 @@ not_less S T o s t e differ before = differ (sym e ∙ cmp_from_before S T s t b
 pub first_in_order : (opt : Bool) (S : Atoms) → IsInOrder opt [] S
 first_in_order opt S = record { later = tt; single = λ o. refl }
 
-pub later_in_order : (opt : Bool) (before : List Atoms) (S last : Atoms) (i : ℕ) → AllPairs IsBefore before → length before ≡ i + 1 → last ≡ get_or before i last → opt ≡ false → IsBefore last S → IsInOrder opt before S
+pub later_in_order : (opt : Bool) (before : List Atoms) (S last : Atoms) (i : ℕ) → AllPairs IsBefore before → length before ≡ i + 1 →
+    last ≡ get_or before i last → opt ≡ false → IsBefore last S → IsInOrder opt before S
 later_in_order opt before S last i pairs size is enum after = record {
   later = recursion_from_All (λ T. IsBefore T S) before (λ k d lt. elim (cases_lt k i) [
     | inl less ↦ before_then (get_or before k d) last S (subst (IsBefore (get_or before k d)) (at_last d) (pairs k i d less (omega arith))) after
@@ -88,13 +89,15 @@ answers_push p opt before S h now = record {
   single = λ o. let none : length before ≡ 0 = ap length (now.order.single o) in omega (arith, none, length_push before S);
 }
 
-pub wrong_pushed : (p : Program) (opt : Bool) (before : List Atoms) (S : Atoms) (w : Why) → AreRightAnswers p opt before → HasAnswerFault p opt before S w → IsWrongAnswer p opt (before ++ S ∷ []) w (length before)
+pub wrong_pushed : (p : Program) (opt : Bool) (before : List Atoms) (S : Atoms) (w : Why) → AreRightAnswers p opt before →
+    HasAnswerFault p opt before S w → IsWrongAnswer p opt (before ++ S ∷ []) w (length before)
 wrong_pushed p opt before S w right fault =
     let front : take (length before) (before ++ S ∷ []) ≡ before = take-append_seam before (S ∷ []) in
     record {
       within = omega (arith, length_push before S);
       before = subst (AreRightAnswers p opt) (sym front) right;
-      fault = subst (λ Ts. HasAnswerFault p opt Ts (get_or (before ++ S ∷ []) (length before) []) w) (sym front) (subst (λ T. HasAnswerFault p opt before T w) (sym (get_or_push before S [] (length before) refl)) fault);
+      fault = subst (λ Ts. HasAnswerFault p opt Ts (get_or (before ++ S ∷ []) (length before) []) w) (sym front)
+          (subst (λ T. HasAnswerFault p opt before T w) (sym (get_or_push before S [] (length before) refl)) fault);
     }
 
 -- ---- what is known at first
@@ -105,17 +108,23 @@ lits_pure (n ∷ ns) = ap (λ ms. n ∷ ms) (lits_pure ns)
 pub completed_is : (p : Program) (nogoods : List Nogood) (rows : List (List Literal)) → nogoods ≡ map pure (completion p) → rows ≡ map (λ (n : Nogood). n.lits) nogoods → rows ≡ completion p
 completed_is p nogoods rows is e = e ∙ ap (map (λ (n : Nogood). n.lits)) is ∙ lits_pure (completion p)
 
-pub known_from : (p : Program) (proof : Proof) (L avoided : List Atoms) (rows : List (List Literal)) (b : Option Bound) → L ≡ proof.answers → avoided ≡ cond proof.opt [] L → rows ≡ completion p → cost_of_bound b ≡ cond proof.opt (bound_of p L) None →
+pub known_from : (p : Program) (proof : Proof) (L avoided : List Atoms) (rows : List (List Literal)) (b : Option Bound) → L ≡ proof.answers →
+    avoided ≡ cond proof.opt [] L → rows ≡ completion p → cost_of_bound b ≡ cond proof.opt (bound_of p L) None →
     known_with p avoided rows b ≡ known_at_first p proof
-known_from p proof L avoided rows b same avoids is cost = cases proof.opt (subst (λ Ss. avoided ≡ cond proof.opt [] Ss) same avoids) (subst (λ Ss. cost_of_bound b ≡ cond proof.opt (bound_of p Ss) None) same cost)
+known_from p proof L avoided rows b same avoids is cost =
+    cases proof.opt (subst (λ Ss. avoided ≡ cond proof.opt [] Ss) same avoids)
+    (subst (λ Ss. cost_of_bound b ≡ cond proof.opt (bound_of p Ss) None) same cost)
   where
     bounded : (ns : List (List Literal)) (c : Option (List ℤ)) → cost_of_bound b ≡ c → known_by ns b ≡ record { nogoods = ns; bound = c }
     bounded ns c h = ap (λ (d : Option (List ℤ)). let k : Known = record { nogoods = ns; bound = d } in k) h
 
     cases : (opt : Bool) → avoided ≡ cond opt [] proof.answers → cost_of_bound b ≡ cond opt (bound_of p proof.answers) None →
-        known_with p avoided rows b ≡ cond opt (record { nogoods = completion p; bound = bound_of p proof.answers }) (record { nogoods = map (nogood_of_answer p) proof.answers ++ completion p; bound = None })
+        known_with p avoided rows b ≡ cond opt (record { nogoods = completion p; bound = bound_of p proof.answers })
+        (record { nogoods = map (nogood_of_answer p) proof.answers ++ completion p; bound = None })
     cases true g h = ap (λ Ss. known_with p Ss rows b) g ∙ ap (λ (ns : List (List Literal)). known_by ns b) is ∙ bounded (completion p) (bound_of p proof.answers) h
-    cases false g h = ap (λ Ss. known_with p Ss rows b) g ∙ ap (λ (ns : List (List Literal)). known_by (map (nogood_of_answer p) proof.answers ++ ns) b) is ∙ bounded (map (nogood_of_answer p) proof.answers ++ completion p) None h
+    cases false g h = ap (λ Ss. known_with p Ss rows b) g
+        ∙ ap (λ (ns : List (List Literal)). known_by (map (nogood_of_answer p) proof.answers ++ ns) b) is
+        ∙ bounded (map (nogood_of_answer p) proof.answers ++ completion p) None h
 
 -- ---- lines
 pub has_of : (p : Program) (l : Line) → HasLiterals p l → AreOf p (nogood_of l)
@@ -127,7 +136,8 @@ pub known_push : (s : Stock) (lines : List Line) (l : Line) → known_after s (l
 known_push s [] l = refl
 known_push s (m ∷ lines) l = known_push (with_line s m) lines l
 
-pub confirmed_push : (p : Program) (s : Stock) (lines : List Line) (l : Line) → AreConfirmed p s lines → AreOf p (nogood_of l) → IsConfirmed p (all_of (known_after s lines)) l → AreConfirmed p s (lines ++ l ∷ [])
+pub confirmed_push : (p : Program) (s : Stock) (lines : List Line) (l : Line) → AreConfirmed p s lines → AreOf p (nogood_of l) →
+    IsConfirmed p (all_of (known_after s lines)) l → AreConfirmed p s (lines ++ l ∷ [])
 confirmed_push p s [] l h of now = (of, now, tt)
 confirmed_push p s (m ∷ lines) l h of now = (h.0, h.1, confirmed_push p (with_line s m) lines l h.2 of now)
 
@@ -135,11 +145,13 @@ or_no : (b : Bool) → (b || false) ≡ b
 or_no true = refl
 or_no false = refl
 
-pub closes_push : (p : Program) (lines : List Line) (l : Line) (whole closing both : Bool) → whole ≡ list_any (closes p) lines → closing ≡ closes p l → both ≡ (whole || closing) → both ≡ list_any (closes p) (lines ++ l ∷ [])
+pub closes_push : (p : Program) (lines : List Line) (l : Line) (whole closing both : Bool) → whole ≡ list_any (closes p) lines →
+    closing ≡ closes p l → both ≡ (whole || closing) → both ≡ list_any (closes p) (lines ++ l ∷ [])
 closes_push p lines l whole closing both e f g =
     g ∙ ap (λ b. b || closing) e ∙ ap (λ b. list_any (closes p) lines || b) (f ∙ sym (or_no (closes p l))) ∙ sym (list_any-append (closes p) lines (l ∷ []))
 
-pub pushed_line_wrong : (p : Program) (s now : Stock) (lines : List Line) (l : Line) (w : Why) → now ≡ known_after s lines → AreConfirmed p s lines → HasLineFault p (all_of now) l w → IsWrongLine p s (lines ++ l ∷ []) w (length lines)
+pub pushed_line_wrong : (p : Program) (s now : Stock) (lines : List Line) (l : Line) (w : Why) → now ≡ known_after s lines → AreConfirmed p s lines →
+    HasLineFault p (all_of now) l w → IsWrongLine p s (lines ++ l ∷ []) w (length lines)
 pushed_line_wrong p s now lines l w e h fault =
     let front : take (length lines) (lines ++ l ∷ []) ≡ lines = take-append_seam lines (l ∷ []) in
     record {
@@ -154,7 +166,8 @@ empty_in_order opt [] S e = first_in_order opt S
 empty_in_order opt (T ∷ before) S e = absurd (omega arith)
 
 -- ---- lists that are made one after another
-pub map_more : {X Y : Type 0} (f : X → Y) (xs : List X) (i : ℕ) (d : X) (y : Y) (old new : List Y) → i < length xs → old ≡ map f (take i xs) → new ≡ old ++ y ∷ [] → y ≡ f (get_or xs i d) → new ≡ map f (take (i + 1) xs)
+pub map_more : {X Y : Type 0} (f : X → Y) (xs : List X) (i : ℕ) (d : X) (y : Y) (old new : List Y) → i < length xs → old ≡ map f (take i xs) →
+    new ≡ old ++ y ∷ [] → y ≡ f (get_or xs i d) → new ≡ map f (take (i + 1) xs)
 map_more f xs i d y old new lt e made is =
     made ∙ ap (λ ys. ys ++ y ∷ []) e ∙ ap (λ z. map f (take i xs) ++ z ∷ []) is ∙ sym (map-append f (take i xs) (get_or xs i d ∷ [])) ∙ ap (map f) (sym (take_more xs i d lt))
 
@@ -162,19 +175,26 @@ pub map_whole : {X Y : Type 0} (f : X → Y) (xs zs : List X) (i : ℕ) (made : 
 map_whole f xs zs i made le same e = e ∙ ap (map f) (take_all i xs le ∙ same)
 
 -- ---- the literals of a line
-pub nogood_found : {V : Type 0} (p : Program) (s n : List ℤ) (o : Option V) (items : V → List Literal) → s ≡ n → MatchOption o (AreOf p (literals_of s) → ⊥) (λ v. (items v ≡ literals_of s) × AreOf p (items v)) → MatchOption o (AreOf p (literals_of n) → ⊥) (λ v. (items v ≡ literals_of n) × AreOf p (literals_of n))
+pub nogood_found : {V : Type 0} (p : Program) (s n : List ℤ) (o : Option V) (items : V → List Literal) → s ≡ n →
+    MatchOption o (AreOf p (literals_of s) → ⊥) (λ v. (items v ≡ literals_of s) × AreOf p (items v)) →
+    MatchOption o (AreOf p (literals_of n) → ⊥) (λ v. (items v ≡ literals_of n) × AreOf p (literals_of n))
 nogood_found p s n None items e m = λ h. m (subst (λ t. AreOf p (literals_of t)) (sym e) h)
 nogood_found p s n (Some v) items e m = let is = m.0 ∙ ap literals_of e in (is, subst (AreOf p) is m.1)
 
-pub loop_found : {V : Type 0} (p : Program) (set : Atoms) (n : List ℤ) (o : Option V) (items : V → List Literal) → list_all (has (atoms_of p)) set ≡ true → MatchOption o (AreOf p (literals_of n) → ⊥) (λ v. (items v ≡ literals_of n) × AreOf p (literals_of n)) → MatchOption o (HasLoopLiterals p set n → ⊥) (λ v. (items v ≡ literals_of n) × HasLoopLiterals p set n)
+pub loop_found : {V : Type 0} (p : Program) (set : Atoms) (n : List ℤ) (o : Option V) (items : V → List Literal) →
+    list_all (has (atoms_of p)) set ≡ true → MatchOption o (AreOf p (literals_of n) → ⊥) (λ v. (items v ≡ literals_of n) × AreOf p (literals_of n)) →
+    MatchOption o (HasLoopLiterals p set n → ⊥) (λ v. (items v ≡ literals_of n) × HasLoopLiterals p set n)
 loop_found p set n None items stand m = λ h. m h.1
 loop_found p set n (Some v) items stand m = (m.0, (stand, m.1))
 
-pub closes_learned : (p : Program) (l : Line) {at : ℕ} {n : List ℤ} {names : List ℕ} (given lits : List Literal) (r : Bool) → l ≡ line.Learned at n names → lits ≡ nogood_of l → given ≡ map (literal_of p) p.assumptions → r ≡ list_all (has_literal given) lits → r ≡ closes p l
+pub closes_learned : (p : Program) (l : Line) {at : ℕ} {n : List ℤ} {names : List ℕ} (given lits : List Literal) (r : Bool) →
+    l ≡ line.Learned at n names → lits ≡ nogood_of l → given ≡ map (literal_of p) p.assumptions → r ≡ list_all (has_literal given) lits →
+    r ≡ closes p l
 closes_learned p l {at} {n} {names} given lits r e f g is =
     is ∙ ap (λ xs. list_all (has_literal xs) lits) g ∙ ap (list_all (has_literal (map (literal_of p) p.assumptions))) (f ∙ ap nogood_of e) ∙ sym (ap (closes p) e)
 
-pub closes_cube : (p : Program) (l : Line) {n : List ℤ} (given lits : List Literal) (r : Bool) → l ≡ line.Cube n → lits ≡ nogood_of l → given ≡ map (literal_of p) p.assumptions → r ≡ list_all (has_literal given) lits → r ≡ closes p l
+pub closes_cube : (p : Program) (l : Line) {n : List ℤ} (given lits : List Literal) (r : Bool) → l ≡ line.Cube n → lits ≡ nogood_of l →
+    given ≡ map (literal_of p) p.assumptions → r ≡ list_all (has_literal given) lits → r ≡ closes p l
 closes_cube p l {n} given lits r e f g is =
     is ∙ ap (λ xs. list_all (has_literal xs) lits) g ∙ ap (list_all (has_literal (map (literal_of p) p.assumptions))) (f ∙ ap nogood_of e) ∙ sym (ap (closes p) e)
 
@@ -192,7 +212,8 @@ loop_says : (p : Program) (k : Known) (at : ℕ) (set : Atoms) (n : List ℤ) (o
 loop_says p k at set n None of h = h
 loop_says p k at set n (Some w) of h = subst (HasLineFault p k (line.Loop at set n)) (sym h.0) (of, h.1)
 
-learned_says : (p : Program) (k : Known) (at : ℕ) (n : List ℤ) (names : List ℕ) (o : Option Why) → HasLiterals p (line.Learned at n names) → NogoodSays p k (literals_of n) o → LineSays p k (line.Learned at n names) o
+learned_says : (p : Program) (k : Known) (at : ℕ) (n : List ℤ) (names : List ℕ) (o : Option Why) → HasLiterals p (line.Learned at n names) →
+    NogoodSays p k (literals_of n) o → LineSays p k (line.Learned at n names) o
 learned_says p k at n names None of h = h
 learned_says p k at n names (Some w) of h = subst (HasLineFault p k (line.Learned at n names)) (sym h.0) (of, h.1)
 
@@ -200,17 +221,22 @@ cube_says : (p : Program) (k : Known) (n : List ℤ) (o : Option Why) → HasLit
 cube_says p k n None of h = h
 cube_says p k n (Some w) of h = subst (HasLineFault p k (line.Cube n)) (sym h.0) (of, h.1)
 
-pub loop_judged : {E : Type 0} (p : Program) (k : Known) (l : Line) (set : Atoms) {at : ℕ} {n : List ℤ} (lits : List Literal) (r : Result (Option Why) E) → l ≡ line.Loop at set n → lits ≡ nogood_of l → HasLiterals p l → IfOk r (LoopSays p set lits) → IfOk r (LineSays p k l)
+pub loop_judged : {E : Type 0} (p : Program) (k : Known) (l : Line) (set : Atoms) {at : ℕ} {n : List ℤ} (lits : List Literal)
+    (r : Result (Option Why) E) → l ≡ line.Loop at set n → lits ≡ nogood_of l → HasLiterals p l → IfOk r (LoopSays p set lits) →
+    IfOk r (LineSays p k l)
 loop_judged p k l set {at} {n} lits (Ok o) e f of h =
     subst (λ m. LineSays p k m o) (sym e) (loop_says p k at set n o (subst (HasLiterals p) e of) (subst (λ ls. LoopSays p set ls o) (f ∙ ap nogood_of e) h))
 loop_judged p k l set {at} {n} lits (Err x) e f of h = tt
 
-pub learned_judged : {E : Type 0} (p : Program) (k : Known) (l : Line) {at : ℕ} {n : List ℤ} {names : List ℕ} (lits : List Literal) (r : Result (Option Why) E) → l ≡ line.Learned at n names → lits ≡ nogood_of l → HasLiterals p l → IfOk r (NogoodSays p k lits) → IfOk r (LineSays p k l)
+pub learned_judged : {E : Type 0} (p : Program) (k : Known) (l : Line) {at : ℕ} {n : List ℤ} {names : List ℕ} (lits : List Literal)
+    (r : Result (Option Why) E) → l ≡ line.Learned at n names → lits ≡ nogood_of l → HasLiterals p l → IfOk r (NogoodSays p k lits) →
+    IfOk r (LineSays p k l)
 learned_judged p k l {at} {n} {names} lits (Ok o) e f of h =
     subst (λ m. LineSays p k m o) (sym e) (learned_says p k at n names o (subst (HasLiterals p) e of) (subst (λ ls. NogoodSays p k ls o) (f ∙ ap nogood_of e) h))
 learned_judged p k l {at} {n} {names} lits (Err x) e f of h = tt
 
-pub cube_judged : {E : Type 0} (p : Program) (k : Known) (l : Line) {n : List ℤ} (lits : List Literal) (r : Result (Option Why) E) → l ≡ line.Cube n → lits ≡ nogood_of l → HasLiterals p l → IfOk r (NogoodSays p k lits) → IfOk r (LineSays p k l)
+pub cube_judged : {E : Type 0} (p : Program) (k : Known) (l : Line) {n : List ℤ} (lits : List Literal) (r : Result (Option Why) E) → l ≡ line.Cube n →
+    lits ≡ nogood_of l → HasLiterals p l → IfOk r (NogoodSays p k lits) → IfOk r (LineSays p k l)
 cube_judged p k l {n} lits (Ok o) e f of h =
     subst (λ m. LineSays p k m o) (sym e) (cube_says p k n o (subst (HasLiterals p) e of) (subst (λ ls. NogoodSays p k ls o) (f ∙ ap nogood_of e) h))
 cube_judged p k l {n} lits (Err x) e f of h = tt
@@ -230,6 +256,7 @@ no_bound p true [] e = refl
 no_bound p false [] e = refl
 no_bound p opt (S ∷ listed) e = absurd (omega arith)
 
-pub first_bound : (p : Program) (opt : Bool) (listed : List Atoms) (S : Atoms) (c : List ℤ) → opt ≡ true → 0 < length listed → S ≡ get_or listed 0 S → c ≡ cost p S → Some c ≡ cond opt (bound_of p listed) None
+pub first_bound : (p : Program) (opt : Bool) (listed : List Atoms) (S : Atoms) (c : List ℤ) → opt ≡ true → 0 < length listed → S ≡ get_or listed 0 S →
+    c ≡ cost p S → Some c ≡ cond opt (bound_of p listed) None
 first_bound p opt [] S c e lt is f = absurd (omega arith)
 first_bound p opt (T ∷ listed) S c e lt is f = ap (λ d. let o : Option (List ℤ) = Some d in o) (f ∙ ap (cost p) is) ∙ sym (ap (λ b. cond b (bound_of p (T ∷ listed)) None) e)

@@ -27,7 +27,8 @@ are_at p [] i lt h = absurd (omega arith)
 are_at p (l ∷ ls) zero lt h = h.0
 are_at p (l ∷ ls) (suc i) lt h = are_at p ls i (omega arith) h.1
 
-pub literals_more : (ls : List ℤ) (i : ℕ) (n now : List Literal) (l : Literal) → i < length ls → n ≡ literals_of (take i ls) → now ≡ n ++ l ∷ [] → l ≡ signed (get_or ls i (pos 0)) → now ≡ literals_of (take (i + 1) ls)
+pub literals_more : (ls : List ℤ) (i : ℕ) (n now : List Literal) (l : Literal) → i < length ls → n ≡ literals_of (take i ls) → now ≡ n ++ l ∷ [] →
+    l ≡ signed (get_or ls i (pos 0)) → now ≡ literals_of (take (i + 1) ls)
 literals_more ls i n now l lt so e is =
     e ∙ ap (λ (m : List Literal). m ++ l ∷ []) so ∙ ap (λ k. literals_of (take i ls) ++ k ∷ []) is
     ∙ sym (map-append signed (take i ls) (get_or ls i (pos 0) ∷ [])) ∙ ap literals_of (sym (take_more ls i (pos 0) lt))

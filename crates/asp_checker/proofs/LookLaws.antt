@@ -108,7 +108,9 @@ weaker_all p q w (l ∷ n) h = let parts = and_parts (p l) (list_all p n) h in a
 
 pub with_open : (x : List (Option Bool)) (l : Literal) → holds_in x l ≡ false → holds_in x (complement l) ≡ false → (n : List Literal) → list_all (holds_in x) n ≡ true → IsUnit x (n ++ l ∷ []) l
 with_open x l a b n h = record {
-  others = one_more_passes (λ m. literal_eq m l || holds_in x m) n l (weaker_all (holds_in x) (λ m. literal_eq m l || holds_in x m) (λ m e. or_right (literal_eq m l) (holds_in x m) e) n h) (or_left (literal_eq l l) (holds_in x l) (literal_itself l));
+  others = one_more_passes (λ m. literal_eq m l || holds_in x m) n l
+      (weaker_all (holds_in x) (λ m. literal_eq m l || holds_in x m) (λ m e. or_right (literal_eq m l) (holds_in x m) e) n h)
+      (or_left (literal_eq l l) (holds_in x l) (literal_itself l));
   no_value = no_value (value_of x l.var) l a b;
   among = last_among n l;
 }
@@ -139,7 +141,8 @@ not_both true false h = inr refl
 not_both true true h = absurd (h refl refl)
 
 -- With one value more not both of them hold.
-not_both_hold : (x : List (Option Bool)) (k l : Literal) (v : ℕ) (t : Bool) → holds_in x k ≡ false → holds_in x l ≡ false → literal_eq k l ≡ false → holds_in (set x v (Some t)) k ≡ true → holds_in (set x v (Some t)) l ≡ true → ⊥
+not_both_hold : (x : List (Option Bool)) (k l : Literal) (v : ℕ) (t : Bool) → holds_in x k ≡ false → holds_in x l ≡ false → literal_eq k l ≡ false →
+    holds_in (set x v (Some t)) k ≡ true → holds_in (set x v (Some t)) l ≡ true → ⊥
 not_both_hold x k l v t a b differ p q =
     let first = at_place k a p in
     let second = at_place l b q in
@@ -151,7 +154,8 @@ not_both_hold x k l v t a b differ p q =
       | false ↦ λ e. absurd (false≢true (sym none ∙ sym (other_value x v t m (λ same. false≢true (sym e ∙ eq-eqb m.var v same))) ∙ now))
     ]) refl
 
-two_open : (x : List (Option Bool)) (n : List Literal) (k l : Literal) → has_literal n k ≡ true → has_literal n l ≡ true → holds_in x k ≡ false → holds_in x l ≡ false → literal_eq k l ≡ false → IsAtFixpoint x n
+two_open : (x : List (Option Bool)) (n : List Literal) (k l : Literal) → has_literal n k ≡ true → has_literal n l ≡ true → holds_in x k ≡ false →
+    holds_in x l ≡ false → literal_eq k l ≡ false → IsAtFixpoint x n
 two_open x n k l a b none also differ = record {
   now = one_fails x n l b also;
   one_more = λ v t e.
@@ -163,7 +167,8 @@ pub with_second : (x : List (Option Bool)) (k l : Literal) → holds_in x l ≡ 
 with_second x k l none differ n h = two_open x (n ++ l ∷ []) k l (among_more n l k h.among) (last_among n l) (none_holds x k h.no_value) none differ
 
 -- ---- as far as a nogood was read
-pub seen_more : (x : List (Option Bool)) (lits : List Literal) (i : ℕ) (l : Literal) (seen : Look) → i < length lits → l ≡ get_or lits i l → IsSeen x (take i lits ++ l ∷ []) seen → IsSeen x (take (i + 1) lits) seen
+pub seen_more : (x : List (Option Bool)) (lits : List Literal) (i : ℕ) (l : Literal) (seen : Look) → i < length lits → l ≡ get_or lits i l →
+    IsSeen x (take i lits ++ l ∷ []) seen → IsSeen x (take (i + 1) lits) seen
 seen_more x lits i l seen lt is h = subst (λ (n : List Literal). IsSeen x n seen) (ap (λ k. take i lits ++ k ∷ []) is ∙ sym (take_more lits i l lt)) h
 
 pub fixpoint_whole : (x : List (Option Bool)) (lits : List Literal) (i : ℕ) → IsAtFixpoint x (take i lits) → IsAtFixpoint x lits

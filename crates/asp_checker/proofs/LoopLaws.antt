@@ -34,7 +34,9 @@ use Rattle.asp_checker.specs.Lines.{IsLoop, is_answered}
 
 -- ---- an answered body
 -- no body of a rule that holds from outside is answered
-answered_hit : (p : Program) (S T U : Atoms) → IsReadBy p S → (b : Body) (n : List Literal) → list_any (body_eq b) (bodies_of p) ≡ true → Stands (atoms_of p) b → AreItems (form_items b) → Apart S T U → body_holds_between S T b ≡ true → is_answered p U n b ≡ true → hits (values p S) n ≡ true → ⊥
+answered_hit : (p : Program) (S T U : Atoms) → IsReadBy p S → (b : Body) (n : List Literal) → list_any (body_eq b) (bodies_of p) ≡ true →
+    Stands (atoms_of p) b → AreItems (form_items b) → Apart S T U → body_holds_between S T b ≡ true → is_answered p U n b ≡ true →
+    hits (values p S) n ≡ true → ⊥
 answered_hit p S T U read (body.All ls) n listed stands weighted h e answered hit =
     elim (or_cases (has_literal n (complement (literal_of_form p (body.All ls)))) (list_any (is_inside U) ls) answered) [
       | inl has ↦ body_not_false p S T U (body.All ls) read listed h weighted e (hits-has (values p S) n (complement (literal_of_form p (body.All ls))) hit has)
@@ -66,7 +68,8 @@ broken p U n S a sound line stable hit member in_S =
     } in
     let founded = stable-founded p S V sound stable (λ b e. and_left (has S b) (has U b) (sym (has-filter (has S) U b) ∙ e)) a in_V in
     let good : Rule → Bool = λ r. not (list_any (has U) (head_atoms r.head)) || is_answered p U n (normal r.body) in
-    let rule = some (λ r. (Among (rules_in_force p) r × AllByRecursion (λ c. has (atoms_of p) c ≡ true) (body_atoms r.body)) × (good r ≡ true)) (λ r. has (derived_heads S W r) founded.0) (rules_in_force p)
+    let rule = some (λ r. (Among (rules_in_force p) r × AllByRecursion (λ c. has (atoms_of p) c ≡ true) (body_atoms r.body)) × (good r ≡ true))
+    (λ r. has (derived_heads S W r) founded.0) (rules_in_force p)
     (each_both (λ r. Among (rules_in_force p) r × AllByRecursion (λ c. has (atoms_of p) c ≡ true) (body_atoms r.body)) (λ r. good r ≡ true) (rules_in_force p)
     (each_both (Among (rules_in_force p)) (λ r. AllByRecursion (λ c. has (atoms_of p) c ≡ true) (body_atoms r.body)) (rules_in_force p) (each_among (rules_in_force p)) (rules_in_force-bodies p))
     (each_passes good (rules_in_force p) line.bodies))
@@ -74,7 +77,9 @@ broken p U n S a sound line stable hit member in_S =
     let derived = derived_parts S W rule.0 founded.0 rule.2 in
     let in_U : has U founded.0 ≡ true = and_right (has S founded.0) (has U founded.0) (sym (has-filter (has S) U founded.0) ∙ founded.1) in
     let headed : list_any (has U) (head_atoms rule.0.head) ≡ true = any_of (has U) (head_atoms rule.0.head) founded.0 derived.1 in_U in
-    answered_hit p S W U (stable-read p S sound stable) (normal rule.0.body) n (rule_has_form p rule.0 rule.1.0.0) (normal-stands (atoms_of p) rule.0.body rule.1.0.1) (form_weighted p rule.0 sound rule.1.0.0) apart (body_holds_between-normal S W rule.0.body ∙ derived.0)
+    answered_hit p S W U (stable-read p S sound stable) (normal rule.0.body) n (rule_has_form p rule.0 rule.1.0.0)
+    (normal-stands (atoms_of p) rule.0.body rule.1.0.1) (form_weighted p rule.0 sound rule.1.0.0) apart
+    (body_holds_between-normal S W rule.0.body ∙ derived.0)
     (passes (list_any (has U) (head_atoms rule.0.head)) (is_answered p U n (normal rule.0.body)) headed rule.1.1) hit
   where
     outside : (s u v : Bool) → u ≡ true → v ≡ (s && u) → (not v && s) ≡ false
@@ -85,8 +90,15 @@ broken p U n S a sound line stable hit member in_S =
     outside true false v e f = absurd (false≢true e)
 
 pub line-entailed : (p : Program) (U : Atoms) (n : List Literal) → IsSound p → IsLoop p U n → Entailed p n
-line-entailed p U n sound line = record { excused = λ S stable hit. absurd (one_passes ⊥ (λ a. has_literal n (T (var_of_atom p a))) U (each S stable hit U (each_both (λ a. has U a ≡ true) (λ a. has (atoms_of p) a ≡ true) U (HasAll-itself U) (each_passes (has (atoms_of p)) U line.among))) line.head) }
+line-entailed p U n sound line = record {
+  excused =
+      λ S stable hit. absurd (one_passes ⊥ (λ a. has_literal n (T (var_of_atom p a))) U
+      (each S stable hit U (each_both (λ a. has U a ≡ true) (λ a. has (atoms_of p) a ≡ true) U (HasAll-itself U)
+      (each_passes (has (atoms_of p)) U line.among))) line.head);
+}
   where
-    each : (S : Atoms) → is_stable p S ≡ true → hits (values p S) n ≡ true → (us : List ℕ) → AllByRecursion (λ a. (has U a ≡ true) × (has (atoms_of p) a ≡ true)) us → AllByRecursion (λ a. has_literal n (T (var_of_atom p a)) ≡ true → ⊥) us
+    each : (S : Atoms) → is_stable p S ≡ true → hits (values p S) n ≡ true → (us : List ℕ) →
+        AllByRecursion (λ a. (has U a ≡ true) × (has (atoms_of p) a ≡ true)) us →
+        AllByRecursion (λ a. has_literal n (T (var_of_atom p a)) ≡ true → ⊥) us
     each S stable hit [] h = tt
     each S stable hit (a ∷ us) h = (λ e. broken p U n S a sound line stable hit h.0.0 (sym (atom-true p S a h.0.1) ∙ hits-has (values p S) n (T (var_of_atom p a)) hit e), each S stable hit us h.1)

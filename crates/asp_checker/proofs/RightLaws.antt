@@ -70,7 +70,9 @@ closes-hit p S (line.Learned place nogood names) assumed e = within-hits (values
 closes-hit p S (line.Cube nogood) assumed e = within-hits (values p S) (map (literal_of p) p.assumptions) (literals_of nogood) assumed e
 
 -- Each answer is excused, where a line closes.
-stock-excused : (p : Program) (excuse : Atoms → Bool) (s : Stock) (lines : List Line) → IsSound p → IsStockFor p excuse s → AreConfirmed p s lines → list_any (closes p) lines ≡ true → (S : Atoms) → is_stable p S ≡ true → hits (values p S) (map (literal_of p) p.assumptions) ≡ true → excuse S ≡ true
+stock-excused : (p : Program) (excuse : Atoms → Bool) (s : Stock) (lines : List Line) → IsSound p → IsStockFor p excuse s → AreConfirmed p s lines →
+    list_any (closes p) lines ≡ true → (S : Atoms) → is_stable p S ≡ true → hits (values p S) (map (literal_of p) p.assumptions) ≡ true →
+    excuse S ≡ true
 stock-excused p excuse s [] sound known h e S stable assumed = absurd (false≢true e)
 stock-excused p excuse s (l ∷ lines) sound known h e S stable assumed =
     let here : HitsOnly p excuse (nogood_of l) = line-excused p excuse (all_of s) l sound (stock-known p excuse s known) h.0 h.1 in
@@ -79,7 +81,9 @@ stock-excused p excuse s (l ∷ lines) sound known h e S stable assumed =
       | inr c ↦ stock-excused p excuse (with_line s l) lines sound (stock-placed p excuse s (place_of l) (nogood_of l) known here) h.2 c S stable assumed
     ]
 
-closed-excused : (p : Program) (excuse : Atoms → Bool) (k : Known) (lines : List Line) → IsSound p → IsKnownFor p excuse k → AreConfirmed p (stock k []) lines → list_any (closes p) lines ≡ true → (S : Atoms) → is_stable p S ≡ true → hits (values p S) (map (literal_of p) p.assumptions) ≡ true → excuse S ≡ true
+closed-excused : (p : Program) (excuse : Atoms → Bool) (k : Known) (lines : List Line) → IsSound p → IsKnownFor p excuse k →
+    AreConfirmed p (stock k []) lines → list_any (closes p) lines ≡ true → (S : Atoms) → is_stable p S ≡ true →
+    hits (values p S) (map (literal_of p) p.assumptions) ≡ true → excuse S ≡ true
 closed-excused p excuse k lines sound known h e S stable assumed = stock-excused p excuse (stock k []) lines sound (record { kept = known; placed = tt }) h e S stable assumed
 
 -- ---- the start
@@ -94,7 +98,8 @@ undone true e = absurd (false≢true e)
 undone false e = refl
 
 -- a stable set that hits the nogood of an answer is that answer
-agree : (p : Program) (S T : Atoms) (L : List ℕ) → AllByRecursion (λ a. has (atoms_of p) a ≡ true) L → hits (values p T) (map (λ a. record { var = var_of_atom p a; truth = has S a }) L) ≡ true → AllByRecursion (λ a. has T a ≡ has S a) L
+agree : (p : Program) (S T : Atoms) (L : List ℕ) → AllByRecursion (λ a. has (atoms_of p) a ≡ true) L →
+    hits (values p T) (map (λ a. record { var = var_of_atom p a; truth = has S a }) L) ≡ true → AllByRecursion (λ a. has T a ≡ has S a) L
 agree p S T [] stand hit = tt
 agree p S T (a ∷ L) stand hit =
     let parts = and_parts (is_true (values p T) (record { var = var_of_atom p a; truth = has S a })) (hits (values p T) (map (λ a. record { var = var_of_atom p a; truth = has S a }) L)) hit in
@@ -138,7 +143,8 @@ one-listed p K S answer listed = record {
       or_left (list_any (same_set T) K) false (ap (λ U. list_any (same_set U) K) same ∙ test_from_contains K S listed);
 }
 
-listed-known : (p : Program) (K : List Atoms) → IsSound p → AllByRecursion (Contains (answers p)) K → IsKnownFor p (is_done p K None) (record { nogoods = map (nogood_of_answer p) K ++ completion p; bound = None })
+listed-known : (p : Program) (K : List Atoms) → IsSound p → AllByRecursion (Contains (answers p)) K →
+    IsKnownFor p (is_done p K None) (record { nogoods = map (nogood_of_answer p) K ++ completion p; bound = None })
 listed-known p K sound members = record {
   nogoods = each-append (HitsOnly p (is_done p K None)) (map (nogood_of_answer p) K) (completion p) (each-map (HitsOnly p (is_done p K None)) (nogood_of_answer p) K
       (each_weaker (λ S. Contains (answers p) S × Contains K S) (λ S. HitsOnly p (is_done p K None) (nogood_of_answer p S)) (λ S h. one-listed p K S h.0 h.1) K
@@ -164,16 +170,22 @@ none_passes : (q : Atoms → Bool) (xs : List Atoms) → AllByRecursion (λ x. q
 none_passes q [] h = refl
 none_passes q (x ∷ xs) h = or_from (q x) (list_any q xs) h.0 (none_passes q xs h.1)
 
-shows-all : (p : Program) (K : List Atoms) (lines : List Line) → IsSound p → AllByRecursion (Contains (answers p)) K → AllPairs IsBefore K → AreConfirmed p (stock (record { nogoods = map (nogood_of_answer p) K ++ completion p; bound = None }) []) lines → list_any (closes p) lines ≡ true → K ≡ answers p
+shows-all : (p : Program) (K : List Atoms) (lines : List Line) → IsSound p → AllByRecursion (Contains (answers p)) K → AllPairs IsBefore K →
+    AreConfirmed p (stock (record { nogoods = map (nogood_of_answer p) K ++ completion p; bound = None }) []) lines →
+    list_any (closes p) lines ≡ true → K ≡ answers p
 shows-all p K lines sound members order confirmed whole = same_from_members K (answers p) order (answers-rise p) (λ S. (
   λ h. All-contains (Contains (answers p)) K S (All-from_recursion (Contains (answers p)) K members) h,
-  λ h. let is = (answers-are p S).0 h in contains_from_test K S (listed S (closed-excused p (is_done p K None) (record { nogoods = map (nogood_of_answer p) K ++ completion p; bound = None }) lines sound (listed-known p K sound members) confirmed whole S is.0 (answer-hits p S is.1))),
+  λ h. let is = (answers-are p S).0 h in
+      contains_from_test K S (listed S (closed-excused p (is_done p K None)
+      (record { nogoods = map (nogood_of_answer p) K ++ completion p; bound = None }) lines sound (listed-known p K sound members) confirmed
+      whole S is.0 (answer-hits p S is.1))),
 ))
   where
     listed : (S : Atoms) → is_done p K None S ≡ true → list_any (same_set S) K ≡ true
     listed S e = elim (or_cases (list_any (same_set S) K) false e) [ inl h ↦ h | inr h ↦ absurd (false≢true h) ]
 
-shows-best : (p : Program) (K : List Atoms) (lines : List Line) → IsSound p → AllByRecursion (Contains (answers p)) K → length K ≤ 1 → AreConfirmed p (stock (record { nogoods = completion p; bound = bound_of p K }) []) lines → list_any (closes p) lines ≡ true → ShowsBest p K
+shows-best : (p : Program) (K : List Atoms) (lines : List Line) → IsSound p → AllByRecursion (Contains (answers p)) K → length K ≤ 1 →
+    AreConfirmed p (stock (record { nogoods = completion p; bound = bound_of p K }) []) lines → list_any (closes p) lines ≡ true → ShowsBest p K
 shows-best p [] lines sound members single confirmed whole = none_listed (answers p) (λ S h.
     let is = (answers-are p S).0 h in
     false≢true (closed-excused p (λ S. false) (record { nogoods = completion p; bound = None }) lines sound (nothing-known p sound) confirmed whole S is.0 (answer-hits p S is.1)))
@@ -182,7 +194,9 @@ shows-best p (S ∷ K) lines sound members single confirmed whole = (
   record {
     answer = members.0;
     sums = refl;
-    least = none_passes (λ T. betters (cost p T) (cost p S)) (answers p) (each_weaker (Contains (answers p)) (λ T. betters (cost p T) (cost p S) ≡ false) dearer (answers p) (recursion_from_All (Contains (answers p)) (answers p) (All-contains_itself (answers p))));
+    least = none_passes (λ T. betters (cost p T) (cost p S)) (answers p)
+        (each_weaker (Contains (answers p)) (λ T. betters (cost p T) (cost p S) ≡ false) dearer (answers p)
+        (recursion_from_All (Contains (answers p)) (answers p) (All-contains_itself (answers p))));
   },
 )
   where
@@ -193,9 +207,14 @@ shows-best p (S ∷ K) lines sound members single confirmed whole = (
     dearer : (T : Atoms) → Contains (answers p) T → betters (cost p T) (cost p S) ≡ false
     dearer T h =
         let is = (answers-are p T).0 h in
-        undone (betters (cost p T) (cost p S)) (closed-excused p (costs p (cost p S)) (record { nogoods = completion p; bound = Some (cost p S) }) lines sound (costs-known p S sound) confirmed whole T is.0 (answer-hits p T is.1))
+        undone (betters (cost p T) (cost p S)) (closed-excused p (costs p (cost p S)) (record { nogoods = completion p; bound = Some (cost p S) })
+        lines sound (costs-known p S sound) confirmed whole T is.0 (answer-hits p T is.1))
 
-by-mode : (p : Program) (opt : Bool) (K : List Atoms) (lines : List Line) → IsSound p → AllByRecursion (Contains (answers p)) K → AllPairs IsBefore K → (opt ≡ true → length K ≤ 1) → AreConfirmed p (stock (cond opt (record { nogoods = completion p; bound = bound_of p K }) (record { nogoods = map (nogood_of_answer p) K ++ completion p; bound = None })) []) lines → list_any (closes p) lines ≡ true → MatchBool opt (ShowsBest p K) (K ≡ answers p)
+by-mode : (p : Program) (opt : Bool) (K : List Atoms) (lines : List Line) → IsSound p → AllByRecursion (Contains (answers p)) K →
+    AllPairs IsBefore K → (opt ≡ true → length K ≤ 1) →
+    AreConfirmed p (stock (cond opt (record { nogoods = completion p; bound = bound_of p K })
+    (record { nogoods = map (nogood_of_answer p) K ++ completion p; bound = None })) []) lines → list_any (closes p) lines ≡ true →
+    MatchBool opt (ShowsBest p K) (K ≡ answers p)
 by-mode p true K lines sound members order single confirmed whole = shows-best p K lines sound members (single refl) confirmed whole
 by-mode p false K lines sound members order single confirmed whole = shows-all p K lines sound members order confirmed whole
 

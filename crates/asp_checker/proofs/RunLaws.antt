@@ -41,7 +41,8 @@ program_judged format program text p (Err (error.Proof proof.ReadFault)) reads h
 program_judged format program text p (Err (error.Proof proof.TooLong)) reads h = h
 program_judged format program text p (Err (error.Proof (proof.Refused number))) reads h = (p, reads, h)
 
-pub program_refused : (format : Format) (program text : List ℕ) (e : ReadError) → (e ≡ read.ReadFault → ⊥) → ReadsText (Err e) (outcome_for format program) → TextsSay format program text (Err (program_error e))
+pub program_refused : (format : Format) (program text : List ℕ) (e : ReadError) → (e ≡ read.ReadFault → ⊥) →
+    ReadsText (Err e) (outcome_for format program) → TextsSay format program text (Err (program_error e))
 program_refused format program text read.Memory never h = tt
 program_refused format program text read.ReadFault never h = absurd (never refl)
 program_refused format program text read.TooLong never h = h
@@ -106,8 +107,16 @@ none_first = record { place = λ rest. omega arith }
 pub none_next : (program bytes : List ℕ) → AreNone program → IsUnbroken bytes → (bytes ≡ codes "proof 2" → ⊥) → AreNone (program ++ (bytes ++ 10 ∷ []))
 none_next program bytes h u never = record {
   place = λ rest.
-      let e : (program ++ (bytes ++ 10 ∷ [])) ++ rest ≡ program ++ (bytes ++ 10 ∷ rest) = append_assoc program (bytes ++ 10 ∷ []) rest ∙ ap (λ (t : List ℕ). program ++ t) (append_assoc bytes (10 ∷ []) rest) in
-      omega (arith, ap proof_place e, h.place (bytes ++ 10 ∷ rest), whole_line bytes rest u (no_head bytes rest u never _ refl), length-append program (bytes ++ 10 ∷ []), length-append bytes (10 ∷ []));
+      let e : (program ++ (bytes ++ 10 ∷ [])) ++ rest ≡ program ++ (bytes ++ 10 ∷ rest) =
+      append_assoc program (bytes ++ 10 ∷ []) rest ∙ ap (λ (t : List ℕ). program ++ t) (append_assoc bytes (10 ∷ []) rest) in
+      omega (
+        arith,
+        ap proof_place e,
+        h.place (bytes ++ 10 ∷ rest),
+        whole_line bytes rest u (no_head bytes rest u never _ refl),
+        length-append program (bytes ++ 10 ∷ []),
+        length-append bytes (10 ∷ []),
+      );
 }
 
 pub none_here : (program rest : List ℕ) → AreNone program → proof_place (program ++ (codes "proof 2" ++ 10 ∷ rest)) ≡ length program
@@ -117,7 +126,8 @@ pub none_at_end : (format : Format) (program bytes : List ℕ) → AreNone progr
 none_at_end format program bytes h u = omega (arith, h.place bytes, broken_from true bytes u, length-append program bytes)
 
 -- the text of the program and that of the proof
-pub parts_say : (format : Format) (program after text : List ℕ) (r : Result Judgement CheckError) → proof_place text ≡ length program → text ≡ program ++ after → TextsSay format program after r → InputSays format text r
+pub parts_say : (format : Format) (program after text : List ℕ) (r : Result Judgement CheckError) → proof_place text ≡ length program →
+    text ≡ program ++ after → TextsSay format program after r → InputSays format text r
 parts_say format program after text r place e h =
     let a : program ≡ program_part text = sym (ap (λ n. take n text) place ∙ ap (take (length program)) e ∙ take-append_seam program after) in
     let b : after ≡ proof_part text = sym (ap (λ n. drop n text) place ∙ ap (drop (length program)) e ∙ drop-append_seam program after) in
@@ -144,29 +154,38 @@ input_failed format front text (error.Proof proof.TooLong) h = inl (long_behind 
 input_failed format front text (error.Proof (proof.Refused number)) h = absurd h
 
 -- ---- the program's text
-pub text_failed : (source now first : Option (List ℕ)) (program : List ℕ) (old new : Window) (e : CheckError) → Moves first source [] (program ++ old.behind) → StepsTo source now old new (Err e) → Comes first [] (λ text. (format : Format) → InputSays format text (Err e))
+pub text_failed : (source now first : Option (List ℕ)) (program : List ℕ) (old new : Window) (e : CheckError) →
+    Moves first source [] (program ++ old.behind) → StepsTo source now old new (Err e) →
+    Comes first [] (λ text. (format : Format) → InputSays format text (Err e))
 text_failed source now first program old new e m h =
     comes_back first source [] (program ++ old.behind) _ m (comes_front source program old.behind _ (comes_so source old.behind _ _ (λ text k format. input_failed format program text e k) h))
 
-text_moves : (source now first : Option (List ℕ)) (program : List ℕ) (old : Window) (after : List ℕ) → Moves first source [] (program ++ old.behind) → Moves source now old.behind after → Moves first now [] (program ++ after)
+text_moves : (source now first : Option (List ℕ)) (program : List ℕ) (old : Window) (after : List ℕ) → Moves first source [] (program ++ old.behind) →
+    Moves source now old.behind after → Moves first now [] (program ++ after)
 text_moves source now first program old after m n = moves_then first source now [] (program ++ old.behind) (program ++ after) m (moves_more source now old.behind after program n)
 
-pub text_ended : (source now first : Option (List ℕ)) (program : List ℕ) (old new : Window) → AreNone program → Moves first source [] (program ++ old.behind) → IsNextLine source now old new (Ok false) → Comes first [] (λ text. (format : Format) → InputSays format text (Err error.NoProof))
+pub text_ended : (source now first : Option (List ℕ)) (program : List ℕ) (old new : Window) → AreNone program →
+    Moves first source [] (program ++ old.behind) → IsNextLine source now old new (Ok false) →
+    Comes first [] (λ text. (format : Format) → InputSays format text (Err error.NoProof))
 text_ended source now first program old new none m n =
     comes_back first now [] (program ++ new.line) _ (text_moves source now first program old new.line m n.1) (comes_end now _ _ n.2 (λ format. none_at_end format program new.line none n.0))
 
-pub text_found : (source now first : Option (List ℕ)) (program : List ℕ) (old new : Window) → AreNone program → Moves first source [] (program ++ old.behind) → IsNextLine source now old new (Ok true) → new.line ≡ codes "proof 2" → FindsProof first now new (Ok (Some program))
+pub text_found : (source now first : Option (List ℕ)) (program : List ℕ) (old new : Window) → AreNone program →
+    Moves first source [] (program ++ old.behind) → IsNextLine source now old new (Ok true) → new.line ≡ codes "proof 2" →
+    FindsProof first now new (Ok (Some program))
 text_found source now first program old new none m n e = (e, text_moves source now first program old (held new) m n.1, λ rest. none_here program rest none)
 
 -- one line more
-pub text_next : (source now first : Option (List ℕ)) (program more : List ℕ) (old new : Window) → Moves first source [] (program ++ old.behind) → IsNextLine source now old new (Ok true) → more ≡ program ++ (new.line ++ 10 ∷ []) → Moves first now [] (more ++ new.behind)
+pub text_next : (source now first : Option (List ℕ)) (program more : List ℕ) (old new : Window) → Moves first source [] (program ++ old.behind) →
+    IsNextLine source now old new (Ok true) → more ≡ program ++ (new.line ++ 10 ∷ []) → Moves first now [] (more ++ new.behind)
 text_next source now first program more old new m n e =
     moves_as first now [] _ _
     (ap (λ (t : List ℕ). program ++ t) (sym (append_assoc new.line (10 ∷ []) new.behind)) ∙ sym (append_assoc program (new.line ++ 10 ∷ []) new.behind) ∙ ap (λ (t : List ℕ). t ++ new.behind) (sym e))
     (text_moves source now first program old (held new) m n.1)
 
 -- a line for which there is no room
-pub text_too_long : (source now first : Option (List ℕ)) (program : List ℕ) (old new : Window) (e : CheckError) (U : Type 0) (after : List ℕ) → AreNone program → Moves first source [] (program ++ old.behind) → IsNextLine source now old new (Ok true) → (new.line ≡ codes "proof 2" → ⊥)
+pub text_too_long : (source now first : Option (List ℕ)) (program : List ℕ) (old new : Window) (e : CheckError) (U : Type 0) (after : List ℕ) →
+    AreNone program → Moves first source [] (program ++ old.behind) → IsNextLine source now old new (Ok true) → (new.line ≡ codes "proof 2" → ⊥)
     → AddsLine {U = U} program after new.line (Err e) → Comes first [] (λ text. (format : Format) → InputSays format text (Err e))
 text_too_long source now first program old new e U after none m n never h =
     comes_back first now [] (program ++ held new) _ (text_moves source now first program old (held new) m n.1) (comes_any now _ _ (λ rest format. too_long rest format e h))
@@ -176,7 +195,15 @@ text_too_long source now first program old new e U after none m n never h =
         let text = (program ++ held new) ++ rest in
         let e : text ≡ (program ++ (new.line ++ 10 ∷ [])) ++ (new.behind ++ rest) = simp append_assoc in
         let after = none_next program new.line none n.0 never in
-        omega (arith, lt, ap proof_place e, after.place (new.behind ++ rest), length-append program (new.line ++ 10 ∷ []), length-append new.line (10 ∷ []), length-take-le (proof_place text) text (place_within true text))
+        omega (
+          arith,
+          lt,
+          ap proof_place e,
+          after.place (new.behind ++ rest),
+          length-append program (new.line ++ 10 ∷ []),
+          length-append new.line (10 ∷ []),
+          length-take-le (proof_place text) text (place_within true text),
+        )
 
     too_long : (rest : List ℕ) (format : Format) (e : CheckError) → AddsLine {U = U} program after new.line (Err e) → InputSays format ((program ++ held new) ++ rest) (Err e)
     too_long rest format error.Memory h = tt
@@ -187,7 +214,9 @@ text_too_long source now first program old new e U after none m n never h =
     too_long rest format (error.Proof proof.TooLong) h = inr (place rest h.1)
     too_long rest format (error.Proof (proof.Refused number)) h = let f = h.0 in absurd cc
 
-pub text_judged_behind : (source first : Option (List ℕ)) (w : Window) (program : List ℕ) (format : Format) (r : Result Judgement CheckError) → FindsProof first source w (Ok (Some program)) → Comes source (held w) (λ text. TextsSay format program text r) → Comes first [] (λ text. InputSays format text r)
+pub text_judged_behind : (source first : Option (List ℕ)) (w : Window) (program : List ℕ) (format : Format) (r : Result Judgement CheckError) →
+    FindsProof first source w (Ok (Some program)) → Comes source (held w) (λ text. TextsSay format program text r) →
+    Comes first [] (λ text. InputSays format text r)
 text_judged_behind source first w program format r finds c =
     comes_back first source [] (program ++ held w) _ finds.1 (comes_front source program (held w) _ (comes_with c))
   where

@@ -42,7 +42,8 @@ no-conflict p k x n e known h =
     let hit = or_parts (list_any (λ m. list_all (holds_in x) m) k.nogoods) (list_any (is_broken p x) (bodies_of p)) first.0 in
     false≢true (sym hit.0 ∙ known (λ m. list_all (holds_in x) m) h)
 
-all-hold : (x z : List (Option Bool)) (n : List Literal) (l : Literal) → ((m : Literal) → holds_in x m ≡ true → holds_in z m ≡ true) → holds_in z l ≡ true → is_unit x n l ≡ true → list_all (holds_in z) n ≡ true
+all-hold : (x z : List (Option Bool)) (n : List Literal) (l : Literal) → ((m : Literal) → holds_in x m ≡ true → holds_in z m ≡ true) →
+    holds_in z l ≡ true → is_unit x n l ≡ true → list_all (holds_in z) n ≡ true
 all-hold x z [] l more here e = refl
 all-hold x z (m ∷ n) l more here e =
     let parts = and_parts (literal_eq m l || holds_in x m) (is_unit x n l) e in
@@ -51,7 +52,8 @@ all-hold x z (m ∷ n) l more here e =
     (all-hold x z n l more here parts.1)
 
 -- Of a nogood all of whose other literals hold, the last one is false.
-pub unit-forces : (p : Program) (k : Known) (x : List (Option Bool)) (n : List Literal) (l : Literal) → IsKnown k n → 0 < l.var → l.var ≤ var_count p → is_unit x n l ≡ true → Forced p k x (complement l)
+pub unit-forces : (p : Program) (k : Known) (x : List (Option Bool)) (n : List Literal) (l : Literal) → IsKnown k n → 0 < l.var →
+    l.var ≤ var_count p → is_unit x n l ≡ true → Forced p k x (complement l)
 unit-forces p k x n l known i le unit y propagated within = cases (value_of y l.var) refl
   where
     cases : (o : Option Bool) → o ≡ value_of y l.var → holds_in y (complement l) ≡ true

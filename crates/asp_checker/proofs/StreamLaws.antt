@@ -11,7 +11,7 @@ use Rattle.asp_proof.specs.declared.error.ProofError.TheVariants as proof
 use Rattle.asp_proof.specs.Texts.{answer_text, line_text, mode_line, text_of, line}
 use Rattle.asp_proof.specs.Grammar.{IsProof, IsSet, IsLine, IsUnbroken, IsFirstFault}
 use Rattle.asp_proof.specs.Fields.{IsNone, IsWhole}
-use Rattle.asp_proof.specs.Walk.{IsBegun, Takes, front_of, proof_of}
+use Rattle.asp_proof.specs.Walk.{IsBegun, IsNextAnswer, Takes, front_of, proof_of}
 use Rattle.asp_proof.specs.Reading.{HasLongLine, HasMore, IsNextLine, Moves, Comes, Window, held}
 use Rattle.asp_proof.proofs.WalkLaws.{head}
 use Rattle.asp_proof.proofs.ReaderLaws.{moves_none, moves_as, moves_then}
@@ -48,11 +48,13 @@ fails_judged p front text (error.Proof proof.TooLong) h = long_behind front text
 fails_judged p front text (error.Proof (proof.Refused number)) h = absurd h
 
 -- what was said behind some bytes is said of the whole
-pub step_failed : (p : Program) (first source now : Option (List ℕ)) (bytes front : List ℕ) (old new : Window) (e : CheckError) → Moves first source bytes (front ++ old.behind) → StepsTo source now old new (Err e) → Comes first bytes (λ text. Judges p text (Err e))
+pub step_failed : (p : Program) (first source now : Option (List ℕ)) (bytes front : List ℕ) (old new : Window) (e : CheckError) →
+    Moves first source bytes (front ++ old.behind) → StepsTo source now old new (Err e) → Comes first bytes (λ text. Judges p text (Err e))
 step_failed p first source now bytes front old new e m h =
     comes_back first source bytes (front ++ old.behind) _ m (comes_front source front old.behind _ (comes_so source old.behind _ _ (λ text k. fails_judged p front text e k) h))
 
-step_moves : (first source now : Option (List ℕ)) (bytes front : List ℕ) (old : Window) (after : List ℕ) → Moves first source bytes (front ++ old.behind) → Moves source now old.behind after → Moves first now bytes (front ++ after)
+step_moves : (first source now : Option (List ℕ)) (bytes front : List ℕ) (old : Window) (after : List ℕ) →
+    Moves first source bytes (front ++ old.behind) → Moves source now old.behind after → Moves first now bytes (front ++ after)
 step_moves first source now bytes front old after m n = moves_then first source now bytes (front ++ old.behind) (front ++ after) m (moves_more source now old.behind after front n)
 
 held_more : (front bytes behind rest : List ℕ) → front ++ (bytes ++ 10 ∷ (behind ++ rest)) ≡ (front ++ (bytes ++ 10 ∷ behind)) ++ rest
@@ -77,14 +79,16 @@ pub no_fault : {T : Type 0} (x : T) (e : CheckError) → (let r : Result T Check
 no_fault x e is = cc
 
 -- ---- what is said of a text that begins so
-right_before : (p : Program) (q : Proof) (rest : List ℕ) (number : ℕ) → IsProof q → AreRightAnswers p q.opt q.answers → AreConfirmed p (first_stock p q) q.lines → number ≡ length q.answers + length q.lines + 3 → IsRightBefore p (front_of q ++ rest) number
+right_before : (p : Program) (q : Proof) (rest : List ℕ) (number : ℕ) → IsProof q → AreRightAnswers p q.opt q.answers →
+    AreConfirmed p (first_stock p q) q.lines → number ≡ length q.answers + length q.lines + 3 → IsRightBefore p (front_of q ++ rest) number
 right_before p q rest number is answers lines e = record { proof = q; is = is; rest = rest; begins = refl; answers = answers; lines = lines; next = inl e }
 
 first_as : (text : List ℕ) (n number : ℕ) → IsFirstFault text n → n ≡ number → IsFirstFault text number
 first_as text n number f e = subst (IsFirstFault text) e f
 
 -- no line feed comes after the lines so far
-broken : (p : Program) (q : Proof) (rest : List ℕ) (number : ℕ) → IsBegun (length q.answers + length q.lines + 2) q → AreRightAnswers p q.opt q.answers → AreConfirmed p (first_stock p q) q.lines → IsUnbroken rest → number ≡ length q.answers + length q.lines + 3
+broken : (p : Program) (q : Proof) (rest : List ℕ) (number : ℕ) → IsBegun (length q.answers + length q.lines + 2) q →
+    AreRightAnswers p q.opt q.answers → AreConfirmed p (first_stock p q) q.lines → IsUnbroken rest → number ≡ length q.answers + length q.lines + 3
     → IsFaultAt p (front_of q ++ rest) number
 broken p q rest number begun answers lines u e = record {
   first = first_as _ _ number (line_broken (length q.answers + length q.lines + 2) q rest begun u) (omega (arith, e));
@@ -99,22 +103,35 @@ listed_first p opt source behind = record {
   moved = moves_none source (front_of (proof_of opt [] []) ++ behind);
 }
 
-pub listed_at : (p : Program) (opt : Bool) (answers : List Atoms) (first source now : Option (List ℕ)) (bytes : List ℕ) (old new : Window) → AreListed p opt answers first source bytes old.behind → IsNextLine source now old new (Ok true) → AreListed p opt answers first now bytes (held new)
-listed_at p opt answers first source now bytes old new h n = record { right = h.right; begun = h.begun; moved = step_moves first source now bytes (front_of (proof_of opt answers [])) old (held new) h.moved n.1 }
+pub listed_at : (p : Program) (opt : Bool) (answers : List Atoms) (first source now : Option (List ℕ)) (bytes : List ℕ) (old new : Window) →
+    AreListed p opt answers first source bytes old.behind → IsNextLine source now old new (Ok true) →
+    AreListed p opt answers first now bytes (held new)
+listed_at p opt answers first source now bytes old new h n =
+    record {
+      right = h.right;
+      begun = h.begun;
+      moved =
+          step_moves first source now bytes (front_of (proof_of opt answers [])) old (held new) h.moved n.1;
+    }
 
-takes_answer : (answers : List Atoms) (S : Atoms) (bytes : List ℕ) → IsWhole IsSet answer_text bytes S → Takes bytes answers [] (answers ++ S ∷ []) []
+takes_answer : (answers : List Atoms) (S : Atoms) (bytes : List ℕ) → IsNextAnswer answers bytes S → Takes bytes answers [] (answers ++ S ∷ []) []
 takes_answer answers S bytes w = inl (S, refl, refl, refl, w)
 
-begun_listed : (opt : Bool) (answers : List Atoms) (S : Atoms) (bytes : List ℕ) → IsBegun (length answers + 2) (proof_of opt answers []) → IsUnbroken bytes → IsWhole IsSet answer_text bytes S → IsBegun (length (answers ++ S ∷ []) + 2) (proof_of opt (answers ++ S ∷ []) [])
+begun_listed : (opt : Bool) (answers : List Atoms) (S : Atoms) (bytes : List ℕ) → IsBegun (length answers + 2) (proof_of opt answers []) →
+    IsUnbroken bytes → IsNextAnswer answers bytes S → IsBegun (length (answers ++ S ∷ []) + 2) (proof_of opt (answers ++ S ∷ []) [])
 begun_listed opt answers S bytes b u w =
     let n : length answers + 2 + 1 ≡ length (answers ++ S ∷ []) + 2 = omega (arith, length_push answers S) in
     subst (λ m. IsBegun m (proof_of opt (answers ++ S ∷ []) [])) n
     (begun_next (length answers + 2) opt answers (answers ++ S ∷ []) [] [] bytes b u (takes_answer answers S bytes w))
 
-front_listed : (opt : Bool) (answers : List Atoms) (S : Atoms) (bytes after : List ℕ) → IsBegun (length answers + 2) (proof_of opt answers []) → IsUnbroken bytes → IsWhole IsSet answer_text bytes S → front_of (proof_of opt (answers ++ S ∷ []) []) ++ after ≡ front_of (proof_of opt answers []) ++ (bytes ++ 10 ∷ after)
+front_listed : (opt : Bool) (answers : List Atoms) (S : Atoms) (bytes after : List ℕ) → IsBegun (length answers + 2) (proof_of opt answers []) →
+    IsUnbroken bytes → IsNextAnswer answers bytes S →
+    front_of (proof_of opt (answers ++ S ∷ []) []) ++ after ≡ front_of (proof_of opt answers []) ++ (bytes ++ 10 ∷ after)
 front_listed opt answers S bytes after b u w = front_next (length answers + 2) opt answers (answers ++ S ∷ []) [] [] bytes after b u (takes_answer answers S bytes w)
 
-pub listed_next : (p : Program) (opt : Bool) (answers now_answers : List Atoms) (S : Atoms) (first now : Option (List ℕ)) (bytes : List ℕ) (w : Window) → AreListed p opt answers first now bytes (held w) → IsUnbroken w.line → IsWhole IsSet answer_text w.line S → IsRightAnswer p opt answers S → now_answers ≡ answers ++ S ∷ []
+pub listed_next : (p : Program) (opt : Bool) (answers now_answers : List Atoms) (S : Atoms) (first now : Option (List ℕ)) (bytes : List ℕ)
+    (w : Window) → AreListed p opt answers first now bytes (held w) → IsUnbroken w.line → IsNextAnswer answers w.line S →
+    IsRightAnswer p opt answers S → now_answers ≡ answers ++ S ∷ []
     → AreListed p opt now_answers first now bytes w.behind
 listed_next p opt answers now_answers S first now bytes w h u whole right e = rw e (record {
   right = answers_push p opt answers S h.right right;
@@ -125,7 +142,9 @@ listed_next p opt answers now_answers S first now bytes w h u whole right e = rw
 no_such_answer : (p : Program) (opt : Bool) (answers : List Atoms) (S : Atoms) (w : Why) → HasAnswerFault p opt answers S w → w ≡ why.NotWhole → ⊥
 no_such_answer p opt answers S w h e = subst (HasAnswerFault p opt answers S) e h
 
-pub listed_wrong : (p : Program) (opt : Bool) (answers now_answers : List Atoms) (S : Atoms) (reason : Why) (first now : Option (List ℕ)) (bytes : List ℕ) (w : Window) → AreListed p opt answers first now bytes (held w) → IsUnbroken w.line → IsWhole IsSet answer_text w.line S → HasAnswerFault p opt answers S reason → now_answers ≡ answers
+pub listed_wrong : (p : Program) (opt : Bool) (answers now_answers : List Atoms) (S : Atoms) (reason : Why) (first now : Option (List ℕ))
+    (bytes : List ℕ) (w : Window) → AreListed p opt answers first now bytes (held w) → IsUnbroken w.line → IsNextAnswer answers w.line S →
+    HasAnswerFault p opt answers S reason → now_answers ≡ answers
     → Comes first bytes (λ text. Judges p text (Ok (judgement.No reason (length now_answers + 3))))
 listed_wrong p opt answers now_answers S reason first now bytes w h u whole fault e = rw e (
     comes_back first now bytes _ _ h.moved (comes_any now _ _ (λ rest. record {
@@ -137,7 +156,8 @@ listed_wrong p opt answers now_answers S reason first now bytes w h u whole faul
       last = λ k. absurd (no_such_answer p opt answers S reason fault k);
     })))
 
-pub listed_broken : (p : Program) (opt : Bool) (answers : List Atoms) (first source now : Option (List ℕ)) (bytes : List ℕ) (old new : Window) → AreListed p opt answers first source bytes old.behind → IsNextLine source now old new (Ok false)
+pub listed_broken : (p : Program) (opt : Bool) (answers : List Atoms) (first source now : Option (List ℕ)) (bytes : List ℕ) (old new : Window) →
+    AreListed p opt answers first source bytes old.behind → IsNextLine source now old new (Ok false)
     → Comes first bytes (λ text. Judges p text (Err (error.Proof (proof.Refused (length answers + 3)))))
 listed_broken p opt answers first source now bytes old new h n =
     let q = proof_of opt answers [] in
@@ -148,7 +168,8 @@ listed_broken p opt answers first source now bytes old new h n =
     begun_with b = subst (λ m. IsBegun m (proof_of opt answers [])) (omega arith) b
 
 -- ---- lines
-pub so_far_first : (p : Program) (opt : Bool) (answers : List Atoms) (k : Stock) (source : Option (List ℕ)) (w : Window) → IsBegun (length answers + 2) (proof_of opt answers []) → IsUnbroken w.line → IsNone IsSet answer_text w.line
+pub so_far_first : (p : Program) (opt : Bool) (answers : List Atoms) (k : Stock) (source : Option (List ℕ)) (w : Window) →
+    IsBegun (length answers + 2) (proof_of opt answers []) → IsUnbroken w.line → IsNone IsSet answer_text w.line
     → IsSoFar p opt answers k k false 0 source source (front_of (proof_of opt answers []) ++ held w) w
 so_far_first p opt answers k source w begun u none = record {
   entries = [];
@@ -162,7 +183,9 @@ so_far_first p opt answers k source w begun u none = record {
   whole_is = refl;
 }
 
-pub so_far_front : (p : Program) (opt : Bool) (answers : List Atoms) (k now : Stock) (whole : Bool) (at number : ℕ) (source left : Option (List ℕ)) (first : List ℕ) (w : Window) → IsSound p → AreRightAnswers p opt answers → k ≡ first_stock p (proof_of opt answers []) → number ≡ length answers + at + 3
+pub so_far_front : (p : Program) (opt : Bool) (answers : List Atoms) (k now : Stock) (whole : Bool) (at number : ℕ) (source left : Option (List ℕ))
+    (first : List ℕ) (w : Window) → IsSound p → AreRightAnswers p opt answers → k ≡ first_stock p (proof_of opt answers []) →
+    number ≡ length answers + at + 3
     → (h : IsSoFar p opt answers k now whole at source left first w) → IsRightFront p (proof_of opt answers h.entries) number whole
 so_far_front p opt answers k now whole at number source left first w sound right e counted h = record {
   sound = sound;
@@ -176,23 +199,29 @@ so_far_front p opt answers k now whole at number source left first w sound right
 takes_line : (answers : List Atoms) (entries : List Line) (l : Line) (bytes : List ℕ) → IsWhole IsLine line_text bytes l → Takes bytes answers entries answers (entries ++ l ∷ [])
 takes_line answers entries l bytes w = inr (l, refl, refl, w)
 
-begun_more : (opt : Bool) (answers : List Atoms) (entries : List Line) (l : Line) (bytes : List ℕ) → IsBegun (length answers + length entries + 2) (proof_of opt answers entries) → IsUnbroken bytes → IsWhole IsLine line_text bytes l
+begun_more : (opt : Bool) (answers : List Atoms) (entries : List Line) (l : Line) (bytes : List ℕ) →
+    IsBegun (length answers + length entries + 2) (proof_of opt answers entries) → IsUnbroken bytes → IsWhole IsLine line_text bytes l
     → IsBegun (length answers + length (entries ++ l ∷ []) + 2) (proof_of opt answers (entries ++ l ∷ []))
 begun_more opt answers entries l bytes b u w =
     let n : length answers + length entries + 2 + 1 ≡ length answers + length (entries ++ l ∷ []) + 2 = omega (arith, length_push entries l) in
     subst (λ m. IsBegun m (proof_of opt answers (entries ++ l ∷ []))) n
     (begun_next (length answers + length entries + 2) opt answers answers entries (entries ++ l ∷ []) bytes b u (takes_line answers entries l bytes w))
 
-front_more : (opt : Bool) (answers : List Atoms) (entries : List Line) (l : Line) (bytes after : List ℕ) → IsBegun (length answers + length entries + 2) (proof_of opt answers entries) → IsUnbroken bytes → IsWhole IsLine line_text bytes l
+front_more : (opt : Bool) (answers : List Atoms) (entries : List Line) (l : Line) (bytes after : List ℕ) →
+    IsBegun (length answers + length entries + 2) (proof_of opt answers entries) → IsUnbroken bytes → IsWhole IsLine line_text bytes l
     → front_of (proof_of opt answers (entries ++ l ∷ [])) ++ after ≡ front_of (proof_of opt answers entries) ++ (bytes ++ 10 ∷ after)
-front_more opt answers entries l bytes after b u w = front_next (length answers + length entries + 2) opt answers answers entries (entries ++ l ∷ []) bytes after b u (takes_line answers entries l bytes w)
+front_more opt answers entries l bytes after b u w =
+    front_next (length answers + length entries + 2) opt answers answers entries (entries ++ l ∷ []) bytes after b u
+    (takes_line answers entries l bytes w)
 
 not_nil : {X : Type 0} (xs : List X) (x : X) → xs ++ x ∷ [] ≡ [] → ⊥
 not_nil [] x e = absurd cc
 not_nil (y ∷ xs) x e = absurd cc
 
-pub so_far_next : (p : Program) (opt : Bool) (answers : List Atoms) (k known now : Stock) (whole closing both : Bool) (at : ℕ) (source left later : Option (List ℕ)) (first : List ℕ) (w new : Window) (l : Line) → IsSoFar p opt answers k known whole at source left first w
-    → IsWhole IsLine line_text w.line l → HasLiterals p l → IsConfirmed p (all_of known) l → now ≡ with_line known l → closing ≡ closes p l → both ≡ (whole || closing) → IsNextLine left later w new (Ok true)
+pub so_far_next : (p : Program) (opt : Bool) (answers : List Atoms) (k known now : Stock) (whole closing both : Bool) (at : ℕ)
+    (source left later : Option (List ℕ)) (first : List ℕ) (w new : Window) (l : Line) → IsSoFar p opt answers k known whole at source left first w
+    → IsWhole IsLine line_text w.line l → HasLiterals p l → IsConfirmed p (all_of known) l → now ≡ with_line known l → closing ≡ closes p l →
+    both ≡ (whole || closing) → IsNextLine left later w new (Ok true)
     → IsSoFar p opt answers k now both (at + 1) source later first new
 so_far_next p opt answers k known now whole closing both at source left later first w new l h line_is literals confirmed e closes_is both_is n =
     let q = proof_of opt answers (h.entries ++ l ∷ []) in
@@ -210,7 +239,9 @@ so_far_next p opt answers k known now whole closing both at source left later fi
     }
 
 -- the step after a line of which no line feed comes
-pub so_far_broken : (p : Program) (opt : Bool) (answers : List Atoms) (k known : Stock) (whole : Bool) (at number : ℕ) (source left later : Option (List ℕ)) (first : List ℕ) (w new : Window) (l : Line) → AreRightAnswers p opt answers → k ≡ first_stock p (proof_of opt answers []) → IsSoFar p opt answers k known whole at source left first w
+pub so_far_broken : (p : Program) (opt : Bool) (answers : List Atoms) (k known : Stock) (whole : Bool) (at number : ℕ)
+    (source left later : Option (List ℕ)) (first : List ℕ) (w new : Window) (l : Line) → AreRightAnswers p opt answers →
+    k ≡ first_stock p (proof_of opt answers []) → IsSoFar p opt answers k known whole at source left first w
     → IsWhole IsLine line_text w.line l → HasLiterals p l → IsConfirmed p (all_of known) l → number ≡ length answers + at + 3 → IsNextLine left later w new (Ok false)
     → Comes source first (λ text. Judges p text (Err (error.Proof (proof.Refused (number + 1)))))
 so_far_broken p opt answers k known whole at number source left later first w new l right at_first h line_is literals confirmed counted n =
@@ -219,11 +250,13 @@ so_far_broken p opt answers k known whole at number source left later first w ne
     comes_back source later first (front_of q ++ new.line) _ (step_moves source left later first (front_of q) w new.line m n.1)
     (comes_end later (front_of q ++ new.line) _ n.2
     (broken p q new.line (number + 1) (begun_more opt answers h.entries l w.line h.begun h.unbroken line_is) right
-    (subst (λ (m : Stock). AreConfirmed p m (h.entries ++ l ∷ [])) at_first (confirmed_push p k h.entries l h.confirmed (has_of p l literals) (subst (λ (m : Stock). IsConfirmed p (all_of m) l) h.known confirmed)))
+    (subst (λ (m : Stock). AreConfirmed p m (h.entries ++ l ∷ [])) at_first
+    (confirmed_push p k h.entries l h.confirmed (has_of p l literals) (subst (λ (m : Stock). IsConfirmed p (all_of m) l) h.known confirmed)))
     n.0 (omega (arith, h.counted, counted, length_push h.entries l))))
 
 -- the step after a line that fails
-pub so_far_failed : (p : Program) (opt : Bool) (answers : List Atoms) (k known : Stock) (whole : Bool) (at : ℕ) (source left later : Option (List ℕ)) (first : List ℕ) (w new : Window) (l : Line) (e : CheckError) → IsSoFar p opt answers k known whole at source left first w
+pub so_far_failed : (p : Program) (opt : Bool) (answers : List Atoms) (k known : Stock) (whole : Bool) (at : ℕ) (source left later : Option (List ℕ))
+    (first : List ℕ) (w new : Window) (l : Line) (e : CheckError) → IsSoFar p opt answers k known whole at source left first w
     → IsWhole IsLine line_text w.line l → StepsTo left later w new (Err e) → Comes source first (λ text. Judges p text (Err e))
 so_far_failed p opt answers k known whole at source left later first w new l e h line_is s =
     step_failed p source left later first (front_of (proof_of opt answers (h.entries ++ l ∷ []))) w new e
@@ -232,7 +265,9 @@ so_far_failed p opt answers k known whole at source left later first w new l e h
 no_such_line : (p : Program) (k : Known) (l : Line) (w : Why) → HasLineFault p k l w → w ≡ why.NotWhole → ⊥
 no_such_line p k l w h e = subst (HasLineFault p k l) e h
 
-pub so_far_wrong : (p : Program) (opt : Bool) (answers : List Atoms) (k known : Stock) (whole : Bool) (at number : ℕ) (source left : Option (List ℕ)) (first : List ℕ) (w : Window) (l : Line) (reason : Why) → AreRightAnswers p opt answers → k ≡ first_stock p (proof_of opt answers []) → IsSoFar p opt answers k known whole at source left first w
+pub so_far_wrong : (p : Program) (opt : Bool) (answers : List Atoms) (k known : Stock) (whole : Bool) (at number : ℕ) (source left : Option (List ℕ))
+    (first : List ℕ) (w : Window) (l : Line) (reason : Why) → AreRightAnswers p opt answers → k ≡ first_stock p (proof_of opt answers []) →
+    IsSoFar p opt answers k known whole at source left first w
     → IsWhole IsLine line_text w.line l → HasLineFault p (all_of known) l reason → number ≡ length answers + at + 3 → Comes source first (λ text. Judges p text (Ok (judgement.No reason number)))
 so_far_wrong p opt answers k known whole at number source left first w l reason right at_first h line_is fault e =
     comes_back source left first _ _ h.moved (comes_any left _ _ (λ rest. record {
@@ -243,23 +278,32 @@ so_far_wrong p opt answers k known whole at number source left first w l reason 
       wrong = inr (inl (record {
         answers = right;
         place = length h.entries;
-        wrong = pushed_line_wrong p (first_stock p (proof_of opt answers [])) known h.entries l reason (h.known ∙ ap (λ (m : Stock). known_after m h.entries) at_first) (subst (λ (m : Stock). AreConfirmed p m h.entries) at_first h.confirmed) fault;
+        wrong = pushed_line_wrong p (first_stock p (proof_of opt answers [])) known h.entries l reason
+            (h.known ∙ ap (λ (m : Stock). known_after m h.entries) at_first) (subst (λ (m : Stock). AreConfirmed p m h.entries) at_first h.confirmed)
+            fault;
         is = omega (arith, e, h.counted);
       }));
       last = λ e. absurd (no_such_line p (all_of known) l reason fault e);
     }))
 
-pub so_far_refused : (p : Program) (opt : Bool) (answers : List Atoms) (k known : Stock) (whole : Bool) (at number : ℕ) (source left : Option (List ℕ)) (first : List ℕ) (w : Window) → AreRightAnswers p opt answers → k ≡ first_stock p (proof_of opt answers []) → IsSoFar p opt answers k known whole at source left first w
+pub so_far_refused : (p : Program) (opt : Bool) (answers : List Atoms) (k known : Stock) (whole : Bool) (at number : ℕ)
+    (source left : Option (List ℕ)) (first : List ℕ) (w : Window) → AreRightAnswers p opt answers → k ≡ first_stock p (proof_of opt answers []) →
+    IsSoFar p opt answers k known whole at source left first w
     → w.line ≢ codes "0" → IsNone IsLine line_text w.line → number ≡ length answers + at + 3 → Comes source first (λ text. Judges p text (Err (error.Proof (proof.Refused number))))
 so_far_refused p opt answers k known whole at number source left first w right at_first h last none e =
     let q = proof_of opt answers h.entries in
     comes_back source left first _ _ h.moved (comes_any left _ _ (λ rest. subst (λ (t : List ℕ). IsFaultAt p t number) (held_more (front_of q) w.line w.behind rest) (record {
-      first = first_as _ _ number (line_refused (length answers + length h.entries + 2) q w.line (w.behind ++ rest) h.begun h.unbroken last (record { no_line = none; no_answer = h.no_answer })) (omega (arith, e, h.counted));
+      first = first_as _ _ number (line_refused (length answers + length h.entries + 2) q w.line (w.behind ++ rest) h.begun h.unbroken last
+          (record { no_line = none; no_answer = h.no_answer })) (omega (arith, e, h.counted));
       right = inr (right_before p q (w.line ++ 10 ∷ (w.behind ++ rest)) number h.begun.is right (subst (λ (m : Stock). AreConfirmed p m h.entries) at_first h.confirmed) (omega (arith, e, h.counted)));
     })))
 
-pub so_far_last : (p : Program) (opt : Bool) (answers : List Atoms) (k known : Stock) (whole : Bool) (at number : ℕ) (source left : Option (List ℕ)) (first : List ℕ) (w : Window) (r : Result Judgement CheckError) → IsSound p → AreRightAnswers p opt answers → k ≡ first_stock p (proof_of opt answers []) → number ≡ length answers + at + 3
-    → IsSoFar p opt answers k known whole at source left first w → ((m : Program) (q : Proof) → IsRightFront m q number whole → Comes left (front_of q ++ held w) (λ text. Judges m text r)) → Comes source first (λ text. Judges p text r)
+pub so_far_last : (p : Program) (opt : Bool) (answers : List Atoms) (k known : Stock) (whole : Bool) (at number : ℕ) (source left : Option (List ℕ))
+    (first : List ℕ) (w : Window) (r : Result Judgement CheckError) → IsSound p → AreRightAnswers p opt answers →
+    k ≡ first_stock p (proof_of opt answers []) → number ≡ length answers + at + 3
+    → IsSoFar p opt answers k known whole at source left first w →
+    ((m : Program) (q : Proof) → IsRightFront m q number whole → Comes left (front_of q ++ held w) (λ text. Judges m text r)) →
+    Comes source first (λ text. Judges p text r)
 so_far_last p opt answers k known whole at number source left first w r sound right e counted h c =
     comes_back source left first _ _ h.moved (c p (proof_of opt answers h.entries) (so_far_front p opt answers k known whole at number source left first w sound right e counted h))
 
@@ -267,7 +311,9 @@ so_far_last p opt answers k known whole at number source left first w r sound ri
 zero_feed : (bytes after : List ℕ) → bytes ≡ codes "0" → codes "0\n" ++ after ≡ bytes ++ 10 ∷ after
 zero_feed bytes after e = ap (λ (t : List ℕ). t ++ 10 ∷ after) (sym e)
 
-pub last_open : (p : Program) (q : Proof) (number : ℕ) (whole : Bool) (source : Option (List ℕ)) (w : Window) → w.line ≡ codes "0" → IsRightFront p q number whole → whole ≡ false → Comes source (front_of q ++ held w) (λ text. Judges p text (Ok (judgement.No why.NotWhole number)))
+pub last_open : (p : Program) (q : Proof) (number : ℕ) (whole : Bool) (source : Option (List ℕ)) (w : Window) → w.line ≡ codes "0" →
+    IsRightFront p q number whole → whole ≡ false →
+    Comes source (front_of q ++ held w) (λ text. Judges p text (Ok (judgement.No why.NotWhole number)))
 last_open p q number whole source w z h open_is = comes_any source _ _ (λ rest. record {
   proof = q;
   is = h.begun.is;
@@ -281,19 +327,30 @@ more_left : (xs rest : List ℕ) → xs ≢ [] → xs ++ rest ≢ []
 more_left [] rest n e = n refl
 more_left (x ∷ xs) rest n e = absurd cc
 
-pub last_more : (p : Program) (q : Proof) (number : ℕ) (whole : Bool) (source now : Option (List ℕ)) (w new : Window) → w.line ≡ codes "0" → IsRightFront p q number whole → whole ≡ true → HasMore source now w new (Ok true)
+pub last_more : (p : Program) (q : Proof) (number : ℕ) (whole : Bool) (source now : Option (List ℕ)) (w new : Window) → w.line ≡ codes "0" →
+    IsRightFront p q number whole → whole ≡ true → HasMore source now w new (Ok true)
     → Comes source (front_of q ++ held w) (λ text. Judges p text (Err (error.Proof (proof.Refused (number + 1)))))
 last_more p q number whole source now w new z h whole_is more =
     let m = moves_more source now (w.line ++ 10 ∷ w.behind) (w.line ++ 10 ∷ more.0) (front_of q) (feed_moved more.2) in
-    comes_back source now (front_of q ++ held w) (front_of q ++ (w.line ++ 10 ∷ more.0)) _ m (comes_any now _ _ (λ rest. subst (λ (t : List ℕ). IsFaultAt p t (number + 1)) (held_more (front_of q) w.line more.0 rest) (record {
+    comes_back source now (front_of q ++ held w) (front_of q ++ (w.line ++ 10 ∷ more.0)) _ m
+    (comes_any now _ _ (λ rest. subst (λ (t : List ℕ). IsFaultAt p t (number + 1)) (held_more (front_of q) w.line more.0 rest) (record {
       first = first_as _ _ (number + 1) (last_followed (length q.answers + length q.lines + 2) q w.line (more.0 ++ rest) h.begun z (more_left more.0 rest more.1)) (omega (arith, h.counted));
-      right = inr (record { proof = q; is = h.begun.is; rest = w.line ++ 10 ∷ (more.0 ++ rest); begins = refl; answers = h.answers; lines = h.lines; next = inr (omega (arith, h.counted), sym h.whole_is ∙ whole_is) });
+      right = inr (record {
+        proof = q;
+        is = h.begun.is;
+        rest = w.line ++ 10 ∷ (more.0 ++ rest);
+        begins = refl;
+        answers = h.answers;
+        lines = h.lines;
+        next = inr (omega (arith, h.counted), sym h.whole_is ∙ whole_is);
+      });
     })))
   where
     feed_moved : Moves source now w.behind more.0 → Moves source now (w.line ++ 10 ∷ w.behind) (w.line ++ 10 ∷ more.0)
     feed_moved m = moves_more source now (10 ∷ w.behind) (10 ∷ more.0) w.line (moves_more source now w.behind more.0 (10 ∷ []) m)
 
-pub last_end : (p : Program) (q : Proof) (number : ℕ) (whole : Bool) (source now : Option (List ℕ)) (w new : Window) → w.line ≡ codes "0" → IsRightFront p q number whole → whole ≡ true → HasMore source now w new (Ok false)
+pub last_end : (p : Program) (q : Proof) (number : ℕ) (whole : Bool) (source now : Option (List ℕ)) (w new : Window) → w.line ≡ codes "0" →
+    IsRightFront p q number whole → whole ≡ true → HasMore source now w new (Ok false)
     → Comes source (front_of q ++ held w) (λ text. Judges p text (Ok judgement.Yes))
 last_end p q number whole source now w new z h whole_is none =
     let right : IsRight p q = record { members = h.answers.members; order = h.answers.order; single = h.answers.single; lines = h.lines; whole = sym h.whole_is ∙ whole_is } in
@@ -301,9 +358,11 @@ last_end p q number whole source now w new z h whole_is none =
     comes_back source now _ _ _ (stays none.1) (comes_end now _ _ none.2 (record { proof = q; is = h.begun.is; same = text; right = right; shows = right-shows p q h.sound right }))
   where
     stays : Moves source now [] [] → Moves source now (front_of q ++ held w) (front_of q ++ held w)
-    stays m = moves_as source now (front_of q ++ held w) ((front_of q ++ held w) ++ []) (front_of q ++ held w) (append-nil (front_of q ++ held w)) (record { bytes = m.bytes; read = m.read; same = ap (λ (t : List ℕ). (front_of q ++ held w) ++ t) m.same })
+    stays m = moves_as source now (front_of q ++ held w) ((front_of q ++ held w) ++ []) (front_of q ++ held w) (append-nil (front_of q ++ held w))
+        (record { bytes = m.bytes; read = m.read; same = ap (λ (t : List ℕ). (front_of q ++ held w) ++ t) m.same })
 
-pub last_failed : (p : Program) (source now : Option (List ℕ)) (bytes : List ℕ) (w new : Window) (e : ProofError) → HasMore source now w new (Err e) → Comes source bytes (λ text. Judges p text (Err (proof_error e)))
+pub last_failed : (p : Program) (source now : Option (List ℕ)) (bytes : List ℕ) (w new : Window) (e : ProofError) → HasMore source now w new (Err e) →
+    Comes source bytes (λ text. Judges p text (Err (proof_error e)))
 last_failed p source now bytes w new e h = rw h (comes_any source bytes _ (λ rest. tt))
 
 -- ---- the first two lines
@@ -313,17 +372,29 @@ head_held w e = ap (λ (t : List ℕ). t ++ 10 ∷ w.behind) (sym e)
 head_moves : (source now : Option (List ℕ)) (old : Window) (after : List ℕ) → old.line ≡ codes "proof 2" → Moves source now old.behind after → Moves source now (held old) (head ++ after)
 head_moves source now old after e m = subst (λ (t : List ℕ). Moves source now t (head ++ after)) (head_held old e) (moves_more source now old.behind after head m)
 
-pub head_failed : (p : Program) (source now : Option (List ℕ)) (old new : Window) (e : CheckError) → old.line ≡ codes "proof 2" → StepsTo source now old new (Err e) → Comes source (held old) (λ text. Judges p text (Err e))
+pub head_failed : (p : Program) (source now : Option (List ℕ)) (old new : Window) (e : CheckError) → old.line ≡ codes "proof 2" →
+    StepsTo source now old new (Err e) → Comes source (held old) (λ text. Judges p text (Err e))
 head_failed p source now old new e z s = step_failed p source source now (held old) head old new e (moves_as source source (held old) _ _ (sym (head_held old z)) (moves_none source (held old))) s
 
-pub head_broken : (p : Program) (source now : Option (List ℕ)) (old new : Window) → old.line ≡ codes "proof 2" → IsNextLine source now old new (Ok false) → Comes source (held old) (λ text. Judges p text (Err (error.Proof (proof.Refused 2))))
-head_broken p source now old new z n = comes_back source now (held old) (head ++ new.line) _ (head_moves source now old new.line z n.1) (comes_end now _ _ n.2 (record { first = mode_broken new.line n.0; right = inl refl }))
+pub head_broken : (p : Program) (source now : Option (List ℕ)) (old new : Window) → old.line ≡ codes "proof 2" →
+    IsNextLine source now old new (Ok false) → Comes source (held old) (λ text. Judges p text (Err (error.Proof (proof.Refused 2))))
+head_broken p source now old new z n =
+    comes_back source now (held old) (head ++ new.line) _ (head_moves source now old new.line z n.1)
+    (comes_end now _ _ n.2 (record { first = mode_broken new.line n.0; right = inl refl }))
 
-pub head_refused : (p : Program) (source now : Option (List ℕ)) (old new : Window) → old.line ≡ codes "proof 2" → IsNextLine source now old new (Ok true) → ((opt : Bool) → mode_line opt ≡ line new.line → ⊥) → Comes source (held old) (λ text. Judges p text (Err (error.Proof (proof.Refused 2))))
+pub head_refused : (p : Program) (source now : Option (List ℕ)) (old new : Window) → old.line ≡ codes "proof 2" →
+    IsNextLine source now old new (Ok true) → ((opt : Bool) → mode_line opt ≡ line new.line → ⊥) →
+    Comes source (held old) (λ text. Judges p text (Err (error.Proof (proof.Refused 2))))
 head_refused p source now old new z n none = comes_back source now (held old) (head ++ held new) _ (head_moves source now old (held new) z n.1)
-    (comes_any now _ _ (λ rest. record { first = subst (λ (t : List ℕ). IsFirstFault t 2) (held_more head new.line new.behind rest) (mode_refused new.line (new.behind ++ rest) n.0 none); right = inl refl }))
+    (comes_any now _ _ (λ rest. record {
+      first =
+          subst (λ (t : List ℕ). IsFirstFault t 2) (held_more head new.line new.behind rest)
+          (mode_refused new.line (new.behind ++ rest) n.0 none);
+      right = inl refl;
+    }))
 
-pub head_goes : (p : Program) (source now : Option (List ℕ)) (old new : Window) (opt : Bool) (r : Result Judgement CheckError) → old.line ≡ codes "proof 2" → IsNextLine source now old new (Ok true) → mode_line opt ≡ line new.line
+pub head_goes : (p : Program) (source now : Option (List ℕ)) (old new : Window) (opt : Bool) (r : Result Judgement CheckError) →
+    old.line ≡ codes "proof 2" → IsNextLine source now old new (Ok true) → mode_line opt ≡ line new.line
     → Comes now (front_of (proof_of opt [] []) ++ new.behind) (λ text. Judges p text r) → Comes source (held old) (λ text. Judges p text r)
 head_goes p source now old new opt r z n mode_is c =
     comes_back source now (held old) (head ++ held new) _ (head_moves source now old (held new) z n.1) (comes_as now _ _ _ (front_mode opt new.line new.behind mode_is) c)
@@ -332,5 +403,7 @@ head_goes p source now old new opt r z n mode_is c =
 pub no_memory : (p : Program) (source : Option (List ℕ)) (bytes : List ℕ) → Comes source bytes (λ text. Judges p text (Err error.Memory))
 no_memory p source bytes = comes_any source bytes _ (λ rest. tt)
 
-pub all_listed : (p : Program) (opt : Bool) (answers now_answers : List Atoms) (first now : Option (List ℕ)) (bytes : List ℕ) (w : Window) → AreListed p opt answers first now bytes (held w) → IsUnbroken w.line → IsNone IsSet answer_text w.line → now_answers ≡ answers → AreAllListed p opt now_answers first now bytes w
+pub all_listed : (p : Program) (opt : Bool) (answers now_answers : List Atoms) (first now : Option (List ℕ)) (bytes : List ℕ) (w : Window) →
+    AreListed p opt answers first now bytes (held w) → IsUnbroken w.line → IsNone IsSet answer_text w.line → now_answers ≡ answers →
+    AreAllListed p opt now_answers first now bytes w
 all_listed p opt answers now_answers first now bytes w h u none e = rw e (record { listed = h; unbroken = u; no_answer = none })

@@ -27,7 +27,8 @@ among_of p (k ∷ n) l h e = (elim (literal_eq k l) as (λ v. literal_eq k l ≡
 ]) refl e
 
 -- the value that a nogood implies follows
-pub visit_follows : (p : Program) (k : Known) (n m : List Literal) (x y : List (Option Bool)) → IsNogoodOf p k m → AllByRecursion (λ l. l.var < length x) m → Follow p k n x → IsVisited x y m visit.Implied → Follow p k n y
+pub visit_follows : (p : Program) (k : Known) (n m : List Literal) (x y : List (Option Bool)) → IsNogoodOf p k m →
+    AllByRecursion (λ l. l.var < length x) m → Follow p k n x → IsVisited x y m visit.Implied → Follow p k n y
 visit_follows p k n m x y of range follow v =
     let u : Literal = v.0 in
     let stands = among_of p m u of.of v.1.among in
@@ -41,7 +42,8 @@ row_of P (y ∷ xs) (suc i) x lt e h = row_of P xs i x (omega arith) e h.1
 pub row_range : (places : ℕ) (rows : List (List Literal)) (i : ℕ) (row : List Literal) → i < length rows → row ≡ get_or rows i row → AreInRange places rows → AllByRecursion (λ l. l.var < places) row
 row_range places rows i row lt e h = row_of (AllByRecursion (λ l. l.var < places)) rows i row lt e h
 
-implied : (x z y : List (Option Bool)) (rows : List (List Literal)) (i : ℕ) (row : List Literal) → i < length rows → row ≡ get_or rows i row → AllByRecursion (λ l. l.var < length z) row → Implies rows x z → IsVisited z y row visit.Implied → Implies rows x y
+implied : (x z y : List (Option Bool)) (rows : List (List Literal)) (i : ℕ) (row : List Literal) → i < length rows → row ≡ get_or rows i row →
+    AllByRecursion (λ l. l.var < length z) row → Implies rows x z → IsVisited z y row visit.Implied → Implies rows x y
 implied x z y rows i row lt e range before v = λ p k n known follow. visit_follows p k n row z y (row_of (IsNogoodOf p k) rows i row lt e known) range (before p k n known follow) v
 
 nothing : (x z : List (Option Bool)) (rows : List (List Literal)) → z ≡ x → Implies rows x z
@@ -67,17 +69,20 @@ visit_grows x y row range v =
 pub grows_then : (x y z : List (Option Bool)) → Grows x y → Grows y z → Grows x z
 grows_then x y z a b = record { size = b.size ∙ a.size; within = within-then x y z a.within b.within; fewer = let c = a.fewer in let d = b.fewer in omega arith }
 
-grown : (x z y : List (Option Bool)) (rows front : List (List Literal)) (row : List Literal) (came : Visit) → AllByRecursion (λ l. l.var < length z) row → IsSweptSoFar x z rows front came → IsVisited z y row visit.Implied → Grows x y
+grown : (x z y : List (Option Bool)) (rows front : List (List Literal)) (row : List Literal) (came : Visit) →
+    AllByRecursion (λ l. l.var < length z) row → IsSweptSoFar x z rows front came → IsVisited z y row visit.Implied → Grows x y
 grown x z y rows front row visit.Fixpoint range h v = subst (λ w. Grows w y) h.0 (visit_grows z y row range v)
 grown x z y rows front row visit.Conflict range h v = absurd h
 grown x z y rows front row visit.Implied range h v = grows_then x z y h.1 (visit_grows z y row range v)
 
 -- one more nogood, without a conflict
-one_more : (x z y : List (Option Bool)) (rows front : List (List Literal)) (i : ℕ) (row : List Literal) (came now : Visit) → i < length rows → row ≡ get_or rows i row → AllByRecursion (λ l. l.var < length z) row
+one_more : (x z y : List (Option Bool)) (rows front : List (List Literal)) (i : ℕ) (row : List Literal) (came now : Visit) → i < length rows →
+    row ≡ get_or rows i row → AllByRecursion (λ l. l.var < length z) row
     → (now ≡ visit.Conflict → ⊥) → IsSweptSoFar x z rows front came → IsVisited z y row now → IsSweptSoFar x y rows (front ++ row ∷ []) (later came now)
 one_more x z y rows front i row came visit.Conflict lt e range quiet h v = absurd (quiet refl)
 one_more x z y rows front i row came visit.Implied lt e range quiet h v = (implied x z y rows i row lt e range (before_row x z rows front came h) v, grown x z y rows front row came range h v)
-one_more x z y rows front i row visit.Fixpoint visit.Fixpoint lt e range quiet h v = (v.1 ∙ h.0, each-append (IsAtFixpoint x) front (row ∷ []) h.1 (subst (λ (w : List (Option Bool)). IsAtFixpoint w row) h.0 v.0, tt))
+one_more x z y rows front i row visit.Fixpoint visit.Fixpoint lt e range quiet h v =
+    (v.1 ∙ h.0, each-append (IsAtFixpoint x) front (row ∷ []) h.1 (subst (λ (w : List (Option Bool)). IsAtFixpoint w row) h.0 v.0, tt))
 one_more x z y rows front i row visit.Implied visit.Fixpoint lt e range quiet h v = subst (λ w. Implies rows x w × Grows x w) (sym v.1) h
 one_more x z y rows front i row visit.Conflict visit.Fixpoint lt e range quiet h v = h
 
@@ -88,7 +93,8 @@ swept_more x z y rows i row came now lt e range quiet h v =
     (one_more x z y rows (take i rows) i row came now lt e (row_range (length z) rows i row lt e range) quiet h v)
 
 -- all literals of a nogood hold
-pub swept_conflict : (x z y : List (Option Bool)) (rows front : List (List Literal)) (i : ℕ) (row : List Literal) (came : Visit) → i < length rows → row ≡ get_or rows i row → IsSweptSoFar x z rows front came → IsVisited z y row visit.Conflict → Refutes rows x
+pub swept_conflict : (x z y : List (Option Bool)) (rows front : List (List Literal)) (i : ℕ) (row : List Literal) (came : Visit) → i < length rows →
+    row ≡ get_or rows i row → IsSweptSoFar x z rows front came → IsVisited z y row visit.Conflict → Refutes rows x
 swept_conflict x z y rows front i row came lt e h v = λ p k n known follow.
     violated-conflicts p k z n row (row_of (IsNogoodOf p k) rows i row lt e known).known (before_row x z rows front came h p k n known follow) v.0
 

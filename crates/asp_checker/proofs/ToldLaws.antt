@@ -32,7 +32,8 @@ known_as p q other mode same =
     ap (λ o. known_at_first p (proof_of o q.answers [])) mode ∙ ap (λ Ss. known_at_first p (proof_of other.opt Ss [])) same
 
 -- the same of a line
-lines_of : (p : Program) (q other : Proof) (w : Why) (place : ℕ) → IsStart q other → q.answers ≡ other.answers → IsWrongLine p (first_stock p q) q.lines w place → IsWrongLine p (first_stock p other) other.lines w place
+lines_of : (p : Program) (q other : Proof) (w : Why) (place : ℕ) → IsStart q other → q.answers ≡ other.answers →
+    IsWrongLine p (first_stock p q) q.lines w place → IsWrongLine p (first_stock p other) other.lines w place
 lines_of p q other w place s same h =
     let k = first_stock p other in
     let e = ap (λ (m : Known). stock m []) (known_as p q other s.mode same) in
@@ -42,7 +43,8 @@ lines_of p q other w place s same h =
       within = omega (arith, ap length s.lines, length-append q.lines s.more_lines, h.within);
       before = subst (AreConfirmed p k) (sym front) (subst (λ (m : Stock). AreConfirmed p m (take place q.lines)) e h.before);
       fault = subst (λ ls. HasLineFault p (all_of (known_after k ls)) (get_or other.lines place no_line) w) (sym front)
-          (subst (λ l. HasLineFault p (all_of (known_after k (take place q.lines))) l w) (sym at) (subst (λ (m : Stock). HasLineFault p (all_of (known_after m (take place q.lines))) (get_or q.lines place no_line) w) e h.fault));
+          (subst (λ l. HasLineFault p (all_of (known_after k (take place q.lines))) l w) (sym at)
+          (subst (λ (m : Stock). HasLineFault p (all_of (known_after m (take place q.lines))) (get_or q.lines place no_line) w) e h.fault));
     }
 
 pub told-not_right : (p : Program) (proof : Proof) (w : Why) (number : ℕ) → IsProof proof → IsRight p proof → IsWrongAt p (text_of proof) w number → ⊥

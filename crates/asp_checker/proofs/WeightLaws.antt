@@ -31,7 +31,9 @@ weight-more s t p (i ∷ items) weighted f =
     omega (arith, ints, a, b)
 
 -- an item that passes the one test alone
-weight-apart : (s t : Literal → Bool) (p : Program) (items : List (ℤ × ℤ)) (k : ℕ) (d : ℤ × ℤ) → AreItems items → ((m : Literal) → s m ≡ true → t m ≡ true) → k < length items → s (literal_of p (get_or items k d).0) ≡ false → t (literal_of p (get_or items k d).0) ≡ true → (weight_by s p items +ℤ (get_or items k d).1) ≤ℤ weight_by t p items
+weight-apart : (s t : Literal → Bool) (p : Program) (items : List (ℤ × ℤ)) (k : ℕ) (d : ℤ × ℤ) → AreItems items →
+    ((m : Literal) → s m ≡ true → t m ≡ true) → k < length items → s (literal_of p (get_or items k d).0) ≡ false →
+    t (literal_of p (get_or items k d).0) ≡ true → (weight_by s p items +ℤ (get_or items k d).1) ≤ℤ weight_by t p items
 weight-apart s t p [] k d weighted f lt lacks has = absurd (omega arith)
 weight-apart s t p (i ∷ items) zero d weighted f lt lacks has =
     let b = weight-more s t p items weighted.1 f in
@@ -83,7 +85,8 @@ or-second true b e = refl
 or-second false b e = e
 
 -- A literal is forced where its complement, added to propagated values, would break the body, whatever else they have.
-pub forced-by : (p : Program) (k : Known) (x : List (Option Bool)) (b : Body) (l : Literal) → Among (bodies_of p) b → 0 < l.var → l.var ≤ var_count p → ((z : List (Option Bool)) → AreWithin x z → holds_in z (complement l) ≡ true → is_broken p z b ≡ true) → Forced p k x l
+pub forced-by : (p : Program) (k : Known) (x : List (Option Bool)) (b : Body) (l : Literal) → Among (bodies_of p) b → 0 < l.var →
+    l.var ≤ var_count p → ((z : List (Option Bool)) → AreWithin x z → holds_in z (complement l) ≡ true → is_broken p z b ≡ true) → Forced p k x l
 forced-by p k x b l among i le breaks y propagated within = cases (value_of y l.var) refl
   where
     inside : l.var < length y
@@ -114,20 +117,26 @@ pub missed : (c v w : ℤ) → int_lt v c ≡ true → w ≤ℤ v → int_lt w c
 missed c v w e h = grind (arith, ints)
 
 -- The true literals reach the bound: the body is true.
-pub reached-forces : (p : Program) (k : Known) (x : List (Option Bool)) (c : ℤ) (items : List (ℤ × ℤ)) → Among (bodies_of p) (body.AtLeast c items) → AreItems items → 0 < var_of_form p (body.AtLeast c items) → var_of_form p (body.AtLeast c items) ≤ var_count p → int_le c (weight_by (holds_in x) p items) ≡ true → Forced p k x (T (var_of_form p (body.AtLeast c items)))
+pub reached-forces : (p : Program) (k : Known) (x : List (Option Bool)) (c : ℤ) (items : List (ℤ × ℤ)) → Among (bodies_of p) (body.AtLeast c items) →
+    AreItems items → 0 < var_of_form p (body.AtLeast c items) → var_of_form p (body.AtLeast c items) ≤ var_count p →
+    int_le c (weight_by (holds_in x) p items) ≡ true → Forced p k x (T (var_of_form p (body.AtLeast c items)))
 reached-forces p k x c items among weighted i le e =
     let b : Body = body.AtLeast c items in
     forced-by p k x b (T (var_of_form p b)) among i le (λ z within false_body.
     or-second (holds_in z (T (var_of_form p b)) && int_lt (weight_by (may_hold z) p items) c) (holds_in z (F (var_of_form p b)) && int_le c (weight_by (holds_in z) p items))
-    (and_from (holds_in z (F (var_of_form p b))) (int_le c (weight_by (holds_in z) p items)) false_body (reached c (weight_by (holds_in x) p items) (weight_by (holds_in z) p items) e (low-more p x z items weighted within))))
+    (and_from (holds_in z (F (var_of_form p b))) (int_le c (weight_by (holds_in z) p items)) false_body
+    (reached c (weight_by (holds_in x) p items) (weight_by (holds_in z) p items) e (low-more p x z items weighted within))))
 
 -- The literals that aren't false don't reach the bound: the body is false.
-pub missed-forces : (p : Program) (k : Known) (x : List (Option Bool)) (c : ℤ) (items : List (ℤ × ℤ)) → Among (bodies_of p) (body.AtLeast c items) → AreItems items → 0 < var_of_form p (body.AtLeast c items) → var_of_form p (body.AtLeast c items) ≤ var_count p → int_lt (weight_by (may_hold x) p items) c ≡ true → Forced p k x (F (var_of_form p (body.AtLeast c items)))
+pub missed-forces : (p : Program) (k : Known) (x : List (Option Bool)) (c : ℤ) (items : List (ℤ × ℤ)) → Among (bodies_of p) (body.AtLeast c items) →
+    AreItems items → 0 < var_of_form p (body.AtLeast c items) → var_of_form p (body.AtLeast c items) ≤ var_count p →
+    int_lt (weight_by (may_hold x) p items) c ≡ true → Forced p k x (F (var_of_form p (body.AtLeast c items)))
 missed-forces p k x c items among weighted i le e =
     let b : Body = body.AtLeast c items in
     forced-by p k x b (F (var_of_form p b)) among i le (λ z within true_body.
     or-first (holds_in z (T (var_of_form p b)) && int_lt (weight_by (may_hold z) p items) c) (holds_in z (F (var_of_form p b)) && int_le c (weight_by (holds_in z) p items))
-    (and_from (holds_in z (T (var_of_form p b))) (int_lt (weight_by (may_hold z) p items) c) true_body (missed c (weight_by (may_hold x) p items) (weight_by (may_hold z) p items) e (high-less p x z items weighted within))))
+    (and_from (holds_in z (T (var_of_form p b))) (int_lt (weight_by (may_hold z) p items) c) true_body
+    (missed c (weight_by (may_hold x) p items) (weight_by (may_hold z) p items) e (high-less p x z items weighted within))))
 
 lighter : (c v w u : ℤ) → (v +ℤ w) ≤ℤ u → u <ℤ (c +ℤ w) → int_lt v c ≡ true
 lighter c v w u e h = grind (arith, ints)
@@ -136,15 +145,19 @@ heavier : (c v w u : ℤ) → (v +ℤ w) ≤ℤ u → c ≤ℤ (v +ℤ w) → in
 heavier c v w u e h = grind (arith, ints)
 
 -- The body is true, and without this literal it isn't reached: the literal holds.
-pub needed-forces : (p : Program) (k : Known) (x : List (Option Bool)) (c : ℤ) (items : List (ℤ × ℤ)) (j : ℕ) (d : ℤ × ℤ) → Among (bodies_of p) (body.AtLeast c items) → AreItems items → j < length items → 0 < (literal_of p (get_or items j d).0).var → (literal_of p (get_or items j d).0).var ≤ var_count p →
-    holds_in x (T (var_of_form p (body.AtLeast c items))) ≡ true → may_hold x (literal_of p (get_or items j d).0) ≡ true → weight_by (may_hold x) p items <ℤ (c +ℤ (get_or items j d).1) → Forced p k x (literal_of p (get_or items j d).0)
+pub needed-forces : (p : Program) (k : Known) (x : List (Option Bool)) (c : ℤ) (items : List (ℤ × ℤ)) (j : ℕ) (d : ℤ × ℤ) →
+    Among (bodies_of p) (body.AtLeast c items) → AreItems items → j < length items → 0 < (literal_of p (get_or items j d).0).var →
+    (literal_of p (get_or items j d).0).var ≤ var_count p →
+    holds_in x (T (var_of_form p (body.AtLeast c items))) ≡ true → may_hold x (literal_of p (get_or items j d).0) ≡ true →
+    weight_by (may_hold x) p items <ℤ (c +ℤ (get_or items j d).1) → Forced p k x (literal_of p (get_or items j d).0)
 needed-forces p k x c items j d among weighted lt i le true_body may short =
     let b : Body = body.AtLeast c items in
     let l = literal_of p (get_or items j d).0 in
     forced-by p k x b l among i le (λ z within fails.
     or-first (holds_in z (T (var_of_form p b)) && int_lt (weight_by (may_hold z) p items) c) (holds_in z (F (var_of_form p b)) && int_le c (weight_by (holds_in z) p items))
     (and_from (holds_in z (T (var_of_form p b))) (int_lt (weight_by (may_hold z) p items) c) (held-within x z (T (var_of_form p b)) within true_body)
-    (lighter c (weight_by (may_hold z) p items) (get_or items j d).1 (weight_by (may_hold x) p items) (weight-apart (may_hold z) (may_hold x) p items j d weighted (may-less x z within) lt (ap not fails) may) short)))
+    (lighter c (weight_by (may_hold z) p items) (get_or items j d).1 (weight_by (may_hold x) p items)
+    (weight-apart (may_hold z) (may_hold x) p items j d weighted (may-less x z within) lt (ap not fails) may) short)))
 
 twice : (b : Bool) → not (not b) ≡ b
 twice true = refl
@@ -154,12 +167,16 @@ held-twice : (z : List (Option Bool)) (l : Literal) → holds_in z (complement (
 held-twice z l e = held-value z l (value-held z (complement (complement l)) e ∙ ap (λ t. let o : Option Bool = Some t in o) (twice l.truth))
 
 -- The body is false, and with this literal it is reached: the literal is false.
-pub barred-forces : (p : Program) (k : Known) (x : List (Option Bool)) (c : ℤ) (items : List (ℤ × ℤ)) (j : ℕ) (d : ℤ × ℤ) → Among (bodies_of p) (body.AtLeast c items) → AreItems items → j < length items → 0 < (literal_of p (get_or items j d).0).var → (literal_of p (get_or items j d).0).var ≤ var_count p →
-    holds_in x (F (var_of_form p (body.AtLeast c items))) ≡ true → holds_in x (literal_of p (get_or items j d).0) ≡ false → c ≤ℤ (weight_by (holds_in x) p items +ℤ (get_or items j d).1) → Forced p k x (complement (literal_of p (get_or items j d).0))
+pub barred-forces : (p : Program) (k : Known) (x : List (Option Bool)) (c : ℤ) (items : List (ℤ × ℤ)) (j : ℕ) (d : ℤ × ℤ) →
+    Among (bodies_of p) (body.AtLeast c items) → AreItems items → j < length items → 0 < (literal_of p (get_or items j d).0).var →
+    (literal_of p (get_or items j d).0).var ≤ var_count p →
+    holds_in x (F (var_of_form p (body.AtLeast c items))) ≡ true → holds_in x (literal_of p (get_or items j d).0) ≡ false →
+    c ≤ℤ (weight_by (holds_in x) p items +ℤ (get_or items j d).1) → Forced p k x (complement (literal_of p (get_or items j d).0))
 barred-forces p k x c items j d among weighted lt i le false_body lacks long =
     let b : Body = body.AtLeast c items in
     let l = literal_of p (get_or items j d).0 in
     forced-by p k x b (complement l) among i le (λ z within holds_l.
     or-second (holds_in z (T (var_of_form p b)) && int_lt (weight_by (may_hold z) p items) c) (holds_in z (F (var_of_form p b)) && int_le c (weight_by (holds_in z) p items))
     (and_from (holds_in z (F (var_of_form p b))) (int_le c (weight_by (holds_in z) p items)) (held-within x z (F (var_of_form p b)) within false_body)
-    (heavier c (weight_by (holds_in x) p items) (get_or items j d).1 (weight_by (holds_in z) p items) (weight-apart (holds_in x) (holds_in z) p items j d weighted (λ m. held-within x z m within) lt lacks (held-twice z l holds_l)) long)))
+    (heavier c (weight_by (holds_in x) p items) (get_or items j d).1 (weight_by (holds_in z) p items)
+    (weight-apart (holds_in x) (holds_in z) p items j d weighted (λ m. held-within x z m within) lt lacks (held-twice z l holds_l)) long)))

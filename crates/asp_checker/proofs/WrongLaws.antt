@@ -44,7 +44,9 @@ in_order opt listed i lt pairs few = record {
   single = λ o. let one = few o in let none : i ≡ 0 = omega arith in ap (λ j. take j listed) none;
 }
 
-answer_fault : (p : Program) (opt : Bool) (listed : List Atoms) (w : Why) (i : ℕ) → i < length listed → IsInOrder opt (take i listed) (get_or listed i []) → Contains (answers p) (get_or listed i []) → HasAnswerFault p opt (take i listed) (get_or listed i []) w → ⊥
+answer_fault : (p : Program) (opt : Bool) (listed : List Atoms) (w : Why) (i : ℕ) → i < length listed →
+    IsInOrder opt (take i listed) (get_or listed i []) → Contains (answers p) (get_or listed i []) →
+    HasAnswerFault p opt (take i listed) (get_or listed i []) w → ⊥
 answer_fault p opt listed why.Order i lt order member h = h order
 answer_fault p opt listed why.Literal i lt order member h = false≢true (sym h.1 ∙ answer_stands p (get_or listed i []) member)
 answer_fault p opt listed why.Member i lt order member h = h.2 member

@@ -20,6 +20,7 @@ use Rattle.asp_checker.specs.declared.judge.Read.TheVariants as read
 use Rattle.asp_proof.specs.Texts.{answer_text, line_text}
 use Rattle.asp_proof.specs.Grammar.{IsSet, IsLine}
 use Rattle.asp_proof.specs.Fields.{IsNone, IsWhole}
+use Rattle.asp_proof.specs.Walk.{IsNextAnswer}
 use Rattle.asp_checker.specs.declared.bounds.Bound.{Bound}
 use Rattle.asp_checker.specs.Propagation.{Known, LeadsToConflict}
 use Rattle.asp_checker.specs.Lines.{AreOf, IsLoop, IsConfirmed, AreConfirmed, literals_of, nogood_of, Stock, stock, all_of, with_line, first_stock}
@@ -54,10 +55,10 @@ HasAnswerFault p opt before S why.Loop = ⊥
 HasAnswerFault p opt before S why.NotImplied = ⊥
 HasAnswerFault p opt before S why.NotWhole = ⊥
 
--- what the bytes of a line came to where an answer may come: one that is right, and listed now, or is wrong, or none
+-- what the bytes of a line came to where an answer may come, which they tell by its change: one that is right, and listed now, or is wrong, or none
 abbrev pub IsAnswerRead : Program → Bool → List Atoms → List Atoms → List ℕ → Listed → Type 0
-IsAnswerRead p opt before now bytes seen.Right = (S : Atoms) × IsWhole IsSet answer_text bytes S × IsRightAnswer p opt before S × (now ≡ before ++ S ∷ [])
-IsAnswerRead p opt before now bytes (seen.Wrong w) = (S : Atoms) × IsWhole IsSet answer_text bytes S × HasAnswerFault p opt before S w × (now ≡ before)
+IsAnswerRead p opt before now bytes seen.Right = (S : Atoms) × IsNextAnswer before bytes S × IsRightAnswer p opt before S × (now ≡ before ++ S ∷ [])
+IsAnswerRead p opt before now bytes (seen.Wrong w) = (S : Atoms) × IsNextAnswer before bytes S × HasAnswerFault p opt before S w × (now ≡ before)
 IsAnswerRead p opt before now bytes seen.Other = IsNone IsSet answer_text bytes × (now ≡ before)
 
 -- the first set that is wrong
@@ -116,7 +117,8 @@ pub record IsKnownNow (p : Program) (listed : List Atoms) (bound : Option Bound)
 abbrev pub IsLineRead : Program → List Atoms → Option Bound → List (List Literal) → List (List Literal) → List (List Literal) → List (List Literal) → List ℕ → List (Option Bool) → Read → Type 0
 IsLineRead p listed bound rows placed now now_placed bytes x read.Last = bytes ≡ codes "0"
 IsLineRead p listed bound rows placed now now_placed bytes x read.Refused = (bytes ≢ codes "0") × IsNone IsLine line_text bytes
-IsLineRead p listed bound rows placed now now_placed bytes x (read.Wrong w) = (l : Line) × IsWhole IsLine line_text bytes l × HasLineFault p (all_of (stock (known_with p listed rows bound) placed)) l w
+IsLineRead p listed bound rows placed now now_placed bytes x (read.Wrong w) = (l : Line) × IsWhole IsLine line_text bytes l ×
+    HasLineFault p (all_of (stock (known_with p listed rows bound) placed)) l w
 IsLineRead p listed bound rows placed now now_placed bytes x (read.Right closing) = (l : Line) × IsWhole IsLine line_text bytes l × IsKnownNow p listed bound rows placed now now_placed l x closing
 
 -- what is known behind these lines

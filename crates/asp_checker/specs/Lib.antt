@@ -9,6 +9,7 @@ pub mod Assuming
 pub mod Loops
 pub mod Judging
 pub mod Runs
+pub mod Rows
 pub mod Chasing
 pub mod Codes
 pub mod Formats

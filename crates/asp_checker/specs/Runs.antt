@@ -149,6 +149,7 @@ found_text items (Err e) = Err e
 
 -- The program's text, and what was read has the first line of a proof behind it; or there is no such line, or no text.
 abbrev pub FindsProof : Option (List ℕ) → Option (List ℕ) → Window → Result (Option (List ℕ)) CheckError → Type 0
-FindsProof source now w (Ok (Some program)) = (w.line ≡ codes "proof 2") × Moves source now [] (program ++ held w) × ((rest : List ℕ) → proof_place (program ++ (codes "proof 2" ++ 10 ∷ rest)) ≡ length program)
+FindsProof source now w (Ok (Some program)) = (w.line ≡ codes "proof 2") × Moves source now [] (program ++ held w) ×
+    ((rest : List ℕ) → proof_place (program ++ (codes "proof 2" ++ 10 ∷ rest)) ≡ length program)
 FindsProof source now w (Ok None) = Comes source [] (λ text. (format : Format) → InputSays format text (Err error.NoProof))
 FindsProof source now w (Err e) = Comes source [] (λ text. (format : Format) → InputSays format text (Err e))

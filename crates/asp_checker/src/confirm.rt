@@ -4,6 +4,7 @@ ghost use Rattle.std.specs.List.{AllByRecursion};
 ghost use Rattle.asp_vars.specs.Numbering.{var_count};
 ghost use Rattle.asp_checker.specs.Propagation.{LeadsToConflict};
 ghost use Rattle.asp_checker.specs.Lines.{AreOf, stock, all_of};
+ghost use Rattle.asp_checker.specs.Rows.{known_before, stock_before};
 ghost use Rattle.asp_checker.specs.Blocks.{HasLevels, known_with};
 ghost use Rattle.asp_checker.specs.Assuming.{IsAssumed, AreAssumed};
 ghost use Rattle.asp_checker.specs.Steps.{Follow};
@@ -13,6 +14,7 @@ use crate::bounds::Bound;
 use crate::chase::chase;
 use crate::close::close;
 use crate::root::{copied, undo};
+use crate::rows::Before;
 use crate::watches::Watches;
 use asp_model::interp::Interp;
 use asp_model::seq::Seq;
@@ -88,28 +90,25 @@ fn confirms_plainly(
 // Whether unit propagation from the literals leads to a conflict. What it adds to the values is on the trail.
 fn confirms_by(
     compiled: &Compiled,
-    listed: &[Interp],
-    rows: &[Seq<Lit>],
-    placed: &[Seq<Lit>],
-    bound: &Option<Bound>,
+    known: &Before<'_>,
     watches: &mut Watches,
     values: &mut Assign,
     trail: &mut Vec<Lit>,
     lits: &[Lit],
     names: &[u32],
 ) -> Result<bool, AllocError>
-    requires rows { AllByRecursion (AreOf compiled.now) rows.now }
-    requires placed { AllByRecursion (AreOf compiled.now) placed.now }
+    requires kept { AllByRecursion (AreOf compiled.now) known.now.kept.now }
+    requires placed { AllByRecursion (AreOf compiled.now) known.now.placed.now }
     requires lits { AreOf compiled.now lits.now }
-    requires levels { HasLevels compiled.now bound.now }
-    requires root { IsRoot compiled.now (all_of (stock (known_with compiled.now listed.now rows.now bound.now) placed.now)) values.old }
-    ensures yes { IfOk result (λ yes. yes ≡ true → LeadsToConflict compiled.now (all_of (stock (known_with compiled.now listed.now rows.now bound.now) placed.now)) lits.now) }
-    ensures no { IfOk result (λ yes. yes ≡ false → LeadsToConflict compiled.now (all_of (stock (known_with compiled.now listed.now rows.now bound.now) placed.now)) lits.now → ⊥) }
+    requires levels { HasLevels compiled.now known.now.bound.now }
+    requires root { IsRoot compiled.now (all_of (stock_before compiled.now known.now)) values.old }
+    ensures yes { IfOk result (λ yes. yes ≡ true → LeadsToConflict compiled.now (all_of (stock_before compiled.now known.now)) lits.now) }
+    ensures no { IfOk result (λ yes. yes ≡ false → LeadsToConflict compiled.now (all_of (stock_before compiled.now known.now)) lits.now → ⊥) }
     ensures trailed { OnOk result (IsTrailedAlike values.old values.new trail.old.items trail.new.items) }
 {
     let alloc = watches.allocator();
     let _program = compiled.program();
-    watches.restart(values, compiled.vars(), rows)?;
+    watches.restart(values, compiled.vars(), known.kept)?;
     watches.look_deeper();
     watches.name(names)?;
     let assumed = assume_all(values, trail, lits)?;
@@ -117,12 +116,28 @@ fn confirms_by(
         return Ok(true);
     }
     let refuted = chase(
-        compiled, listed, rows, placed, bound, watches, values, trail,
+        compiled,
+        known.listed,
+        known.kept,
+        known.placed,
+        known.bound,
+        watches,
+        values,
+        trail,
     )?;
     if refuted {
         return Ok(true);
     }
-    let confirmed = confirms_plainly(alloc, compiled, listed, rows, placed, bound, values, lits)?;
+    let confirmed = confirms_plainly(
+        alloc,
+        compiled,
+        known.listed,
+        known.kept,
+        known.placed,
+        known.bound,
+        values,
+        lits,
+    )?;
     Ok(confirmed)
 }
 
@@ -131,28 +146,23 @@ fn confirms_by(
 pub fn confirms(
     alloc: Global,
     compiled: &Compiled,
-    listed: &[Interp],
-    rows: &[Seq<Lit>],
-    placed: &[Seq<Lit>],
-    bound: &Option<Bound>,
+    known: &Before<'_>,
     watches: &mut Watches,
     values: &mut Assign,
     lits: &[Lit],
     names: &[u32],
 ) -> Result<bool, AllocError>
-    requires rows { AllByRecursion (AreOf compiled.now) rows.now }
-    requires placed { AllByRecursion (AreOf compiled.now) placed.now }
+    requires kept { AllByRecursion (AreOf compiled.now) known.now.kept.now }
+    requires placed { AllByRecursion (AreOf compiled.now) known.now.placed.now }
     requires lits { AreOf compiled.now lits.now }
-    requires levels { HasLevels compiled.now bound.now }
-    requires root { IsRoot compiled.now (known_with compiled.now listed.now rows.now bound.now) values.old }
-    ensures yes { IfOk result (λ yes. yes ≡ true → LeadsToConflict compiled.now (all_of (stock (known_with compiled.now listed.now rows.now bound.now) placed.now)) lits.now) }
-    ensures no { IfOk result (λ yes. yes ≡ false → LeadsToConflict compiled.now (all_of (stock (known_with compiled.now listed.now rows.now bound.now) placed.now)) lits.now → ⊥) }
-    ensures root { OnOk result (IsRoot compiled.now (known_with compiled.now listed.now rows.now bound.now) values.new) }
+    requires levels { HasLevels compiled.now known.now.bound.now }
+    requires root { IsRoot compiled.now (known_before compiled.now known.now) values.old }
+    ensures yes { IfOk result (λ yes. yes ≡ true → LeadsToConflict compiled.now (all_of (stock_before compiled.now known.now)) lits.now) }
+    ensures no { IfOk result (λ yes. yes ≡ false → LeadsToConflict compiled.now (all_of (stock_before compiled.now known.now)) lits.now → ⊥) }
+    ensures root { OnOk result (IsRoot compiled.now (known_before compiled.now known.now) values.new) }
 {
     let mut trail = Vec::new(alloc);
-    let confirmed = confirms_by(
-        compiled, listed, rows, placed, bound, watches, values, &mut trail, lits, names,
-    )?;
+    let confirmed = confirms_by(compiled, known, watches, values, &mut trail, lits, names)?;
     undo(values, compiled.vars(), trail.as_slice());
     Ok(confirmed)
 }

@@ -12,6 +12,7 @@ ghost use Rattle.asp_checker.specs.Right.{closes};
 ghost use Rattle.asp_vars.specs.Completion.{completion};
 ghost use Rattle.asp_checker.specs.Propagation.{LeadsToConflict};
 ghost use Rattle.asp_checker.specs.Lines.{AreOf, IsConfirmed, IsLoop, literals_of, nogood_of, stock, all_of, place_of, put, with_placed, bound_of};
+ghost use Rattle.asp_checker.specs.Rows.{known_before, stock_before};
 ghost use Rattle.asp_checker.specs.Blocks.{HasLevels, known_with, cost_of_bound};
 ghost use Rattle.asp_checker.specs.Chasing.{IsRoot};
 ghost use Rattle.asp_checker.specs.Judging.{IsInOrder, AreRightAnswers, IsRightAnswer, HasAnswerFault, HasLiterals, HasLineFault, HasLoopLiterals, IsLineJudged, IsAnswerRead, IsLineRead};
@@ -21,12 +22,14 @@ use crate::confirm::confirms;
 use crate::lines::{are_assumed, are_atoms, lits_of};
 use crate::loops::is_loop;
 use crate::root::learn;
+use crate::rows::{Before, Rows};
 use crate::watches::Watches;
 use asp_complete::completion::completion;
 use asp_member::stable::is_stable;
 use asp_model::holding::all_hold;
 use asp_model::interp::Interp;
 use asp_model::seq::Seq;
+use asp_proof::changes::next_answer;
 use asp_proof::lines::{answer, is_last, line};
 use asp_proof::proof::Line;
 use asp_vars::assign::Assign;
@@ -145,7 +148,7 @@ pub enum Listed {
     Other,
 }
 
-/// Reads a line that may be an answer's, and judges the answer behind those before it.
+/// Reads a line that may be an answer's, by what it changes of the one before it, and judges the answer behind those before it.
 pub(crate) fn read_answer(
     alloc: Global,
     compiled: &Compiled,
@@ -156,10 +159,11 @@ pub(crate) fn read_answer(
     requires { AreRightAnswers compiled.now opt answers.old.items }
     ensures { IfOk result (IsAnswerRead compiled.now opt answers.old.items answers.new.items bytes.now) }
 {
-    let Some(set) = answer(alloc, bytes)? else {
+    let Some(change) = answer(alloc, bytes)? else {
         return Ok(Listed::Other);
     };
     let before = answers.as_slice();
+    let set = next_answer(alloc, before, &change)?;
     let fault = fault_of_answer(alloc, compiled, opt, before, &set)?;
     match fault {
         Some(why) => Ok(Listed::Wrong(why)),
@@ -289,27 +293,22 @@ fn fault_of_loop(
 fn fault_of_nogood(
     alloc: Global,
     compiled: &Compiled,
-    listed: &[Interp],
-    rows: &[Seq<Lit>],
-    placed: &[Seq<Lit>],
-    bound: &Option<Bound>,
+    known: &Before<'_>,
     watches: &mut Watches,
     values: &mut Assign,
     lits: &[Lit],
     names: &[u32],
 ) -> Result<Option<Why>, AllocError>
-    requires rows { AllByRecursion (AreOf compiled.now) rows.now }
-    requires placed { AllByRecursion (AreOf compiled.now) placed.now }
-    requires levels { HasLevels compiled.now bound.now }
-    requires root { IsRoot compiled.now (known_with compiled.now listed.now rows.now bound.now) values.old }
+    requires kept { AllByRecursion (AreOf compiled.now) known.now.kept.now }
+    requires placed { AllByRecursion (AreOf compiled.now) known.now.placed.now }
+    requires levels { HasLevels compiled.now known.now.bound.now }
+    requires root { IsRoot compiled.now (known_before compiled.now known.now) values.old }
     requires lits { AreOf compiled.now lits.now }
-    ensures judged { IfOk result (λ o. MatchOption o (LeadsToConflict compiled.now (all_of (stock (known_with compiled.now listed.now rows.now bound.now) placed.now)) lits.now)
-        (λ w. (w ≡ Why.NotImplied) × (LeadsToConflict compiled.now (all_of (stock (known_with compiled.now listed.now rows.now bound.now) placed.now)) lits.now → ⊥))) }
-    ensures root { OnOk result (IsRoot compiled.now (known_with compiled.now listed.now rows.now bound.now) values.new) }
+    ensures judged { IfOk result (λ o. MatchOption o (LeadsToConflict compiled.now (all_of (stock_before compiled.now known.now)) lits.now)
+        (λ w. (w ≡ Why.NotImplied) × (LeadsToConflict compiled.now (all_of (stock_before compiled.now known.now)) lits.now → ⊥))) }
+    ensures root { OnOk result (IsRoot compiled.now (known_before compiled.now known.now) values.new) }
 {
-    let confirmed = confirms(
-        alloc, compiled, listed, rows, placed, bound, watches, values, lits, names,
-    )?;
+    let confirmed = confirms(alloc, compiled, known, watches, values, lits, names)?;
     if confirmed {
         return Ok(None);
     }
@@ -319,24 +318,21 @@ fn fault_of_nogood(
 // What is wrong with a line of these literals, where these nogoods and this bound are known.
 fn fault_of_line(
     compiled: &Compiled,
-    listed: &[Interp],
-    rows: &[Seq<Lit>],
-    placed: &[Seq<Lit>],
-    bound: &Option<Bound>,
+    known: &Before<'_>,
     watches: &mut Watches,
     values: &mut Assign,
     line: &Line,
     lits: &[Lit],
 ) -> Result<Option<Why>, AllocError>
-    requires rows { AllByRecursion (AreOf compiled.now) rows.now }
-    requires placed { AllByRecursion (AreOf compiled.now) placed.now }
-    requires levels { HasLevels compiled.now bound.now }
-    requires root { IsRoot compiled.now (known_with compiled.now listed.now rows.now bound.now) values.old }
+    requires kept { AllByRecursion (AreOf compiled.now) known.now.kept.now }
+    requires placed { AllByRecursion (AreOf compiled.now) known.now.placed.now }
+    requires levels { HasLevels compiled.now known.now.bound.now }
+    requires root { IsRoot compiled.now (known_before compiled.now known.now) values.old }
     requires lits { lits.now ≡ nogood_of line.now }
     requires has { HasLiterals compiled.now line.now }
-    ensures judged { IfOk result (λ o. MatchOption o (IsConfirmed compiled.now (all_of (stock (known_with compiled.now listed.now rows.now bound.now) placed.now)) line.now)
-        (HasLineFault compiled.now (all_of (stock (known_with compiled.now listed.now rows.now bound.now) placed.now)) line.now)) }
-    ensures root { OnOk result (IsRoot compiled.now (known_with compiled.now listed.now rows.now bound.now) values.new) }
+    ensures judged { IfOk result (λ o. MatchOption o (IsConfirmed compiled.now (all_of (stock_before compiled.now known.now)) line.now)
+        (HasLineFault compiled.now (all_of (stock_before compiled.now known.now)) line.now)) }
+    ensures root { OnOk result (IsRoot compiled.now (known_before compiled.now known.now) values.new) }
 {
     let alloc = watches.allocator();
     match line {
@@ -344,27 +340,13 @@ fn fault_of_line(
         Line::Learned { names, .. } => fault_of_nogood(
             alloc,
             compiled,
-            listed,
-            rows,
-            placed,
-            bound,
+            known,
             watches,
             values,
             lits,
             names.as_slice(),
         ),
-        Line::Cube(_) => fault_of_nogood(
-            alloc,
-            compiled,
-            listed,
-            rows,
-            placed,
-            bound,
-            watches,
-            values,
-            lits,
-            &[],
-        ),
+        Line::Cube(_) => fault_of_nogood(alloc, compiled, known, watches, values, lits, &[]),
     }
 }
 
@@ -392,28 +374,23 @@ enum Step {
 // Judges a line whose literals are these.
 fn judge_literals(
     compiled: &Compiled,
-    listed: &[Interp],
-    rows: &[Seq<Lit>],
-    placed: &[Seq<Lit>],
-    bound: &Option<Bound>,
+    known: &Before<'_>,
     watches: &mut Watches,
     values: &mut Assign,
     line: &Line,
     lits: Vec<Lit>,
 ) -> Result<Step, AllocError>
-    requires rows { AllByRecursion (AreOf compiled.now) rows.now }
-    requires placed { AllByRecursion (AreOf compiled.now) placed.now }
-    requires levels { HasLevels compiled.now bound.now }
-    requires root { IsRoot compiled.now (known_with compiled.now listed.now rows.now bound.now) values.old }
+    requires kept { AllByRecursion (AreOf compiled.now) known.now.kept.now }
+    requires placed { AllByRecursion (AreOf compiled.now) known.now.placed.now }
+    requires levels { HasLevels compiled.now known.now.bound.now }
+    requires root { IsRoot compiled.now (known_before compiled.now known.now) values.old }
     requires lits { lits.items ≡ nogood_of line.now }
     requires has { HasLiterals compiled.now line.now }
-    ensures judged { IfOk result (IsLineJudged compiled.now (all_of (stock (known_with compiled.now listed.now rows.now bound.now) placed.now)) line.now) }
-    ensures root { OnOk result (IsRoot compiled.now (known_with compiled.now listed.now rows.now bound.now) values.new) }
+    ensures judged { IfOk result (IsLineJudged compiled.now (all_of (stock_before compiled.now known.now)) line.now) }
+    ensures root { OnOk result (IsRoot compiled.now (known_before compiled.now known.now) values.new) }
 {
     let own = lits.as_slice();
-    let fault = fault_of_line(
-        compiled, listed, rows, placed, bound, watches, values, line, own,
-    )?;
+    let fault = fault_of_line(compiled, known, watches, values, line, own)?;
     match fault {
         Some(why) => Ok(Step::Wrong(why)),
         None => Ok(Step::Known(Seq::from_vec(lits))),
@@ -424,26 +401,21 @@ fn judge_literals(
 fn judge_line(
     alloc: Global,
     compiled: &Compiled,
-    listed: &[Interp],
-    rows: &[Seq<Lit>],
-    placed: &[Seq<Lit>],
-    bound: &Option<Bound>,
+    known: &Before<'_>,
     watches: &mut Watches,
     values: &mut Assign,
     line: &Line,
 ) -> Result<Step, AllocError>
-    requires rows { AllByRecursion (AreOf compiled.now) rows.now }
-    requires placed { AllByRecursion (AreOf compiled.now) placed.now }
-    requires levels { HasLevels compiled.now bound.now }
-    requires root { IsRoot compiled.now (known_with compiled.now listed.now rows.now bound.now) values.old }
-    ensures judged { IfOk result (IsLineJudged compiled.now (all_of (stock (known_with compiled.now listed.now rows.now bound.now) placed.now)) line.now) }
-    ensures root { OnOk result (IsRoot compiled.now (known_with compiled.now listed.now rows.now bound.now) values.new) }
+    requires kept { AllByRecursion (AreOf compiled.now) known.now.kept.now }
+    requires placed { AllByRecursion (AreOf compiled.now) known.now.placed.now }
+    requires levels { HasLevels compiled.now known.now.bound.now }
+    requires root { IsRoot compiled.now (known_before compiled.now known.now) values.old }
+    ensures judged { IfOk result (IsLineJudged compiled.now (all_of (stock_before compiled.now known.now)) line.now) }
+    ensures root { OnOk result (IsRoot compiled.now (known_before compiled.now known.now) values.new) }
 {
     let found = literals(alloc, compiled, line)?;
     match found {
-        Some(lits) => judge_literals(
-            compiled, listed, rows, placed, bound, watches, values, line, lits,
-        ),
+        Some(lits) => judge_literals(compiled, known, watches, values, line, lits),
         None => Ok(Step::Wrong(Why::Literal)),
     }
 }
@@ -486,33 +458,34 @@ fn put(placed: &mut Vec<Seq<Lit>>, at: usize, lits: Seq<Lit>) -> Result<(), Allo
 
 // A line is known from now on.
 fn keep(
-    alloc: Global,
     compiled: &Compiled,
     listed: &[Interp],
-    rows: &mut Vec<Seq<Lit>>,
-    placed: &mut Vec<Seq<Lit>>,
+    rows: &mut Rows,
     bound: &Option<Bound>,
     watches: &mut Watches,
     values: &mut Assign,
     place: u32,
     lits: Seq<Lit>,
 ) -> Result<(), AllocError>
-    requires rows { AllByRecursion (AreOf compiled.now) rows.old.items }
-    requires placed { AllByRecursion (AreOf compiled.now) placed.old.items }
+    requires kept { AllByRecursion (AreOf compiled.now) rows.old.kept.items }
+    requires placed { AllByRecursion (AreOf compiled.now) rows.old.placed.items }
     requires lits { AreOf compiled.now lits }
     requires levels { HasLevels compiled.now bound.now }
-    requires root { IsRoot compiled.now (known_with compiled.now listed.now rows.old.items bound.now) values.old }
-    ensures rows { OnOk result (AllByRecursion (AreOf compiled.now) rows.new.items) }
-    ensures placed { OnOk result (AllByRecursion (AreOf compiled.now) placed.new.items) }
-    ensures known { OnOk result (stock (known_with compiled.now listed.now rows.new.items bound.now) placed.new.items ≡ with_placed (stock (known_with compiled.now listed.now rows.old.items bound.now) placed.old.items) place lits) }
-    ensures root { OnOk result (IsRoot compiled.now (known_with compiled.now listed.now rows.new.items bound.now) values.new) }
+    requires root { IsRoot compiled.now (known_with compiled.now listed.now rows.old.kept.items bound.now) values.old }
+    ensures kept { OnOk result (AllByRecursion (AreOf compiled.now) rows.new.kept.items) }
+    ensures placed { OnOk result (AllByRecursion (AreOf compiled.now) rows.new.placed.items) }
+    ensures known { OnOk result
+        (stock (known_with compiled.now listed.now rows.new.kept.items bound.now) rows.new.placed.items ≡ with_placed
+        (stock (known_with compiled.now listed.now rows.old.kept.items bound.now) rows.old.placed.items) place lits) }
+    ensures root { OnOk result (IsRoot compiled.now (known_with compiled.now listed.now rows.new.kept.items bound.now) values.new) }
 {
     if place > 0 {
-        put(placed, place as usize - 1, lits)?;
+        put(&mut rows.placed, place as usize - 1, lits)?;
         return Ok(());
     }
-    rows.push(lits)?;
-    let more = rows.as_slice();
+    rows.kept.push(lits)?;
+    let alloc = watches.allocator();
+    let more = rows.kept.as_slice();
     learn(alloc, compiled, listed, more, bound, watches, values)?;
     Ok(())
 }
@@ -521,45 +494,38 @@ fn keep(
 fn take_line(
     compiled: &Compiled,
     listed: &[Interp],
-    rows: &mut Vec<Seq<Lit>>,
-    placed: &mut Vec<Seq<Lit>>,
+    rows: &mut Rows,
     bound: &Option<Bound>,
     assumed: &[Lit],
     watches: &mut Watches,
     values: &mut Assign,
     line: &Line,
 ) -> Result<Read, AllocError>
-    requires rows { AllByRecursion (AreOf compiled.now) rows.old.items }
-    requires placed { AllByRecursion (AreOf compiled.now) placed.old.items }
+    requires kept { AllByRecursion (AreOf compiled.now) rows.old.kept.items }
+    requires placed { AllByRecursion (AreOf compiled.now) rows.old.placed.items }
     requires levels { HasLevels compiled.now bound.now }
     requires assumed { assumed.now ≡ map (literal_of compiled.now) compiled.now.assumptions }
-    requires root { IsRoot compiled.now (known_with compiled.now listed.now rows.old.items bound.now) values.old }
+    requires root { IsRoot compiled.now (known_with compiled.now listed.now rows.old.kept.items bound.now) values.old }
     ensures { (bytes : List ℕ) → IsWhole IsLine line_text bytes line.now →
-        IfOk result (IsLineRead compiled.now listed.now bound.now rows.old.items placed.old.items rows.new.items placed.new.items bytes values.new) }
+        IfOk result (IsLineRead compiled.now listed.now bound.now rows.old.kept.items rows.old.placed.items rows.new.kept.items rows.new.placed.items bytes values.new) }
 {
     let alloc = watches.allocator();
-    let known = rows.as_slice();
-    let in_places = placed.as_slice();
-    let step = judge_line(
-        alloc, compiled, listed, known, in_places, bound, watches, values, line,
-    )?;
+    let kept = rows.kept.as_slice();
+    let placed = rows.placed.as_slice();
+    let known = Before {
+        listed,
+        kept,
+        placed,
+        bound,
+    };
+    let step = judge_line(alloc, compiled, &known, watches, values, line)?;
     match step {
         Step::Wrong(why) => Ok(Read::Wrong(why)),
         Step::Known(lits) => {
             let own = lits.as_slice();
             let closing = closes(assumed, line, own);
-            keep(
-                alloc,
-                compiled,
-                listed,
-                rows,
-                placed,
-                bound,
-                watches,
-                values,
-                place_of(line),
-                lits,
-            )?;
+            let place = place_of(line);
+            keep(compiled, listed, rows, bound, watches, values, place, lits)?;
             Ok(Read::Right(closing))
         }
     }
@@ -569,20 +535,19 @@ fn take_line(
 pub(crate) fn read_line(
     compiled: &Compiled,
     listed: &[Interp],
-    rows: &mut Vec<Seq<Lit>>,
-    placed: &mut Vec<Seq<Lit>>,
+    rows: &mut Rows,
     bound: &Option<Bound>,
     assumed: &[Lit],
     watches: &mut Watches,
     values: &mut Assign,
     bytes: &[u8],
 ) -> Result<Read, AllocError>
-    requires rows { AllByRecursion (AreOf compiled.now) rows.old.items }
-    requires placed { AllByRecursion (AreOf compiled.now) placed.old.items }
+    requires kept { AllByRecursion (AreOf compiled.now) rows.old.kept.items }
+    requires placed { AllByRecursion (AreOf compiled.now) rows.old.placed.items }
     requires levels { HasLevels compiled.now bound.now }
     requires assumed { assumed.now ≡ map (literal_of compiled.now) compiled.now.assumptions }
-    requires root { IsRoot compiled.now (known_with compiled.now listed.now rows.old.items bound.now) values.old }
-    ensures { IfOk result (IsLineRead compiled.now listed.now bound.now rows.old.items placed.old.items rows.new.items placed.new.items bytes.now values.new) }
+    requires root { IsRoot compiled.now (known_with compiled.now listed.now rows.old.kept.items bound.now) values.old }
+    ensures { IfOk result (IsLineRead compiled.now listed.now bound.now rows.old.kept.items rows.old.placed.items rows.new.kept.items rows.new.placed.items bytes.now values.new) }
 {
     if is_last(bytes) {
         return Ok(Read::Last);
@@ -590,7 +555,7 @@ pub(crate) fn read_line(
     let found = line(watches.allocator(), bytes)?;
     match found {
         Some(line) => take_line(
-            compiled, listed, rows, placed, bound, assumed, watches, values, &line,
+            compiled, listed, rows, bound, assumed, watches, values, &line,
         ),
         None => Ok(Read::Refused),
     }

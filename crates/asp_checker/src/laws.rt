@@ -67,11 +67,13 @@ pub fn weight_bodies_force()
         IsTrue (int_le c (weight_by (holds_in x) p items)) → Forced p k x (T (var_of_form p (body.AtLeast c items))) }
     ensures missed { (p : Program) (k : Known) (x : List (Option Bool)) (c : ℤ) (items : List (ℤ × ℤ)) → Among (bodies_of p) (body.AtLeast c items) → AreItems items →
         IsTrue (int_lt (weight_by (may_hold x) p items) c) → Forced p k x (F (var_of_form p (body.AtLeast c items))) }
-    ensures needed { (p : Program) (k : Known) (x : List (Option Bool)) (c : ℤ) (items : List (ℤ × ℤ)) (j : ℕ) (d : ℤ × ℤ) → Among (bodies_of p) (body.AtLeast c items) → AreItems items → j < length items →
+    ensures needed { (p : Program) (k : Known) (x : List (Option Bool)) (c : ℤ) (items : List (ℤ × ℤ)) (j : ℕ) (d : ℤ × ℤ) →
+        Among (bodies_of p) (body.AtLeast c items) → AreItems items → j < length items →
         (literal_of p (slice_index_or items j d).0).var ≤ var_count p → IsTrue (holds_in x (T (var_of_form p (body.AtLeast c items)))) →
         IsTrue (may_hold x (literal_of p (slice_index_or items j d).0)) → weight_by (may_hold x) p items <ℤ (c +ℤ (slice_index_or items j d).1) →
         Forced p k x (literal_of p (slice_index_or items j d).0) }
-    ensures barred { (p : Program) (k : Known) (x : List (Option Bool)) (c : ℤ) (items : List (ℤ × ℤ)) (j : ℕ) (d : ℤ × ℤ) → Among (bodies_of p) (body.AtLeast c items) → AreItems items → j < length items →
+    ensures barred { (p : Program) (k : Known) (x : List (Option Bool)) (c : ℤ) (items : List (ℤ × ℤ)) (j : ℕ) (d : ℤ × ℤ) →
+        Among (bodies_of p) (body.AtLeast c items) → AreItems items → j < length items →
         (literal_of p (slice_index_or items j d).0).var ≤ var_count p → IsTrue (holds_in x (F (var_of_form p (body.AtLeast c items)))) →
         holds_in x (literal_of p (slice_index_or items j d).0) ≡ false → c ≤ℤ (weight_by (holds_in x) p items +ℤ (slice_index_or items j d).1) →
         Forced p k x (complement (literal_of p (slice_index_or items j d).0)) }

@@ -18,6 +18,7 @@ mod named;
 pub mod nogoods;
 mod open;
 mod root;
+mod rows;
 pub mod run;
 mod seek;
 mod stream;

@@ -25,6 +25,7 @@ use crate::judge::{
 };
 use crate::lines::assumptions;
 use crate::root::first_root;
+use crate::rows::Rows;
 use crate::watches::Watches;
 use asp_io::Source;
 use asp_model::interp::Interp;
@@ -128,8 +129,7 @@ fn judge_each<S: Source>(
     compiled: &Compiled,
     opt: bool,
     answers: &[Interp],
-    rows: &mut Vec<Seq<Lit>>,
-    placed: &mut Vec<Seq<Lit>>,
+    rows: &mut Rows,
     bound: &Option<Bound>,
     assumed: &[Lit],
     watches: &mut Watches,
@@ -142,12 +142,12 @@ fn judge_each<S: Source>(
     requires begun { IsBegun (length answers.now + 2) (proof_of opt answers.now []) }
     requires unbroken { IsUnbroken reader.old.line }
     requires no_answer { IsNone IsSet answer_text reader.old.line }
-    requires rows { AllByRecursion (AreOf compiled.now) rows.old.items }
-    requires placed { placed.old.items ≡ [] }
+    requires kept { AllByRecursion (AreOf compiled.now) rows.old.kept.items }
+    requires placed { rows.old.placed.items ≡ [] }
     requires levels { HasLevels compiled.now bound.now }
     requires assumed { assumed.now ≡ map (literal_of compiled.now) compiled.now.assumptions }
-    requires root { IsRoot compiled.now (known_with compiled.now (if opt then [] else answers.now) rows.old.items bound.now) values.old }
-    requires known { known_with compiled.now (if opt then [] else answers.now) rows.old.items bound.now ≡ known_at_first compiled.now (proof_of opt answers.now []) }
+    requires root { IsRoot compiled.now (known_with compiled.now (if opt then [] else answers.now) rows.old.kept.items bound.now) values.old }
+    requires known { known_with compiled.now (if opt then [] else answers.now) rows.old.kept.items bound.now ≡ known_at_first compiled.now (proof_of opt answers.now []) }
     ensures says { Comes (S.left source.old) (front_of (proof_of opt answers.now []) ++ held reader.old) (λ text. Judges compiled.now text result) }
     ensures cause { IsErrOf result read_fault → Rose (S.faults source.old) (S.faults source.new) }
     ensures quiet { ¬ IsErrOf result read_fault → S.faults source.new ≡ S.faults source.old }
@@ -158,7 +158,7 @@ fn judge_each<S: Source>(
         let number = answers.len() + at + 3;
         let bytes = reader.line();
         let came_to = read_line(
-            compiled, listed, rows, placed, bound, assumed, watches, values, bytes,
+            compiled, listed, rows, bound, assumed, watches, values, bytes,
         )?;
         match came_to {
             Read::Last => return judge_last(whole, number, reader, source),
@@ -193,20 +193,22 @@ fn judge_lines<S: Source>(
     ensures quiet { ¬ IsErrOf result read_fault → S.faults source.new ≡ S.faults source.old }
 {
     let listed = avoided(opt, answers);
-    let mut rows = completed(alloc, compiled)?;
-    let mut placed = Vec::new(alloc);
+    let kept = completed(alloc, compiled)?;
     let bound = bound_at_first(alloc, compiled, opt, answers)?;
     let assumptions = assumptions(alloc, compiled)?;
     let mut watches = Watches::new(alloc, compiled, &bound)?;
-    let first = rows.as_slice();
+    let first = kept.as_slice();
     let mut values = first_root(alloc, compiled, listed, first, &bound, &mut watches)?;
+    let mut rows = Rows {
+        kept,
+        placed: Vec::new(alloc),
+    };
     let assumed = assumptions.as_slice();
     let judged = judge_each(
         compiled,
         opt,
         answers,
         &mut rows,
-        &mut placed,
         &bound,
         assumed,
         &mut watches,

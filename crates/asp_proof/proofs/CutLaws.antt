@@ -63,7 +63,9 @@ front_found text front rest equal e =
     ap (λ (t : List ℕ). front ++ t) e ∙ ap (λ (t : List ℕ). t ++ drop (length front) text) (sym (same_lists _ front equal)) ∙ take-append-drop (length front) text
 
 pub after_front : {V : Type 0} (bytes : V → List ℕ) (r : Option V) (text front : List ℕ)
-    → MatchOption r (pointwise eqb (take (length front) text) front ≡ false) (λ x. (pointwise eqb (take (length front) text) front ≡ true) × (bytes x ≡ drop (length front) text) × (length (bytes x) + length front ≡ length text))
+    → MatchOption r (pointwise eqb (take (length front) text) front ≡ false)
+    (λ x. (pointwise eqb (take (length front) text) front ≡ true) × (bytes x ≡ drop (length front) text) ×
+    (length (bytes x) + length front ≡ length text))
     → MatchOption r ((rest : List ℕ) → front ++ rest ≡ text → ⊥) (λ x. front ++ bytes x ≡ text)
 after_front bytes None text front h = front_missing text front h
 after_front bytes (Some x) text front h = front_found text front (bytes x) h.0 h.1

@@ -90,7 +90,8 @@ pub starts_each : {A : Type 0} (P : A → Type 0) (text : A → List ℕ) (xs : 
 starts_each P text [] r c h = h
 starts_each P text (x ∷ xs) r c h = rw append_assoc (c.starts x (flat_map text xs ++ r))
 
-pub one_each : {A : Type 0} (P : A → Type 0) (text : A → List ℕ) (xs ys : List A) (r s : List ℕ) → IsClear P text → AllByRecursion P xs → AllByRecursion P ys → length xs ≡ length ys → Stops 32 r → Stops 32 s
+pub one_each : {A : Type 0} (P : A → Type 0) (text : A → List ℕ) (xs ys : List A) (r s : List ℕ) → IsClear P text → AllByRecursion P xs →
+    AllByRecursion P ys → length xs ≡ length ys → Stops 32 r → Stops 32 s
     → flat_map text xs ++ r ≡ flat_map text ys ++ s → (xs ≡ ys) × (r ≡ s)
 one_each P text [] [] r s c p q n a b e = (refl, e)
 one_each P text [] (y ∷ ys) r s c p q n a b e = absurd (omega arith)
@@ -102,7 +103,8 @@ one_each P text (x ∷ xs) (y ∷ ys) r s c p q n a b e =
     (cc (first.0, more.0), more.1)
 
 -- one more field stands there
-pub ahead : {A : Type 0} (P : A → Type 0) (text : A → List ℕ) (xs ys : List A) (r s : List ℕ) → IsClear P text → AllByRecursion P xs → AllByRecursion P ys → length xs < length ys → Stops 32 r → Stops 32 s
+pub ahead : {A : Type 0} (P : A → Type 0) (text : A → List ℕ) (xs ys : List A) (r s : List ℕ) → IsClear P text → AllByRecursion P xs →
+    AllByRecursion P ys → length xs < length ys → Stops 32 r → Stops 32 s
     → flat_map text xs ++ r ≡ flat_map text ys ++ s → IsMissing P text r → ⊥
 ahead P text xs [] r s c p q n a b e none = omega arith
 ahead P text [] (y ∷ ys) r s c p q n a b e none =
@@ -120,7 +122,8 @@ more_fields P text line rest after n xs x h k = record {
   stops = k.stops;
 }
 
-pub no_field : {A : Type 0} (P : A → Type 0) (text : A → List ℕ) (line rest : List ℕ) (k n : ℕ) (xs : List A) → IsClear P text → IsAt (AreSo P k) (flat_map text) line xs rest → k < n → IsMissing P text rest
+pub no_field : {A : Type 0} (P : A → Type 0) (text : A → List ℕ) (line rest : List ℕ) (k n : ℕ) (xs : List A) → IsClear P text →
+    IsAt (AreSo P k) (flat_map text) line xs rest → k < n → IsMissing P text rest
     → IsMissing (AreSo P n) (flat_map text) line
 no_field P text line rest k n xs c h lt none = λ ys s a. ahead P text xs ys rest s c h.is.each a.is.each (omega (arith, h.is.counted, a.is.counted)) h.stops a.stops (h.same ∙ sym a.same) none
 
@@ -160,7 +163,8 @@ no_counted P text line rest n c at none = λ xs s h.
     let same = clear_count.one (length xs) n (flat_map text xs ++ s) rest h.is.few at.is (starts_each P text xs s c h.stops) at.stops (regroup text xs s line h.same ∙ sym at.same) in
     none xs s (record { is = record { each = h.is.each; counted = same.0 }; same = same.1; stops = h.stops })
 
-pub counted_at : {A : Type 0} (P : A → Type 0) (text : A → List ℕ) (line rest after : List ℕ) (n : ℕ) (xs : List A) → IsAt IsCount natural_field line n rest → IsAt (AreSo P n) (flat_map text) rest xs after
+pub counted_at : {A : Type 0} (P : A → Type 0) (text : A → List ℕ) (line rest after : List ℕ) (n : ℕ) (xs : List A) →
+    IsAt IsCount natural_field line n rest → IsAt (AreSo P n) (flat_map text) rest xs after
     → IsAt (AreCounted P) (counted_fields text) line xs after
 counted_at P text line rest after n xs at h = record {
   is = record { each = h.is.each; few = omega (arith, h.is.counted, at.is) };
@@ -185,7 +189,8 @@ clear_both P Q s t c d = record {
 pub no_first : {A B : Type 0} (P : A → Type 0) (Q : B → Type 0) (s : A → List ℕ) (t : B → List ℕ) (line : List ℕ) → IsClear Q t → IsMissing P s line → IsMissing (Both P Q) (two_fields s t) line
 no_first P Q s t line d none = λ x r h. none x.0 (t x.1 ++ r) (record { is = h.is.0; same = sym (append_assoc (s x.0) (t x.1) r) ∙ h.same; stops = d.starts x.1 r })
 
-pub no_second : {A B : Type 0} (P : A → Type 0) (Q : B → Type 0) (s : A → List ℕ) (t : B → List ℕ) (line : List ℕ) (a : A) (rest : List ℕ) → IsClear P s → IsClear Q t → IsAt P s line a rest → IsMissing Q t rest
+pub no_second : {A B : Type 0} (P : A → Type 0) (Q : B → Type 0) (s : A → List ℕ) (t : B → List ℕ) (line : List ℕ) (a : A) (rest : List ℕ) →
+    IsClear P s → IsClear Q t → IsAt P s line a rest → IsMissing Q t rest
     → IsMissing (Both P Q) (two_fields s t) line
 no_second P Q s t line a rest c d at none = λ x r h.
     let first = c.one x.0 a (t x.1 ++ r) rest h.is.0 at.is (d.starts x.1 r) at.stops (sym (append_assoc (s x.0) (t x.1) r) ∙ h.same ∙ sym at.same) in
@@ -335,7 +340,8 @@ other_atom line n rest at none = λ a r h.
 pub atom_at : (line : List ℕ) (n : ℕ) (rest : List ℕ) → IsAt IsCount natural_field line n rest → IsAtom n → IsAt IsAtom natural_field line n rest
 atom_at line n rest at h = record { is = h; same = at.same; stops = at.stops }
 
-pub counted_from : {V E A : Type 0} (items : V → List A) (rest : V → List ℕ) (r : Result (Option V) E) (P : A → Type 0) (text : A → List ℕ) (line behind : List ℕ) (n : ℕ) → IsClear P text → IsAt IsCount natural_field line n behind
+pub counted_from : {V E A : Type 0} (items : V → List A) (rest : V → List ℕ) (r : Result (Option V) E) (P : A → Type 0) (text : A → List ℕ)
+    (line behind : List ℕ) (n : ℕ) → IsClear P text → IsAt IsCount natural_field line n behind
     → IfOk r (λ o. MatchOption o (IsMissing (AreSo P n) (flat_map text) behind) (λ x. IsAt (AreSo P n) (flat_map text) behind (items x) (rest x)))
     → IfOk r (λ o. MatchOption o (IsMissing (AreCounted P) (counted_fields text) line) (λ x. IsAt (AreCounted P) (counted_fields text) line (items x) (rest x)))
 counted_from items rest (Err e) P text line behind n c at h = tt

@@ -1,3 +1,4 @@
+pub mod ChangeLaws
 pub mod CutLaws
 pub mod FieldLaws
 pub mod LineLaws

@@ -39,7 +39,8 @@ some_from b (x ∷ xs) e f = omega arith
 pub loop_whole : (line : List ℕ) (place : ℕ) (S : List ℕ) (nogood : List ℤ) → IsWhole IsLoop loop_fields line (place, (S, nogood)) → IsWhole IsLine line_text (111 ∷ line) (kind.Loop place S nogood)
 loop_whole line place S nogood w = record { is = w.is; same = ap (λ (t : List ℕ). 111 ∷ t) w.same }
 
-pub learned_whole : (line : List ℕ) (place : ℕ) (nogood : List ℤ) (names : List ℕ) → IsWhole IsLearned learned_fields line (place, (nogood, names)) → IsWhole IsLine line_text (108 ∷ line) (kind.Learned place nogood names)
+pub learned_whole : (line : List ℕ) (place : ℕ) (nogood : List ℤ) (names : List ℕ) → IsWhole IsLearned learned_fields line (place, (nogood, names)) →
+    IsWhole IsLine line_text (108 ∷ line) (kind.Learned place nogood names)
 learned_whole line place nogood names w = record { is = w.is; same = ap (λ (t : List ℕ). 108 ∷ t) w.same }
 
 -- ---- the first byte tells what a line is

@@ -18,17 +18,22 @@ walked n p rest b = record { is = b.is; parted = refl; counted = b.counted; only
 begun_from : (text : List ℕ) (n : ℕ) (p : Proof) (rest : List ℕ) → IsWalked text n p rest → IsBegun n p
 begun_from text n p rest w = record { is = w.is; counted = w.counted; only = w.only }
 
-pub begun_next : (n : ℕ) (opt : Bool) (answers now_answers : List Atoms) (entries now_entries : List Line) (bytes : List ℕ) → IsBegun n (proof_of opt answers entries) → IsUnbroken bytes → Takes bytes answers entries now_answers now_entries
+pub begun_next : (n : ℕ) (opt : Bool) (answers now_answers : List Atoms) (entries now_entries : List Line) (bytes : List ℕ) →
+    IsBegun n (proof_of opt answers entries) → IsUnbroken bytes → Takes bytes answers entries now_answers now_entries
     → IsBegun (n + 1) (proof_of opt now_answers now_entries)
 begun_next n opt answers now_answers entries now_entries bytes b u t =
-    begun_from _ (n + 1) (proof_of opt now_answers now_entries) [] (walks _ n opt answers now_answers entries now_entries bytes [] (bytes ++ 10 ∷ []) (walked n (proof_of opt answers entries) (bytes ++ 10 ∷ []) b) refl u t)
+    begun_from _ (n + 1) (proof_of opt now_answers now_entries) []
+    (walks _ n opt answers now_answers entries now_entries bytes [] (bytes ++ 10 ∷ [])
+    (walked n (proof_of opt answers entries) (bytes ++ 10 ∷ []) b) refl u t)
 
-pub front_next : (n : ℕ) (opt : Bool) (answers now_answers : List Atoms) (entries now_entries : List Line) (bytes after : List ℕ) → IsBegun n (proof_of opt answers entries) → IsUnbroken bytes → Takes bytes answers entries now_answers now_entries
+pub front_next : (n : ℕ) (opt : Bool) (answers now_answers : List Atoms) (entries now_entries : List Line) (bytes after : List ℕ) →
+    IsBegun n (proof_of opt answers entries) → IsUnbroken bytes → Takes bytes answers entries now_answers now_entries
     → front_of (proof_of opt now_answers now_entries) ++ after ≡ front_of (proof_of opt answers entries) ++ (bytes ++ 10 ∷ after)
 front_next n opt answers now_answers entries now_entries bytes after b u t =
     (walks _ n opt answers now_answers entries now_entries bytes after (bytes ++ 10 ∷ after) (walked n (proof_of opt answers entries) (bytes ++ 10 ∷ after) b) refl u t).parted
 
-pub line_refused : (n : ℕ) (p : Proof) (bytes after : List ℕ) → IsBegun n p → IsUnbroken bytes → bytes ≢ codes "0" → IsRefused bytes p.lines → IsFirstFault (front_of p ++ (bytes ++ 10 ∷ after)) (n + 1)
+pub line_refused : (n : ℕ) (p : Proof) (bytes after : List ℕ) → IsBegun n p → IsUnbroken bytes → bytes ≢ codes "0" → IsRefused bytes p.lines →
+    IsFirstFault (front_of p ++ (bytes ++ 10 ∷ after)) (n + 1)
 line_refused n p bytes after b u z r = refused _ n p bytes after (bytes ++ 10 ∷ after) (walked n p (bytes ++ 10 ∷ after) b) refl u z r
 
 pub line_broken : (n : ℕ) (p : Proof) (rest : List ℕ) → IsBegun n p → IsUnbroken rest → IsFirstFault (front_of p ++ rest) (n + 1)
@@ -71,7 +76,15 @@ mode_broken rest u = no_mode _ rest refl (λ o xs e. (left_lacks (mode_word o) (
 
 -- ---- texts of which a part was read
 pub long_behind : (front text : List ℕ) → HasLongLine text → HasLongLine (front ++ text)
-long_behind front text h = record { front = front ++ h.front; line = h.line; rest = h.rest; parted = append_assoc front h.front (h.line ++ h.rest) ∙ ap (λ (t : List ℕ). front ++ t) h.parted; unbroken = h.unbroken; long = h.long }
+long_behind front text h = record {
+  front = front ++ h.front;
+  line = h.line;
+  rest = h.rest;
+  parted =
+      append_assoc front h.front (h.line ++ h.rest) ∙ ap (λ (t : List ℕ). front ++ t) h.parted;
+  unbroken = h.unbroken;
+  long = h.long;
+}
 
 pub long_before : (text more : List ℕ) → HasLongLine text → HasLongLine (text ++ more)
 long_before text more h = record {
@@ -95,7 +108,13 @@ comes_end (Some left) read P end h = record { rest = []; told = end; is = subst 
 pub comes_back : (source now : Option (List ℕ)) (before after : List ℕ) (P : List ℕ → Type 0) → Moves source now before after → Comes now after P → Comes source before P
 comes_back None now before after P m c = record { rest = m.bytes ++ c.rest; told = tt; is = subst P (ap (λ (t : List ℕ). t ++ c.rest) m.same ∙ append_assoc before m.bytes c.rest) c.is }
 comes_back (Some left) None before after P m c = absurd m.read
-comes_back (Some left) (Some now) before after P m c = record { rest = m.bytes ++ c.rest; told = m.read ∙ ap (λ (t : List ℕ). m.bytes ++ t) c.told; is = subst P (ap (λ (t : List ℕ). t ++ c.rest) m.same ∙ append_assoc before m.bytes c.rest) c.is }
+comes_back (Some left) (Some now) before after P m c =
+    record {
+      rest = m.bytes ++ c.rest;
+      told = m.read ∙ ap (λ (t : List ℕ). m.bytes ++ t) c.told;
+      is =
+          subst P (ap (λ (t : List ℕ). t ++ c.rest) m.same ∙ append_assoc before m.bytes c.rest) c.is;
+    }
 
 pub comes_as : (source : Option (List ℕ)) (read other : List ℕ) (P : List ℕ → Type 0) → read ≡ other → Comes source read P → Comes source other P
 comes_as source read other P e c = subst (λ (t : List ℕ). Comes source t P) e c

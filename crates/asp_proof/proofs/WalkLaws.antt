@@ -11,7 +11,9 @@ use Rattle.asp_proof.specs.declared.proof.Proof.{Proof}
 use Rattle.asp_proof.specs.Texts.{natural_field, integer_field, counted_fields, loop_fields, learned_fields, answer_text, line_text, mode_line, text_of, line, lines}
 use Rattle.asp_proof.specs.Grammar.{IsAtom, IsLiteral, AreCounted, ArePlaces, IsSet, IsNogood, IsLine, IsProof, IsProofText, Begins, IsUnbroken, IsLines, IsFirstFault}
 use Rattle.asp_proof.specs.Fields.{IsNumber, IsCount, IsWhole}
-use Rattle.asp_proof.specs.Walk.{proof_of, front_of, Ends, IsWalked, Takes, IsRefused}
+use Rattle.asp_proof.specs.Changes.{changes_of, last_of}
+use Rattle.asp_proof.specs.Walk.{proof_of, front_of, Ends, IsWalked, IsNextAnswer, Takes, IsRefused}
+use Rattle.asp_proof.proofs.ChangeLaws.{changes_next, set_changed, no_atoms, last_set, changes_sets}
 use Rattle.asp_proof.proofs.CutLaws.{one_cut}
 use Rattle.asp_proof.proofs.FieldLaws.{no_feed}
 use Rattle.asp_proof.proofs.LineLaws.{first_bytes}
@@ -79,27 +81,35 @@ Next entries bytes more =
     ⊎ (((l : Line) × IsWhole IsLine line_text bytes l × ((others : List Line) → Ends others more))
     ⊎ ((bytes ≡ codes "0") × (more ≡ [])))
 
-next_line : (entries more_lines : List Line) (bytes more : List ℕ) → IsUnbroken bytes → AllByRecursion IsLine more_lines → lines line_text more_lines ++ codes "0\n" ≡ bytes ++ 10 ∷ more → Next entries bytes more
+next_line : (entries more_lines : List Line) (bytes more : List ℕ) → IsUnbroken bytes → AllByRecursion IsLine more_lines →
+    lines line_text more_lines ++ codes "0\n" ≡ bytes ++ 10 ∷ more → Next entries bytes more
 next_line entries [] bytes more u h e =
     let p = first_line (codes "0") bytes [] more zero_unbroken u e in
     inr (inr (sym p.0, sym p.1))
 next_line entries (l ∷ ls) bytes more u h e =
     let p = first_line (line_text l) bytes (lines line_text ls ++ codes "0\n") more (unbroken_line l h.0) u (sym (front_first (line_text l) (lines line_text ls) (codes "0\n")) ∙ e) in
-    inr (inl (l, record { is = h.0; same = p.0 }, λ others. record { more_answers = []; more_lines = ls; are_sets = tt; are_lines = h.1; in_order = λ lt. refl; same = p.1 }))
+    inr (inl (l, record { is = h.0; same = p.0 }, λ others. record { more_changes = []; more_lines = ls; are_sets = tt; are_lines = h.1; in_order = λ lt. refl; same = p.1 }))
 
 none_yet : (entries : List Line) (S : Atoms) (Ss : List Atoms) → (0 < length entries → S ∷ Ss ≡ []) → entries ≡ []
 none_yet [] S Ss o = refl
 none_yet (l ∷ ls) S Ss o = let h = o (omega arith) in absurd cc
 
-next_from : (entries more_lines : List Line) (more_answers : List Atoms) (bytes more : List ℕ) → IsUnbroken bytes → AllByRecursion IsSet more_answers → AllByRecursion IsLine more_lines → (0 < length entries → more_answers ≡ [])
-    → lines answer_text more_answers ++ (lines line_text more_lines ++ codes "0\n") ≡ bytes ++ 10 ∷ more → Next entries bytes more
+next_from : (entries more_lines : List Line) (more_changes : List Atoms) (bytes more : List ℕ) → IsUnbroken bytes →
+    AllByRecursion IsSet more_changes → AllByRecursion IsLine more_lines → (0 < length entries → more_changes ≡ [])
+    → lines answer_text more_changes ++ (lines line_text more_lines ++ codes "0\n") ≡ bytes ++ 10 ∷ more → Next entries bytes more
 next_from entries ls [] bytes more u g h o e = next_line entries ls bytes more u h e
 next_from entries ls (S ∷ Ss) bytes more u g h o e =
-    let p = first_line (answer_text S) bytes (lines answer_text Ss ++ (lines line_text ls ++ codes "0\n")) more (unbroken_answer S g.0) u (sym (front_first (answer_text S) (lines answer_text Ss) (lines line_text ls ++ codes "0\n")) ∙ e) in
-    inl (S, none_yet entries S Ss o, record { is = g.0; same = p.0 }, record { more_answers = Ss; more_lines = ls; are_sets = g.1; are_lines = h; in_order = λ lt. let k = o lt in absurd cc; same = p.1 })
+    let p = first_line (answer_text S) bytes (lines answer_text Ss ++ (lines line_text ls ++ codes "0\n")) more (unbroken_answer S g.0) u
+    (sym (front_first (answer_text S) (lines answer_text Ss) (lines line_text ls ++ codes "0\n")) ∙ e) in
+    inl (
+      S,
+      none_yet entries S Ss o,
+      record { is = g.0; same = p.0 },
+      record { more_changes = Ss; more_lines = ls; are_sets = g.1; are_lines = h; in_order = λ lt. let k = o lt in absurd cc; same = p.1 },
+    )
 
 next : (entries : List Line) (bytes more : List ℕ) → IsUnbroken bytes → Ends entries (bytes ++ 10 ∷ more) → Next entries bytes more
-next entries bytes more u e = next_from entries e.more_lines e.more_answers bytes more u e.are_sets e.are_lines e.in_order e.same
+next entries bytes more u e = next_from entries e.more_lines e.more_changes bytes more u e.are_sets e.are_lines e.in_order e.same
 
 -- ---- lines of different kinds
 
@@ -121,17 +131,18 @@ line_or_last (kind.Cube cube) e = omega (arith, first_bytes 99 48 (counted_field
 lines_more : {A : Type 0} (text : A → List ℕ) (xs : List A) (x : A) → lines text (xs ++ x ∷ []) ≡ lines text xs ++ line (text x)
 lines_more text xs x = flat_map-append (λ y. line (text y)) xs (x ∷ []) ∙ ap (λ (t : List ℕ). lines text xs ++ t) (append-nil (line (text x)))
 
-front_answer : (opt : Bool) (answers : List Atoms) (S : Atoms) → front_of (proof_of opt (answers ++ S ∷ []) []) ≡ front_of (proof_of opt answers []) ++ line (answer_text S)
-front_answer opt answers S =
+front_answer : (opt : Bool) (answers : List Atoms) (S D : Atoms) → changes_of (answers ++ S ∷ []) ≡ changes_of answers ++ D ∷ [] →
+    front_of (proof_of opt (answers ++ S ∷ []) []) ≡ front_of (proof_of opt answers []) ++ line (answer_text D)
+front_answer opt answers S D e =
     let head = codes "proof 2\n" ++ mode_line opt in
-    append-nil (head ++ lines answer_text (answers ++ S ∷ []))
-    ∙ ap (λ (t : List ℕ). head ++ t) (lines_more answer_text answers S)
-    ∙ sym (append_assoc head (lines answer_text answers) (line (answer_text S)))
-    ∙ ap (λ (t : List ℕ). t ++ line (answer_text S)) (sym (append-nil (head ++ lines answer_text answers)))
+    append-nil (head ++ lines answer_text (changes_of (answers ++ S ∷ [])))
+    ∙ ap (λ (t : List ℕ). head ++ t) (ap (lines answer_text) e ∙ lines_more answer_text (changes_of answers) D)
+    ∙ sym (append_assoc head (lines answer_text (changes_of answers)) (line (answer_text D)))
+    ∙ ap (λ (t : List ℕ). t ++ line (answer_text D)) (sym (append-nil (head ++ lines answer_text (changes_of answers))))
 
 front_line : (opt : Bool) (answers : List Atoms) (entries : List Line) (l : Line) → front_of (proof_of opt answers (entries ++ l ∷ [])) ≡ front_of (proof_of opt answers entries) ++ line (line_text l)
 front_line opt answers entries l =
-    let head = codes "proof 2\n" ++ mode_line opt ++ lines answer_text answers in
+    let head = codes "proof 2\n" ++ mode_line opt ++ lines answer_text (changes_of answers) in
     ap (λ (t : List ℕ). head ++ t) (lines_more line_text entries l) ∙ sym (append_assoc head (lines line_text entries) (line (line_text l)))
 
 -- a line behind a front
@@ -173,21 +184,34 @@ after_line entries now l bytes more w (inl x) = absurd (answer_or_line x.0 l (x.
 after_line entries now l bytes more w (inr (inl x)) = x.2 now
 after_line entries now l bytes more w (inr (inr x)) = absurd (line_or_last l (w.same ∙ x.0))
 
-walk_answer : (text : List ℕ) (n : ℕ) (opt : Bool) (answers : List Atoms) (S : Atoms) (bytes after : List ℕ) → IsWalked text n (proof_of opt answers []) (bytes ++ 10 ∷ after) → IsUnbroken bytes → IsWhole IsSet answer_text bytes S
+walk_answer : (text : List ℕ) (n : ℕ) (opt : Bool) (answers : List Atoms) (S : Atoms) (bytes after : List ℕ) →
+    IsWalked text n (proof_of opt answers []) (bytes ++ 10 ∷ after) → IsUnbroken bytes → IsNextAnswer answers bytes S
     → IsWalked text (n + 1) (proof_of opt (answers ++ S ∷ []) []) after
 walk_answer text n opt answers S bytes after w u h =
+    let set = subst IsSet (sym h.is) (set_changed (last_of answers) h.change (last_set [] answers no_atoms w.is.answers) h.whole.is) in
+    let changes = changes_next [] answers S h.change h.whole.is.ascending h.is in
     walk_on text n (proof_of opt answers []) (proof_of opt (answers ++ S ∷ []) []) bytes after w u
-    (record { is = record { answers = each-append IsSet answers (S ∷ []) w.is.answers (h.is, tt); lines = tt }; same = front_answer opt answers S ∙ ap (λ (t : List ℕ). front_of (proof_of opt answers []) ++ line t) h.same })
-    (λ more x. after_answer S bytes more h x)
+    (record {
+      is = record { answers = each-append IsSet answers (S ∷ []) w.is.answers (set, tt); lines = tt };
+      same =
+          front_answer opt answers S h.change changes ∙ ap (λ (t : List ℕ). front_of (proof_of opt answers []) ++ line t) h.whole.same;
+    })
+    (λ more x. after_answer h.change bytes more h.whole x)
 
-walk_line : (text : List ℕ) (n : ℕ) (opt : Bool) (answers : List Atoms) (entries : List Line) (l : Line) (bytes after : List ℕ) → IsWalked text n (proof_of opt answers entries) (bytes ++ 10 ∷ after) → IsUnbroken bytes → IsWhole IsLine line_text bytes l
+walk_line : (text : List ℕ) (n : ℕ) (opt : Bool) (answers : List Atoms) (entries : List Line) (l : Line) (bytes after : List ℕ) →
+    IsWalked text n (proof_of opt answers entries) (bytes ++ 10 ∷ after) → IsUnbroken bytes → IsWhole IsLine line_text bytes l
     → IsWalked text (n + 1) (proof_of opt answers (entries ++ l ∷ [])) after
 walk_line text n opt answers entries l bytes after w u h =
     walk_on text n (proof_of opt answers entries) (proof_of opt answers (entries ++ l ∷ [])) bytes after w u
-    (record { is = record { answers = w.is.answers; lines = each-append IsLine entries (l ∷ []) w.is.lines (h.is, tt) }; same = front_line opt answers entries l ∙ ap (λ (t : List ℕ). front_of (proof_of opt answers entries) ++ line t) h.same })
+    (record {
+      is = record { answers = w.is.answers; lines = each-append IsLine entries (l ∷ []) w.is.lines (h.is, tt) };
+      same =
+          front_line opt answers entries l ∙ ap (λ (t : List ℕ). front_of (proof_of opt answers entries) ++ line t) h.same;
+    })
     (λ more x. after_line entries (entries ++ l ∷ []) l bytes more h x)
 
-pub walks : (text : List ℕ) (n : ℕ) (opt : Bool) (answers now_answers : List Atoms) (entries now_entries : List Line) (bytes after rest : List ℕ) → IsWalked text n (proof_of opt answers entries) rest → bytes ++ 10 ∷ after ≡ rest → IsUnbroken bytes
+pub walks : (text : List ℕ) (n : ℕ) (opt : Bool) (answers now_answers : List Atoms) (entries now_entries : List Line) (bytes after rest : List ℕ) →
+    IsWalked text n (proof_of opt answers entries) rest → bytes ++ 10 ∷ after ≡ rest → IsUnbroken bytes
     → Takes bytes answers entries now_answers now_entries → IsWalked text (n + 1) (proof_of opt now_answers now_entries) after
 walks text n opt answers now_answers entries now_entries bytes after rest w e u (inl x) =
     rw (x.2, x.3) (walk_answer text n opt answers x.0 bytes after (rw (x.1, ← e) at w) u x.4)
@@ -199,7 +223,8 @@ walks text n opt answers now_answers entries now_entries bytes after rest w e u 
 begun : (p : Proof) → IsProof p → Begins (front_of p)
 begun p h = record { rest = codes "0\n"; whole = record { proof = p; is = h; same = refl } }
 
-fault : (text front bytes after : List ℕ) (n : ℕ) → front ++ (bytes ++ 10 ∷ after) ≡ text → IsLines n front → Begins front → IsUnbroken bytes → ((more : List ℕ) → IsProofText (front ++ (bytes ++ 10 ∷ more)) → ⊥) → IsFirstFault text (n + 1)
+fault : (text front bytes after : List ℕ) (n : ℕ) → front ++ (bytes ++ 10 ∷ after) ≡ text → IsLines n front → Begins front → IsUnbroken bytes →
+    ((more : List ℕ) → IsProofText (front ++ (bytes ++ 10 ∷ more)) → ⊥) → IsFirstFault text (n + 1)
 fault text front bytes after n e counted begins u never = record {
   before = n;
   numbered = refl;
@@ -219,7 +244,8 @@ never_next entries bytes more r z (inl x) = r.no_answer x.1 x.0 x.2
 never_next entries bytes more r z (inr (inl x)) = r.no_line x.0 x.1
 never_next entries bytes more r z (inr (inr x)) = z x.0
 
-pub refused : (text : List ℕ) (n : ℕ) (p : Proof) (bytes after rest : List ℕ) → IsWalked text n p rest → bytes ++ 10 ∷ after ≡ rest → IsUnbroken bytes → bytes ≢ codes "0" → IsRefused bytes p.lines → IsFirstFault text (n + 1)
+pub refused : (text : List ℕ) (n : ℕ) (p : Proof) (bytes after rest : List ℕ) → IsWalked text n p rest → bytes ++ 10 ∷ after ≡ rest →
+    IsUnbroken bytes → bytes ≢ codes "0" → IsRefused bytes p.lines → IsFirstFault text (n + 1)
 refused text n p bytes after rest w e u z r = fault text (front_of p) bytes after n (ap (λ (t : List ℕ). front_of p ++ t) e ∙ w.parted) w.counted (begun p w.is) u
     (λ more t. never_next p.lines bytes more r z (next p.lines bytes more u (w.only (bytes ++ 10 ∷ more) t)))
 
@@ -241,7 +267,7 @@ broken_off text n p rest w u = record {
   whole = λ t.
       let e = w.only rest (proof_text _ _ (sym w.parted) t) in
       let h = subst IsUnbroken (sym e.same) u in
-      (left_lacks (lines line_text e.more_lines) (codes "0\n") (left_lacks (lines answer_text e.more_answers) _ h)).1.0 refl;
+      (left_lacks (lines line_text e.more_lines) (codes "0\n") (left_lacks (lines answer_text e.more_changes) _ h)).1.0 refl;
 }
 
 -- ---- the last line
@@ -282,8 +308,8 @@ head = codes "proof 2\n"
 pub regroup : (h m a l z : List ℕ) → (((h ++ m) ++ a) ++ l) ++ z ≡ h ++ (m ++ (a ++ (l ++ z)))
 regroup h m a l z = simp append_assoc
 
-pub parts_of : (p : Proof) → text_of p ≡ head ++ (mode_line p.opt ++ (lines answer_text p.answers ++ (lines line_text p.lines ++ codes "0\n")))
-parts_of p = regroup head (mode_line p.opt) (lines answer_text p.answers) (lines line_text p.lines) (codes "0\n")
+pub parts_of : (p : Proof) → text_of p ≡ head ++ (mode_line p.opt ++ (lines answer_text (changes_of p.answers) ++ (lines line_text p.lines ++ codes "0\n")))
+parts_of p = regroup head (mode_line p.opt) (lines answer_text (changes_of p.answers)) (lines line_text p.lines) (codes "0\n")
 
 pub behind_head : (xs ys : List ℕ) → head ++ xs ≡ head ++ ys → xs ≡ ys
 behind_head xs ys e = cc
@@ -301,11 +327,24 @@ same_mode true false xs ys e = absurd (omega (arith, first_bytes 111 101 _ _ e))
 same_mode false true xs ys e = absurd (omega (arith, first_bytes 101 111 _ _ e))
 
 -- what a proof's text has behind its first line
-behind_first : (rest : List ℕ) → IsProofText (head ++ rest) → (p : Proof) × IsProof p × (mode_line p.opt ++ (lines answer_text p.answers ++ (lines line_text p.lines ++ codes "0\n")) ≡ rest)
+behind_first : (rest : List ℕ) → IsProofText (head ++ rest) → (p : Proof) × IsProof p ×
+    (mode_line p.opt ++ (lines answer_text (changes_of p.answers) ++ (lines line_text p.lines ++ codes "0\n")) ≡ rest)
 behind_first rest t = (t.proof, t.is, behind_head _ rest (sym (parts_of t.proof) ∙ t.same))
 
 pub head_unbroken : IsUnbroken (codes "proof 2")
-head_unbroken = ((λ e. omega (arith, e)), ((λ e. omega (arith, e)), ((λ e. omega (arith, e)), ((λ e. omega (arith, e)), ((λ e. omega (arith, e)), ((λ e. omega (arith, e)), ((λ e. omega (arith, e)), tt)))))))
+head_unbroken = (
+  (λ e. omega (arith, e)),
+  (
+    (λ e. omega (arith, e)),
+    (
+      (λ e. omega (arith, e)),
+      (
+        (λ e. omega (arith, e)),
+        ((λ e. omega (arith, e)), ((λ e. omega (arith, e)), ((λ e. omega (arith, e)), tt))),
+      ),
+    ),
+  ),
+)
 
 abbrev pub mode_word : Bool → List ℕ
 mode_word true = codes "opt"
@@ -352,5 +391,13 @@ starts text body rest opt e m = record {
   counted = two_lines opt;
   only = λ more t.
       let p = behind_first (mode_line opt ++ more) (proof_text _ _ (start_regroup head (mode_line opt) more) t) in
-      record { more_answers = p.0.answers; more_lines = p.0.lines; are_sets = p.1.answers; are_lines = p.1.lines; in_order = λ lt. absurd (omega (arith, lt)); same = behind_mode p.0.opt opt _ more p.2 };
+      record {
+        more_changes = changes_of p.0.answers;
+        more_lines = p.0.lines;
+        are_sets = changes_sets [] p.0.answers no_atoms p.1.answers;
+        are_lines =
+            p.1.lines;
+        in_order = λ lt. absurd (omega (arith, lt));
+        same = behind_mode p.0.opt opt _ more p.2;
+      };
 }

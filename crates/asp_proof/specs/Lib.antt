@@ -1,3 +1,5 @@
+pub mod Changes
+pub mod Turns
 pub mod Texts
 pub mod Grammar
 pub mod Fields

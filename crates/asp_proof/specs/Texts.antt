@@ -2,6 +2,7 @@
 use Rattle.std.specs.Prelude.{ℕ, List, [], ◌∷◌, ◌++◌, length, flat_map, Bool, if◌then◌else◌, ℤ, codes, decimal}
 use Rattle.std.specs.Fmt.{signed_decimal}
 use Rattle.asp_model.specs.Sets.{Atoms}
+use Rattle.asp_proof.specs.Changes.{changes_of}
 use Rattle.asp_proof.specs.declared.proof.Line.{Line}
 use Rattle.asp_proof.specs.declared.proof.Line.TheVariants as kind
 use Rattle.asp_proof.specs.declared.proof.Proof.{Proof}
@@ -36,6 +37,7 @@ line bytes = bytes ++ 10 ∷ []
 abbrev pub lines : {A : Type 0} → (A → List ℕ) → List A → List ℕ
 lines text xs = flat_map (λ x. line (text x)) xs
 
+-- the atoms in which an answer differs from the one before it
 abbrev pub answer_text : Atoms → List ℕ
 answer_text S = codes "a" ++ atoms_fields S
 
@@ -56,4 +58,4 @@ abbrev pub mode_line : Bool → List ℕ
 mode_line opt = if opt then codes "opt\n" else codes "enum\n"
 
 abbrev pub text_of : Proof → List ℕ
-text_of p = codes "proof 2\n" ++ mode_line p.opt ++ lines answer_text p.answers ++ lines line_text p.lines ++ codes "0\n"
+text_of p = codes "proof 2\n" ++ mode_line p.opt ++ lines answer_text (changes_of p.answers) ++ lines line_text p.lines ++ codes "0\n"

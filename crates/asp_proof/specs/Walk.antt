@@ -6,6 +6,7 @@ use Rattle.asp_model.specs.Sets.{Atoms}
 use Rattle.asp_proof.specs.declared.proof.Line.{Line}
 use Rattle.asp_proof.specs.declared.proof.Proof.{Proof}
 use Rattle.asp_proof.specs.Texts.{answer_text, line_text, mode_line}
+use Rattle.asp_proof.specs.Changes.{changed, changes_of, last_of}
 use Rattle.asp_proof.specs.Grammar.{IsSet, IsLine, IsProof, IsLines, IsProofText}
 use Rattle.asp_proof.specs.Fields.{IsNone, IsWhole}
 
@@ -14,16 +15,16 @@ proof_of opt answers entries = record { opt = opt; answers = answers; lines = en
 
 -- the lines that were taken
 abbrev pub front_of : Proof → List ℕ
-front_of p = codes "proof 2\n" ++ mode_line p.opt ++ lines answer_text p.answers ++ lines line_text p.lines
+front_of p = codes "proof 2\n" ++ mode_line p.opt ++ lines answer_text (changes_of p.answers) ++ lines line_text p.lines
 
 -- what ends a proof's text whose lines so far are these: more answers, if there is no further line yet, more lines, and the last one
 pub record Ends (entries : List Line) (rest : List ℕ) : Type 0 where
-  pub more_answers : List Atoms
+  pub more_changes : List Atoms
   pub more_lines : List Line
-  pub are_sets : AllByRecursion IsSet more_answers
+  pub are_sets : AllByRecursion IsSet more_changes
   pub are_lines : AllByRecursion IsLine more_lines
-  pub in_order : 0 < length entries → more_answers ≡ []
-  pub same : lines answer_text more_answers ++ (lines line_text more_lines ++ codes "0\n") ≡ rest
+  pub in_order : 0 < length entries → more_changes ≡ []
+  pub same : lines answer_text more_changes ++ (lines line_text more_lines ++ codes "0\n") ≡ rest
 
 -- so many lines are the front of a proof's text, and what a proof's text has after them is what may come next
 pub record IsBegun (count : ℕ) (p : Proof) : Type 0 where
@@ -47,10 +48,16 @@ pub record IsWalked (text : List ℕ) (count : ℕ) (p : Proof) (rest : List ℕ
   pub counted : IsLines count (front_of p)
   pub only : (more : List ℕ) → IsProofText (front_of p ++ more) → Ends p.lines more
 
+-- the answer that comes after these by the change that a line tells
+pub record IsNextAnswer (answers : List Atoms) (bytes : List ℕ) (S : Atoms) : Type 0 where
+  pub change : Atoms
+  pub whole : IsWhole IsSet answer_text bytes change
+  pub is : S ≡ changed (last_of answers) change
+
 -- one line was taken
 abbrev pub Takes : List ℕ → List Atoms → List Line → List Atoms → List Line → Type 0
 Takes bytes answers entries now_answers now_entries =
-    ((S : Atoms) × (entries ≡ []) × (now_entries ≡ []) × (now_answers ≡ answers ++ S ∷ []) × IsWhole IsSet answer_text bytes S)
+    ((S : Atoms) × (entries ≡ []) × (now_entries ≡ []) × (now_answers ≡ answers ++ S ∷ []) × IsNextAnswer answers bytes S)
     ⊎ ((l : Line) × (now_answers ≡ answers) × (now_entries ≡ entries ++ l ∷ []) × IsWhole IsLine line_text bytes l)
 
 -- no line that may come next is this

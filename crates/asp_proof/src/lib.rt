@@ -1,6 +1,7 @@
 //! The text of a proof: what a finished run says to whoever checks it.
 #![tactic(auto)]
 
+pub mod changes;
 mod error;
 mod fields;
 pub mod laws;

@@ -2,10 +2,13 @@
 ghost use Rattle.std.specs.Prelude.{◌≡◌, ◌++◌, ◌∷◌, ◌≤◌, codes, flat_map, OnOk, OnErr};
 ghost use Rattle.std.specs.Io.KnownBytes.{Appends};
 ghost use Rattle.asp_io.specs.Causes.{Rose, AppendsFront};
+ghost use Rattle.asp_model.specs.Sets.{IsAscending};
+ghost use Rattle.asp_proof.specs.Changes.{changed, changes_of};
 ghost use Rattle.asp_proof.specs.Texts.{natural_field, integer_field, counted_fields, line, lines};
 ghost use Rattle.asp_buffer.specs.Out.{Puts, out};
 ghost use Rattle.asp_proof.specs.Texts.{atoms_fields, literals_fields, loop_fields, learned_fields, answer_text, line_text, mode_line, text_of};
 
+use crate::changes::{Turn, count_changed, first_of};
 use crate::proof::{Line, Proof};
 use asp_buffer::{Waiting, flush, put, put_number};
 use asp_io::{Failed, Sink};
@@ -78,12 +81,63 @@ fn put_literals<K: Sink>(
     put_each_literal(sink, waiting, literals)
 }
 
-fn put_answer<K: Sink>(sink: &mut K, waiting: &mut Waiting, answer: &Interp) -> Result<(), Failed>
+// Puts out the atoms that one of the sets alone has.
+fn put_each_changed<'a, K: Sink>(
+    sink: &mut K,
+    waiting: &mut Waiting,
+    mut one: &'a [Atom],
+    mut other: &'a [Atom],
+) -> Result<(), Failed>
+    requires one { IsAscending one.now }
+    requires other { IsAscending other.now }
     ensures { Puts (out (K.held sink.old) (K.faults sink.old) waiting.old)
-        (out (K.held sink.new) (K.faults sink.new) waiting.new) result (line (answer_text answer.now)) }
+        (out (K.held sink.new) (K.faults sink.new) waiting.new) result (flat_map natural_field (changed one.now other.now)) }
+{
+    'turns: loop {
+        match first_of(one, other) {
+            Turn::End => return Ok(()),
+            Turn::Both(rest, others) => {
+                one = rest;
+                other = others;
+            }
+            Turn::Lone(atom, rest, others) => {
+                put_field(sink, waiting, atom)?;
+                one = rest;
+                other = others;
+            }
+        }
+    }
+}
+
+fn put_changed<K: Sink>(
+    sink: &mut K,
+    waiting: &mut Waiting,
+    one: &[Atom],
+    other: &[Atom],
+) -> Result<(), Failed>
+    requires one { IsAscending one.now }
+    requires other { IsAscending other.now }
+    ensures { Puts (out (K.held sink.old) (K.faults sink.old) waiting.old)
+        (out (K.held sink.new) (K.faults sink.new) waiting.new) result (atoms_fields (changed one.now other.now)) }
+{
+    put_field(sink, waiting, count_changed(one, other))?;
+    put_each_changed(sink, waiting, one, other)
+}
+
+// Puts out an answer by what it changes of the one before it.
+fn put_answer<K: Sink>(
+    sink: &mut K,
+    waiting: &mut Waiting,
+    last: &[Atom],
+    answer: &[Atom],
+) -> Result<(), Failed>
+    requires last { IsAscending last.now }
+    requires answer { IsAscending answer.now }
+    ensures { Puts (out (K.held sink.old) (K.faults sink.old) waiting.old)
+        (out (K.held sink.new) (K.faults sink.new) waiting.new) result (line (answer_text (changed last.now answer.now))) }
 {
     put(sink, waiting, b"a")?;
-    put_atoms(sink, waiting, answer.as_slice())?;
+    put_changed(sink, waiting, last, answer)?;
     put(sink, waiting, b"\n")
 }
 
@@ -93,10 +147,13 @@ fn put_answers<K: Sink>(
     answers: &[Interp],
 ) -> Result<(), Failed>
     ensures { Puts (out (K.held sink.old) (K.faults sink.old) waiting.old)
-        (out (K.held sink.new) (K.faults sink.new) waiting.new) result (lines answer_text answers.now) }
+        (out (K.held sink.new) (K.faults sink.new) waiting.new) result (lines answer_text (changes_of answers.now)) }
 {
+    let mut last: &[Atom] = &[];
     for answer in answers {
-        put_answer(sink, waiting, answer)?;
+        let atoms = answer.as_slice();
+        put_answer(sink, waiting, last, atoms)?;
+        last = atoms;
     }
     Ok(())
 }

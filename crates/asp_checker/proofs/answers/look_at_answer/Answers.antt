@@ -8,9 +8,11 @@ pub loop-at-preserved : goal.loop-at-preserved
 loop-at-preserved c =
     let atoms = c.as_slice-atoms.result.now in
     let i = c.loop-at.at in
-    let truth = c.stands_at-truth.ensures.has ∙ ap (λ (U : Atoms). has U (get_or atoms i 0)) c.as_slice-set.ensures.value ∙ ap (λ (L : Atoms). has c.args.answer.now (get_or L i 0)) (c.as_slice-atoms.ensures.value ∙ c.atoms.ensures) in
+    let truth = c.stands_at-truth.ensures.has ∙ ap (λ (U : Atoms). has U (get_or atoms i 0)) c.as_slice-set.ensures.value
+    ∙ ap (λ (L : Atoms). has c.args.answer.now (get_or L i 0)) (c.as_slice-atoms.ensures.value ∙ c.atoms.ensures) in
     record {
-      seen = answer_more c.args.compiled.now c.args.answer.now c.args.values.now i (i + 1) c.stands_at-truth.result c.new.result c.loop-at.look c.with-look.result (omega (arith, c.loop-at-test.true, c.atom_count-at-end.ensures.count)) c.new.ensures refl truth c.with-look.ensures
+      seen = answer_more c.args.compiled.now c.args.answer.now c.args.values.now i (i + 1) c.stands_at-truth.result c.new.result c.loop-at.look
+          c.with-look.result (omega (arith, c.loop-at-test.true, c.atom_count-at-end.ensures.count)) c.new.ensures refl truth c.with-look.ensures
           c.loop-at.invariant.seen;
       within = c.skip-place.ensures.within;
       below = λ more. next_below atoms c.as_slice-set.result.now i c.skip-place.result c.as_slice-atoms.ensures.ascending more c.skip-place.ensures.before;
@@ -20,9 +22,11 @@ pub returns-in-Fixpoint : goal.returns-in-Fixpoint
 returns-in-Fixpoint c =
     let atoms = c.as_slice-atoms.result.now in
     let i = c.loop-at.at in
-    let truth = c.stands_at-truth.ensures.has ∙ ap (λ (U : Atoms). has U (get_or atoms i 0)) c.as_slice-set.ensures.value ∙ ap (λ (L : Atoms). has c.args.answer.now (get_or L i 0)) (c.as_slice-atoms.ensures.value ∙ c.atoms.ensures) in
+    let truth = c.stands_at-truth.ensures.has ∙ ap (λ (U : Atoms). has U (get_or atoms i 0)) c.as_slice-set.ensures.value
+    ∙ ap (λ (L : Atoms). has c.args.answer.now (get_or L i 0)) (c.as_slice-atoms.ensures.value ∙ c.atoms.ensures) in
     answer_missed c.args.compiled.now c.args.answer.now c.args.values.now (i + 1) c.with-look.result c.in-Fixpoint.is
-    (answer_more c.args.compiled.now c.args.answer.now c.args.values.now i (i + 1) c.stands_at-truth.result c.new.result c.loop-at.look c.with-look.result (omega (arith, c.loop-at-test.true, c.atom_count-at-end.ensures.count)) c.new.ensures refl truth c.with-look.ensures
+    (answer_more c.args.compiled.now c.args.answer.now c.args.values.now i (i + 1) c.stands_at-truth.result c.new.result c.loop-at.look
+    c.with-look.result (omega (arith, c.loop-at-test.true, c.atom_count-at-end.ensures.count)) c.new.ensures refl truth c.with-look.ensures
     c.loop-at.invariant.seen)
 
 pub returns : goal.returns

@@ -18,4 +18,6 @@ pub returns-in-Implied : goal.returns-in-Implied
 returns-in-Implied c = others_swept c.args.values.now c.sweep.new.values (map (nogood_of_answer c.args.compiled.now) c.args.listed.now) c.args.rows.now visit.Implied (λ e. cc) c.in-Implied.ensures
 
 pub returns-in-Fixpoint : goal.returns-in-Fixpoint
-returns-in-Fixpoint c = answers_swept c.args.values.now c.sweep.new.values c.sweep_answers.new.values (map (nogood_of_answer c.args.compiled.now) c.args.listed.now) c.args.rows.now c.sweep_answers.result c.in-Fixpoint.ensures c.sweep_answers.ensures
+returns-in-Fixpoint c =
+    answers_swept c.args.values.now c.sweep.new.values c.sweep_answers.new.values (map (nogood_of_answer c.args.compiled.now) c.args.listed.now)
+    c.args.rows.now c.sweep_answers.result c.in-Fixpoint.ensures c.sweep_answers.ensures

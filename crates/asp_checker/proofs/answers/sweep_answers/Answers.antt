@@ -15,8 +15,12 @@ loop-answer-preserved c =
     let count = answer_count p c.args.listed.now in
     record {
       size = same_size x c.visit_answer-visit.new.values n c.visit_answer-visit.result c.visit_answer-visit.ensures ∙ c.loop-answer.invariant.size;
-      so_far = rw c.later-came_to.ensures (swept_more c.args.values.now x c.visit_answer-visit.new.values (map (nogood_of_answer p) c.args.listed.now) c.loop-answer.answer-index n c.loop-answer.came_to c.visit_answer-visit.result (omega (arith, count, c.loop-answer-test.true))
-          (answer_at p c.args.listed.now c.loop-answer.answer-index c.answer-item.result c.loop-answer-test.true c.answer-item.is) (answers_range p c.args.listed.now (length x) (c.loop-answer.invariant.size ∙ c.requires)) c.in_default.not-Conflict c.loop-answer.invariant.so_far c.visit_answer-visit.ensures);
+      so_far = rw c.later-came_to.ensures
+          (swept_more c.args.values.now x c.visit_answer-visit.new.values (map (nogood_of_answer p) c.args.listed.now) c.loop-answer.answer-index n
+          c.loop-answer.came_to c.visit_answer-visit.result (omega (arith, count, c.loop-answer-test.true))
+          (answer_at p c.args.listed.now c.loop-answer.answer-index c.answer-item.result c.loop-answer-test.true c.answer-item.is)
+          (answers_range p c.args.listed.now (length x) (c.loop-answer.invariant.size ∙ c.requires)) c.in_default.not-Conflict
+          c.loop-answer.invariant.so_far c.visit_answer-visit.ensures);
     }
 
 pub returns-in-Conflict : goal.returns-in-Conflict
@@ -24,11 +28,13 @@ returns-in-Conflict c =
     let p = c.args.compiled.now in
     let nogoods = map (nogood_of_answer p) c.args.listed.now in
     let count = answer_count p c.args.listed.now in
-    swept_conflict c.args.values.now c.loop-answer.values c.visit_answer-visit.new.values nogoods (take c.loop-answer.answer-index nogoods) c.loop-answer.answer-index (nogood_of_answer p c.answer-item.result) c.loop-answer.came_to (omega (arith, count, c.loop-answer-test.true))
+    swept_conflict c.args.values.now c.loop-answer.values c.visit_answer-visit.new.values nogoods (take c.loop-answer.answer-index nogoods)
+    c.loop-answer.answer-index (nogood_of_answer p c.answer-item.result) c.loop-answer.came_to (omega (arith, count, c.loop-answer-test.true))
     (answer_at p c.args.listed.now c.loop-answer.answer-index c.answer-item.result c.loop-answer-test.true c.answer-item.is) c.loop-answer.invariant.so_far c.in-Conflict.ensures
 
 pub returns : goal.returns
 returns c =
     let p = c.args.compiled.now in
     let count = answer_count p c.args.listed.now in
-    swept_whole c.args.values.now c.loop-answer.values (map (nogood_of_answer p) c.args.listed.now) c.loop-answer.answer-index c.loop-answer.came_to (omega (arith, count, c.loop-answer-test.false)) c.loop-answer.invariant.so_far
+    swept_whole c.args.values.now c.loop-answer.values (map (nogood_of_answer p) c.args.listed.now) c.loop-answer.answer-index c.loop-answer.came_to
+    (omega (arith, count, c.loop-answer-test.false)) c.loop-answer.invariant.so_far

@@ -10,7 +10,8 @@ loop-at-init c = record { same = refl; free = free_first c.args.compiled.now (co
 pub loop-at-preserved : goal.loop-at-preserved
 loop-at-preserved c = record {
   same = c.in_default.ensures.same ∙ c.loop-at.invariant.same;
-  free = free_next c.args.compiled.now (cost_of_bound c.args.bound.now) c.loop-at.values c.implied_at.new.values c.loop-at.at c.in_default.ensures.same c.loop-at.invariant.free c.in_default.ensures.implied;
+  free = free_next c.args.compiled.now (cost_of_bound c.args.bound.now) c.loop-at.values c.implied_at.new.values c.loop-at.at
+      c.in_default.ensures.same c.loop-at.invariant.free c.in_default.ensures.implied;
 }
 
 pub returns-in-Some-clause-same : goal.returns-in-Some-clause-same

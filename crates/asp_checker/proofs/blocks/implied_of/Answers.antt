@@ -14,19 +14,23 @@ would_be_blocked-is_true-requires-clause-no_value c =
 
 pub returns-then-is_false-clause-implied : goal.returns-then-is_false-clause-implied
 returns-then-is_false-clause-implied c =
-    implied_other c.args.compiled.now (cost_of_bound c.args.bound.now) c.args.values.now c.args.var true c.new-held.result c.complement-failed.result c.requires.positive c.requires.of c.requires.no_value c.new-held.ensures
+    implied_other c.args.compiled.now (cost_of_bound c.args.bound.now) c.args.values.now c.args.var true c.new-held.result c.complement-failed.result
+    c.requires.positive c.requires.of c.requires.no_value c.new-held.ensures
     (c.complement-failed.ensures ∙ ap complement c.new-held.ensures) (sym c.would_be_blocked-is_false.ensures.blocked ∙ c.if-is_false.true)
 
 pub returns-then-is_true-clause-implied : goal.returns-then-is_true-clause-implied
 returns-then-is_true-clause-implied c =
-    implied_other c.args.compiled.now (cost_of_bound c.args.bound.now) c.args.values.now c.args.var false c.complement-failed.result c.new-held.result c.requires.positive c.requires.of c.requires.no_value
+    implied_other c.args.compiled.now (cost_of_bound c.args.bound.now) c.args.values.now c.args.var false c.complement-failed.result c.new-held.result
+    c.requires.positive c.requires.of c.requires.no_value
     (c.complement-failed.ensures ∙ ap complement c.new-held.ensures) c.new-held.ensures
-    (ap (λ (z : List (Option Bool)). is_blocked c.args.compiled.now (cost_of_bound c.args.bound.now) (set z c.complement-failed.result.var (Some c.complement-failed.result.truth))) (sym c.would_be_blocked-is_false.ensures.same)
+    (ap (λ (z : List (Option Bool)). is_blocked c.args.compiled.now (cost_of_bound c.args.bound.now)
+    (set z c.complement-failed.result.var (Some c.complement-failed.result.truth))) (sym c.would_be_blocked-is_false.ensures.same)
     ∙ sym c.would_be_blocked-is_true.ensures.blocked ∙ c.if-is_true.true)
 
 pub returns-clause-implied : goal.returns-clause-implied
 returns-clause-implied c =
     neither_blocks c.args.compiled.now (cost_of_bound c.args.bound.now) c.args.values.now c.args.var c.new-held.result c.complement-failed.result c.new-held.ensures
     (c.complement-failed.ensures ∙ ap complement c.new-held.ensures) (sym c.would_be_blocked-is_false.ensures.blocked ∙ c.if-is_false.false)
-    (ap (λ (z : List (Option Bool)). is_blocked c.args.compiled.now (cost_of_bound c.args.bound.now) (set z c.complement-failed.result.var (Some c.complement-failed.result.truth))) (sym c.would_be_blocked-is_false.ensures.same)
+    (ap (λ (z : List (Option Bool)). is_blocked c.args.compiled.now (cost_of_bound c.args.bound.now)
+    (set z c.complement-failed.result.var (Some c.complement-failed.result.truth))) (sym c.would_be_blocked-is_false.ensures.same)
     ∙ sym c.would_be_blocked-is_true.ensures.blocked ∙ c.if-is_true.false)

@@ -12,7 +12,9 @@ returns-then-sum-limit c =
     let f : List ℤ → ℤ = level_sum c.args.values.now c.args.vars in
     let lt : c.loop-i.i < length (map f c.args.levels.now) = omega (arith, length-map c.args.levels.now f, c.loop-i-test.true) in
     let lt' : c.loop-i.i < length c.args.cost.now = omega (arith, c.loop-i-test.true, c.requires.levels) in
-    let sum = sum_at c.args.values.now c.args.vars c.args.levels.now c.loop-i.i c.index-levels-i.result c.level_sum-sum.result c.loop-i-test.true c.index-levels-i.is (c.level_sum-sum.ensures ∙ ap f c.as_slice.ensures.value) in
+    let sum =
+    sum_at c.args.values.now c.args.vars c.args.levels.now c.loop-i.i c.index-levels-i.result c.level_sum-sum.result c.loop-i-test.true
+    c.index-levels-i.is (c.level_sum-sum.ensures ∙ ap f c.as_slice.ensures.value) in
     let limit : c.widened-limit.result ≡ get_or c.args.cost.now c.loop-i.i (pos 0) = c.widened-limit.ensures.value ∙ to_z-of_z w64 (get_or c.args.cost.now c.loop-i.i (pos 0)) (search rules) in
     let a = to_z-of_z w128 c.level_sum-sum.result (search rules) in
     let b = to_z-of_z w128 c.widened-limit.result (search rules) in
@@ -24,7 +26,9 @@ returns-then-limit-sum c =
     let f : List ℤ → ℤ = level_sum c.args.values.now c.args.vars in
     let lt : c.loop-i.i < length (map f c.args.levels.now) = omega (arith, length-map c.args.levels.now f, c.loop-i-test.true) in
     let lt' : c.loop-i.i < length c.args.cost.now = omega (arith, c.loop-i-test.true, c.requires.levels) in
-    let sum = sum_at c.args.values.now c.args.vars c.args.levels.now c.loop-i.i c.index-levels-i.result c.level_sum-sum.result c.loop-i-test.true c.index-levels-i.is (c.level_sum-sum.ensures ∙ ap f c.as_slice.ensures.value) in
+    let sum =
+    sum_at c.args.values.now c.args.vars c.args.levels.now c.loop-i.i c.index-levels-i.result c.level_sum-sum.result c.loop-i-test.true
+    c.index-levels-i.is (c.level_sum-sum.ensures ∙ ap f c.as_slice.ensures.value) in
     let limit : c.widened-limit.result ≡ get_or c.args.cost.now c.loop-i.i (pos 0) = c.widened-limit.ensures.value ∙ to_z-of_z w64 (get_or c.args.cost.now c.loop-i.i (pos 0)) (search rules) in
     let a = to_z-of_z w128 c.level_sum-sum.result (search rules) in
     let b = to_z-of_z w128 c.widened-limit.result (search rules) in
@@ -36,7 +40,9 @@ loop-i-preserved c =
     let f : List ℤ → ℤ = level_sum c.args.values.now c.args.vars in
     let lt : c.loop-i.i < length (map f c.args.levels.now) = omega (arith, length-map c.args.levels.now f, c.loop-i-test.true) in
     let lt' : c.loop-i.i < length c.args.cost.now = omega (arith, c.loop-i-test.true, c.requires.levels) in
-    let sum = sum_at c.args.values.now c.args.vars c.args.levels.now c.loop-i.i c.index-levels-i.result c.level_sum-sum.result c.loop-i-test.true c.index-levels-i.is (c.level_sum-sum.ensures ∙ ap f c.as_slice.ensures.value) in
+    let sum =
+    sum_at c.args.values.now c.args.vars c.args.levels.now c.loop-i.i c.index-levels-i.result c.level_sum-sum.result c.loop-i-test.true
+    c.index-levels-i.is (c.level_sum-sum.ensures ∙ ap f c.as_slice.ensures.value) in
     let limit : c.widened-limit.result ≡ get_or c.args.cost.now c.loop-i.i (pos 0) = c.widened-limit.ensures.value ∙ to_z-of_z w64 (get_or c.args.cost.now c.loop-i.i (pos 0)) (search rules) in
     let a = to_z-of_z w128 c.level_sum-sum.result (search rules) in
     let b = to_z-of_z w128 c.widened-limit.result (search rules) in

@@ -12,7 +12,8 @@ use Rattle.asp_checker.proofs.bounds.reaches_bound.Goals as goal
 pub reaches-requires-clause-weights : goal.reaches-requires-clause-weights
 reaches-requires-clause-weights c =
     let h = rw c.in-Some.is at c.requires.levels in
-    let all : AllByRecursion (λ (w : List ℤ). length w ≡ 2 * var_count c.args.compiled.now + 2) c.in-Some.b.levels = levels-long c.args.compiled.now (priorities c.args.compiled.now.minimize) c.in-Some.b.levels h.0 in
+    let all : AllByRecursion (λ (w : List ℤ). length w ≡ 2 * var_count c.args.compiled.now + 2) c.in-Some.b.levels =
+    levels-long c.args.compiled.now (priorities c.args.compiled.now.minimize) c.in-Some.b.levels h.0 in
     subst (λ (n : ℕ). AllByRecursion (λ (w : List ℤ). length w ≡ 2 * n + 2) c.as_slice.result.now) (sym c.vars.ensures.count)
     (subst (λ (ls : List (List ℤ)). AllByRecursion (λ (w : List ℤ). length w ≡ 2 * var_count c.args.compiled.now + 2) ls) (sym c.as_slice.ensures.value) all)
 

@@ -14,6 +14,12 @@ returns c = λ rows.
     let now : c.set.new.self ≡ set c.args.values.now c.args.lit.var (Some c.args.lit.truth) =
     c.set.ensures ∙ ap (λ (z : List (Option Bool)). set z c.args.lit.var (Some c.args.lit.truth)) c.would_be_blocked_by-blocked.ensures.same in
     let found = found_implied c.args.compiled.now (known_by rows c.args.bound.now) c.args.values.now c.set.new.self c.args.lit c.program-program.ensures.sound c.requires.size
-    (record { var = c.requires.positive; of = c.requires.of; no_value = c.requires.no_value; blocked = rw c.complement.ensures at (c.would_be_blocked_by-blocked.ensures.blocked c.if-not-blocked.false) })
+    (record {
+      var = c.requires.positive;
+      of = c.requires.of;
+      no_value = c.requires.no_value;
+      blocked =
+          rw c.complement.ensures at (c.would_be_blocked_by-blocked.ensures.blocked c.if-not-blocked.false);
+    })
     now in
     (found.0, now)

@@ -24,4 +24,6 @@ set_implied-requires-clause-within c = λ l is.
 
 pub returns : goal.returns
 returns c = λ k known.
-    c.set_implied.ensures k c.index-rows-place.result (row_of (IsNogoodOf c.args.compiled.now k) c.args.rows.now c.args.place c.index-rows-place.result (omega arith) c.index-rows-place.is known) (rw c.as_slice.ensures.value at c.look_at.ensures)
+    c.set_implied.ensures k c.index-rows-place.result
+    (row_of (IsNogoodOf c.args.compiled.now k) c.args.rows.now c.args.place c.index-rows-place.result (omega arith) c.index-rows-place.is known)
+    (rw c.as_slice.ensures.value at c.look_at.ensures)

@@ -18,4 +18,6 @@ returns c = λ k known.
     let p = c.args.compiled.now in
     let S = c.index-listed-place.result in
     let count = answer_count p c.args.listed.now in
-    c.set_implied.ensures k (nogood_of_answer p S) (row_of (IsNogoodOf p k) (map (nogood_of_answer p) c.args.listed.now) c.args.place (nogood_of_answer p S) (omega (arith, count)) (answer_at p c.args.listed.now c.args.place S (omega arith) c.index-listed-place.is) known) c.look_at_answer.ensures
+    c.set_implied.ensures k (nogood_of_answer p S)
+    (row_of (IsNogoodOf p k) (map (nogood_of_answer p) c.args.listed.now) c.args.place (nogood_of_answer p S) (omega (arith, count))
+    (answer_at p c.args.listed.now c.args.place S (omega arith) c.index-listed-place.is) known) c.look_at_answer.ensures

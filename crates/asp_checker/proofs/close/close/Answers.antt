@@ -12,13 +12,18 @@ pub step-requires-clause-size : goal.step-requires-clause-size
 step-requires-clause-size c = c.steps.invariant.size ∙ c.requires.size
 
 pub steps-preserved : goal.steps-preserved
-steps-preserved c = extends_then c.args.compiled.now (all_of (stock (known_with c.args.compiled.now c.args.listed.now c.args.rows.now c.args.bound.now) c.args.placed.now)) c.args.values.now c.steps.values c.step.new.values c.steps.invariant c.in-Implied.ensures.0
+steps-preserved c =
+    extends_then c.args.compiled.now (all_of
+    (stock (known_with c.args.compiled.now c.args.listed.now c.args.rows.now c.args.bound.now) c.args.placed.now)) c.args.values.now
+    c.steps.values c.step.new.values c.steps.invariant c.in-Implied.ensures.0
 
 pub steps-smaller : goal.steps-smaller
 steps-smaller c = c.in-Implied.ensures.1
 
 pub returns-in-Conflict-clause-conflict : goal.returns-in-Conflict-clause-conflict
-returns-in-Conflict-clause-conflict c = λ e. refuted_before c.args.compiled.now (all_of (stock (known_with c.args.compiled.now c.args.listed.now c.args.rows.now c.args.bound.now) c.args.placed.now)) c.args.values.now c.steps.values c.steps.invariant c.in-Conflict.ensures
+returns-in-Conflict-clause-conflict c = λ e. refuted_before c.args.compiled.now
+    (all_of (stock (known_with c.args.compiled.now c.args.listed.now c.args.rows.now c.args.bound.now) c.args.placed.now)) c.args.values.now
+    c.steps.values c.steps.invariant c.in-Conflict.ensures
 
 pub returns-in-Fixpoint-clause-extends : goal.returns-in-Fixpoint-clause-extends
 returns-in-Fixpoint-clause-extends c = λ e.

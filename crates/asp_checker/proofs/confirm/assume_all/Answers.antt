@@ -21,7 +21,8 @@ returns-then-not-assumed-clause-assumed c =
 
 pub returns-then-not-assumed-clause-trailed : goal.returns-then-not-assumed-clause-trailed
 returns-then-not-assumed-clause-trailed c =
-    trailed_then c.args.values.now c.loop-lit.values c.assume.new.values c.args.trail.now.items c.loop-lit.trail.items c.assume.new.trail.items c.loop-lit.invariant.trailed c.in_ok-assumed.ensures.trailed
+    trailed_then c.args.values.now c.loop-lit.values c.assume.new.values c.args.trail.now.items c.loop-lit.trail.items c.assume.new.trail.items
+    c.loop-lit.invariant.trailed c.in_ok-assumed.ensures.trailed
 
 pub loop-lit-preserved : goal.loop-lit-preserved
 loop-lit-preserved c =
@@ -29,9 +30,12 @@ loop-lit-preserved c =
     let var = ap (λ (l : Literal). l.var) c.lit-item.is in
     let inside : c.lit-item.result.var < length c.loop-lit.values = omega (arith, range, var, c.loop-lit.invariant.held.size) in
     record {
-      held = held_next c.args.values.now c.loop-lit.values c.assume.new.values c.args.lits.now c.loop-lit.lit-index c.lit-item.result c.loop-lit-test.true c.lit-item.is inside c.loop-lit.invariant.held
+      held = held_next c.args.values.now c.loop-lit.values c.assume.new.values c.args.lits.now c.loop-lit.lit-index c.lit-item.result
+          c.loop-lit-test.true c.lit-item.is inside c.loop-lit.invariant.held
           (subst (IsAssumed c.loop-lit.values c.assume.new.values c.lit-item.result) c.if-not-assumed.false c.in_ok-assumed.ensures.assumed);
-      trailed = trailed_then c.args.values.now c.loop-lit.values c.assume.new.values c.args.trail.now.items c.loop-lit.trail.items c.assume.new.trail.items c.loop-lit.invariant.trailed c.in_ok-assumed.ensures.trailed;
+      trailed =
+          trailed_then c.args.values.now c.loop-lit.values c.assume.new.values c.args.trail.now.items c.loop-lit.trail.items c.assume.new.trail.items
+          c.loop-lit.invariant.trailed c.in_ok-assumed.ensures.trailed;
     }
 
 pub returns-clause-assumed : goal.returns-clause-assumed

@@ -11,7 +11,9 @@ pub returns-then-count-eq0-clause-cost : goal.returns-then-count-eq0-clause-cost
 returns-then-count-eq0-clause-cost c = no_bound c.args.compiled.now c.args.opt c.args.listed.now c.if-count-eq0.true
 
 pub returns-clause-cost : goal.returns-clause-cost
-returns-clause-cost c = first_bound c.args.compiled.now c.args.opt c.args.listed.now c.index-listed-0.result c.in_ok-bound.bound.cost c.if-not-opt.false (omega (arith, c.if-count-eq0.false)) c.index-listed-0.is c.in_ok-bound.ensures.cost
+returns-clause-cost c =
+    first_bound c.args.compiled.now c.args.opt c.args.listed.now c.index-listed-0.result c.in_ok-bound.bound.cost c.if-not-opt.false
+    (omega (arith, c.if-count-eq0.false)) c.index-listed-0.is c.in_ok-bound.ensures.cost
 
 pub returns-clause-levels : goal.returns-clause-levels
 returns-clause-levels c = c.in_ok-bound.ensures.levels

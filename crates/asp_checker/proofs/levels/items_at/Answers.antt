@@ -8,7 +8,8 @@ use Rattle.asp_checker.proofs.levels.items_at.Goals as goal
 
 pub loop-statement-preserved : goal.loop-statement-preserved
 loop-statement-preserved c =
-    items_at-step c.args.statements.now c.loop-statement.statement-index c.statement-item.result _ c.loop-statement.items.items c.add_items.new.items.items (omega arith) c.statement-item.is c.loop-statement.invariant c.in_ok-add_items.ensures
+    items_at-step c.args.statements.now c.loop-statement.statement-index c.statement-item.result _ c.loop-statement.items.items
+    c.add_items.new.items.items (omega arith) c.statement-item.is c.loop-statement.invariant c.in_ok-add_items.ensures
 
 pub returns : goal.returns
 returns c =

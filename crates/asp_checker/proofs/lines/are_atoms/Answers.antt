@@ -13,7 +13,9 @@ loop-atom-preserved c =
     let own = c.as_slice-own.result.now in
     let i = c.loop-atom.atom-index in
     record {
-      stand = list_all_more (has atoms) own i 0 c.loop-atom-test.true ∙ and_from (list_all (has atoms) (take i own)) (has atoms (get_or own i 0)) c.loop-atom.invariant.stand (sym c.stands_at.ensures.has ∙ c.if-not-stands_at.false);
+      stand = list_all_more (has atoms) own i 0 c.loop-atom-test.true
+          ∙ and_from (list_all (has atoms) (take i own)) (has atoms (get_or own i 0)) c.loop-atom.invariant.stand
+          (sym c.stands_at.ensures.has ∙ c.if-not-stands_at.false);
       within = c.skip-place.ensures.within;
       below = λ more. next_below own atoms i c.skip-place.result c.as_slice-own.ensures.ascending more c.skip-place.ensures.before;
     }

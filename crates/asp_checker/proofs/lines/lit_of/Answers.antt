@@ -19,4 +19,7 @@ pub returns : goal.returns
 returns c =
     let plain = to_z-of_z w32 c.args.literal.now (search rules) in
     let size = rw plain at c.unsigned_abs-var.ensures.value in
-    rw (c.new.ensures, plain) (signed_is c.args.literal.now c.unsigned_abs-var.result _ size (omega (arith, c.if-var-eq0.false)) refl, (omega (arith, c.if-var-eq0.false), omega (arith, c.if-var-vars.false, c.vars.ensures.count)))
+    rw (c.new.ensures, plain) (
+      signed_is c.args.literal.now c.unsigned_abs-var.result _ size (omega (arith, c.if-var-eq0.false)) refl,
+      (omega (arith, c.if-var-eq0.false), omega (arith, c.if-var-vars.false, c.vars.ensures.count)),
+    )

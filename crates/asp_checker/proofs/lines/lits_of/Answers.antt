@@ -12,7 +12,9 @@ returns-in_default c = λ h. c.in_default.ensures (are_at c.args.compiled.now c.
 
 pub loop-literal-preserved : goal.loop-literal-preserved
 loop-literal-preserved c = record {
-  so_far = literals_more c.args.literals.now c.loop-literal.literal-index c.loop-literal.lits.items c.push.new.self.items c.in-Some.lit c.loop-literal-test.true c.loop-literal.invariant.so_far c.in_ok-push.ensures.items (c.in-Some.ensures).0;
+  so_far =
+      literals_more c.args.literals.now c.loop-literal.literal-index c.loop-literal.lits.items c.push.new.self.items c.in-Some.lit
+      c.loop-literal-test.true c.loop-literal.invariant.so_far c.in_ok-push.ensures.items (c.in-Some.ensures).0;
   are = rw c.in_ok-push.ensures.items (each-append (IsOf c.args.compiled.now) c.loop-literal.lits.items (c.in-Some.lit ∷ []) c.loop-literal.invariant.are ((c.in-Some.ensures).1, tt));
 }
 

@@ -19,7 +19,8 @@ returns-then-not-is_answered_rule c =
 pub loop-rule-preserved : goal.loop-rule-preserved
 loop-rule-preserved c =
     let lt : c.loop-rule.rule < length (rules_in_force c.args.compiled.now) = omega (arith, c.loop-rule-test.true, c.rule_count-rule-end.ensures) in
-    all_more (is_answered_rule c.args.compiled.now c.args.set.now c.args.nogood.now) (rules_in_force c.args.compiled.now) c.loop-rule.rule no_rule lt c.loop-rule.invariant (sym c.if-not-is_answered_rule.ensures)
+    all_more (is_answered_rule c.args.compiled.now c.args.set.now c.args.nogood.now) (rules_in_force c.args.compiled.now) c.loop-rule.rule no_rule lt
+    c.loop-rule.invariant (sym c.if-not-is_answered_rule.ensures)
 
 pub returns : goal.returns
 returns c =

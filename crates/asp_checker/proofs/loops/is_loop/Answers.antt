@@ -27,12 +27,15 @@ are_answered-answered-requires c =
 pub returns-then-not-headed-clause-no : goal.returns-then-not-headed-clause-no
 returns-then-not-headed-clause-no c = λ e.
     let p : Program = c.args.compiled.now in
-    loop_headless p c.args.set.now c.args.nogood.now (ap (λ (U : List ℕ). list_any (has_head p c.args.nogood.now) U) (sym c.as_slice-atoms.ensures.value) ∙ sym c.has_head-headed.ensures ∙ c.if-not-headed.true)
+    loop_headless p c.args.set.now c.args.nogood.now (ap (λ (U : List ℕ). list_any (has_head p c.args.nogood.now) U)
+    (sym c.as_slice-atoms.ensures.value) ∙ sym c.has_head-headed.ensures ∙ c.if-not-headed.true)
 
 pub returns-clause-yes : goal.returns-clause-yes
 returns-clause-yes c = λ e.
     let p : Program = c.args.compiled.now in
-    loop_yes p c.args.set.now c.args.nogood.now c.requires (ap (λ (U : List ℕ). list_any (has_head p c.args.nogood.now) U) (sym c.as_slice-atoms.ensures.value) ∙ sym c.has_head-headed.ensures ∙ c.if-not-headed.false) (sym c.are_answered-answered.ensures ∙ e)
+    loop_yes p c.args.set.now c.args.nogood.now c.requires
+    (ap (λ (U : List ℕ). list_any (has_head p c.args.nogood.now) U) (sym c.as_slice-atoms.ensures.value) ∙ sym c.has_head-headed.ensures
+    ∙ c.if-not-headed.false) (sym c.are_answered-answered.ensures ∙ e)
 
 pub returns-clause-no : goal.returns-clause-no
 returns-clause-no c = λ e. loop_unanswered c.args.compiled.now c.args.set.now c.args.nogood.now (sym c.are_answered-answered.ensures ∙ e)

@@ -13,7 +13,9 @@ pub loop-lit-preserved : goal.loop-lit-preserved
 loop-lit-preserved c = record {
   size = c.take_back.ensures.size ∙ c.loop-lit.invariant.size;
   within = within-then c.take_back.new.values c.loop-lit.values c.args.values.now c.take_back.ensures.within c.loop-lit.invariant.within;
-  none = taken_next c.loop-lit.values c.take_back.new.values c.args.trail.now c.loop-lit.lit-index c.lit-item.result c.loop-lit-test.true c.lit-item.is c.take_back.ensures.within c.loop-lit.invariant.none (ap (value_of c.take_back.new.values) (sym c.var.ensures) ∙ c.take_back.ensures.none);
+  none = taken_next c.loop-lit.values c.take_back.new.values c.args.trail.now c.loop-lit.lit-index c.lit-item.result c.loop-lit-test.true
+      c.lit-item.is c.take_back.ensures.within c.loop-lit.invariant.none
+      (ap (value_of c.take_back.new.values) (sym c.var.ensures) ∙ c.take_back.ensures.none);
 }
 
 pub returns-clause-none : goal.returns-clause-none

@@ -16,7 +16,8 @@ returns-in_err-found-clause-says g c =
 
 pub returns-in-Some-clause-says : goal.returns-in-Some-clause-says
 returns-in-Some-clause-says g c =
-    text_judged_behind (g.S.Source.left c.program_text.new.source) (g.S.Source.left c.args.source.now) c.program_text.new.reader c.in-Some.program.items c.args.format c.judge_behind.result (rw c.in-Some.is at c.in_ok-found.ensures.finds) c.judge_behind.ensures.says
+    text_judged_behind (g.S.Source.left c.program_text.new.source) (g.S.Source.left c.args.source.now) c.program_text.new.reader
+    c.in-Some.program.items c.args.format c.judge_behind.result (rw c.in-Some.is at c.in_ok-found.ensures.finds) c.judge_behind.ensures.says
 
 pub returns-clause-says : goal.returns-clause-says
 returns-clause-says g c = comes_so (g.S.Source.left c.args.source.now) [] _ _ (λ text h. h c.args.format) (rw c.in-None.is at c.in_ok-found.ensures.finds)

@@ -11,7 +11,8 @@ pub judge-judged-requires-clause-sound : goal.judge-judged-requires-clause-sound
 judge-judged-requires-clause-sound g c = subst IsSound (sym c.in_ok-compiled.ensures) c.requires.sound
 
 pub returns-clause-says : goal.returns-clause-says
-returns-clause-says g c = subst (λ (p : Program). Comes (g.S.Source.left c.args.source.now) (held c.args.reader.now) (λ text. Judges p text c.judge-judged.result)) c.in_ok-compiled.ensures c.judge-judged.ensures.says
+returns-clause-says g c = subst (λ (p : Program). Comes (g.S.Source.left c.args.source.now) (held c.args.reader.now)
+    (λ text. Judges p text c.judge-judged.result)) c.in_ok-compiled.ensures c.judge-judged.ensures.says
 
 pub returns-in_err-compiled-clause-says : goal.returns-in_err-compiled-clause-says
 returns-in_err-compiled-clause-says g c =

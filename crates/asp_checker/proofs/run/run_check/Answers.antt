@@ -7,7 +7,10 @@ use Rattle.asp_checker.proofs.run.run_check.Goals as goal
 
 pub returns-in-Ok-clause-says : goal.returns-in-Ok-clause-says
 returns-in-Ok-clause-says g c =
-    run_says c.args.format _ _ _ c.write_judgement.result (comes_so (g.S.Source.left c.args.source.now) [] _ _ (λ text h. text_judged c.args.format text _ _ c.in-Ok.judgement c.write_judgement.result h c.write_judgement.ensures.says) c.in-Ok.ensures.says)
+    run_says c.args.format _ _ _ c.write_judgement.result
+    (comes_so (g.S.Source.left c.args.source.now) [] _ _
+    (λ text h. text_judged c.args.format text _ _ c.in-Ok.judgement c.write_judgement.result h c.write_judgement.ensures.says)
+    c.in-Ok.ensures.says)
 
 pub returns-in-Ok-clause-read : goal.returns-in-Ok-clause-read
 returns-in-Ok-clause-read g c = λ e. absurd (never_read _ _ c.in-Ok.judgement c.write_judgement.result c.write_judgement.ensures.says e)
@@ -17,7 +20,9 @@ returns-in-Ok-clause-read_quiet g c = λ never. c.in-Ok.ensures.quiet (ok_no_fau
 
 pub returns-in-Err-clause-says : goal.returns-in-Err-clause-says
 returns-in-Err-clause-says g c =
-    rw c.status_of.ensures (run_says c.args.format _ _ _ (status_of c.in-Err.error) (comes_so (g.S.Source.left c.args.source.now) [] _ _ (λ text h. text_refused c.args.format text _ c.in-Err.error h) c.in-Err.ensures.says))
+    rw c.status_of.ensures (run_says c.args.format _ _ _ (status_of c.in-Err.error)
+    (comes_so (g.S.Source.left c.args.source.now) [] _ _ (λ text h. text_refused c.args.format text _ c.in-Err.error h)
+    c.in-Err.ensures.says))
 
 pub returns-in-Err-clause-sent : goal.returns-in-Err-clause-sent
 returns-in-Err-clause-sent g c = rw c.status_of.ensures (status_sent _ c.in-Err.error)

@@ -6,13 +6,19 @@ pub returns-then-not-whole-clause-says : goal.returns-then-not-whole-clause-says
 returns-then-not-whole-clause-says g c = λ p q h. last_open p q c.args.number c.args.whole (g.S.Source.left c.args.source.now) c.args.reader.now c.requires.last h c.if-not-whole.true
 
 pub returns-then-more-clause-says : goal.returns-then-more-clause-says
-returns-then-more-clause-says g c = λ p q h. rw c.refused.ensures (last_more p q c.args.number c.args.whole (g.S.Source.left c.args.source.now) (g.S.Source.left c.has_more.new.source) c.args.reader.now c.has_more.new.self c.requires.last h c.if-not-whole.false (rw c.if-more.true at c.in-Ok.ensures.more))
+returns-then-more-clause-says g c = λ p q h. rw c.refused.ensures
+    (last_more p q c.args.number c.args.whole (g.S.Source.left c.args.source.now) (g.S.Source.left c.has_more.new.source) c.args.reader.now
+    c.has_more.new.self c.requires.last h c.if-not-whole.false (rw c.if-more.true at c.in-Ok.ensures.more))
 
 pub returns-else-more-clause-says : goal.returns-else-more-clause-says
-returns-else-more-clause-says g c = λ p q h. last_end p q c.args.number c.args.whole (g.S.Source.left c.args.source.now) (g.S.Source.left c.has_more.new.source) c.args.reader.now c.has_more.new.self c.requires.last h c.if-not-whole.false (rw c.if-more.false at c.in-Ok.ensures.more)
+returns-else-more-clause-says g c = λ p q h. last_end p q c.args.number c.args.whole (g.S.Source.left c.args.source.now)
+    (g.S.Source.left c.has_more.new.source) c.args.reader.now c.has_more.new.self c.requires.last h c.if-not-whole.false
+    (rw c.if-more.false at c.in-Ok.ensures.more)
 
 pub returns-in-Err-clause-says : goal.returns-in-Err-clause-says
-returns-in-Err-clause-says g c = λ p q h. rw c.proof_error.ensures (last_failed p (g.S.Source.left c.args.source.now) (g.S.Source.left c.has_more.new.source) _ c.args.reader.now c.has_more.new.self c.in-Err.error c.in-Err.ensures.more)
+returns-in-Err-clause-says g c = λ p q h. rw c.proof_error.ensures
+    (last_failed p (g.S.Source.left c.args.source.now) (g.S.Source.left c.has_more.new.source) _ c.args.reader.now c.has_more.new.self c.in-Err.error
+    c.in-Err.ensures.more)
 
 pub returns-in-Err-clause-cause : goal.returns-in-Err-clause-cause
 returns-in-Err-clause-cause g c = rw c.proof_error.ensures (λ is. c.in-Err.ensures.cause (ap Err (fault_is c.in-Err.error is)))

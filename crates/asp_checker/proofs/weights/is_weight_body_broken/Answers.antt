@@ -31,7 +31,10 @@ returns-in-Some-true c =
     ∙ ap (λ (ls : List Literal). int_le c.args.bound (weigh q ls c.weights-weights.result.now)) c.literals-lits.ensures.literals
     ∙ ap (λ (ws : List ℤ). int_le c.args.bound (weigh q (form_literals p b) ws)) c.weights-weights.ensures in
     let value : value_of c.args.values.now (var_of_form p b) ≡ Some true =
-    ap (value_of c.args.values.now) (sym (c.var.ensures ∙ ap (λ (l : Literal). l.var) (c.body_lit.ensures.lit ∙ literal_by-weighed (atoms_of p) (var_of_form p b) b c.args.bound c.requires.weighted))) ∙ sym c.in-Some-true.ensures ∙ ap (λ (t : Bool). let o : Option Bool = Some t in o) c.in-Some-true.field-0-test in
+    ap (value_of c.args.values.now) (sym (c.var.ensures
+    ∙ ap (λ (l : Literal). l.var)
+    (c.body_lit.ensures.lit ∙ literal_by-weighed (atoms_of p) (var_of_form p b) b c.args.bound c.requires.weighted)))
+    ∙ sym c.in-Some-true.ensures ∙ ap (λ (t : Bool). let o : Option Bool = Some t in o) c.in-Some-true.field-0-test in
     ap not sums ∙ sym (broken_by p c.args.values.now b c.args.bound (Some true) c.requires.weighted value)
 
 pub returns-in-Some-false : goal.returns-in-Some-false
@@ -45,5 +48,8 @@ returns-in-Some-false c =
     ∙ ap (λ (ls : List Literal). int_le c.args.bound (weigh q ls c.weights-weights.result.now)) c.literals-lits.ensures.literals
     ∙ ap (λ (ws : List ℤ). int_le c.args.bound (weigh q (form_literals p b) ws)) c.weights-weights.ensures in
     let value : value_of c.args.values.now (var_of_form p b) ≡ Some false =
-    ap (value_of c.args.values.now) (sym (c.var.ensures ∙ ap (λ (l : Literal). l.var) (c.body_lit.ensures.lit ∙ literal_by-weighed (atoms_of p) (var_of_form p b) b c.args.bound c.requires.weighted))) ∙ sym c.in-Some-false.ensures ∙ ap (λ (t : Bool). let o : Option Bool = Some t in o) c.in-Some-false.field-0-test in
+    ap (value_of c.args.values.now) (sym (c.var.ensures
+    ∙ ap (λ (l : Literal). l.var)
+    (c.body_lit.ensures.lit ∙ literal_by-weighed (atoms_of p) (var_of_form p b) b c.args.bound c.requires.weighted)))
+    ∙ sym c.in-Some-false.ensures ∙ ap (λ (t : Bool). let o : Option Bool = Some t in o) c.in-Some-false.field-0-test in
     sums ∙ sym (broken_by p c.args.values.now b c.args.bound (Some false) c.requires.weighted value)

@@ -13,7 +13,9 @@ pub returns-in_default : goal.returns-in_default
 returns-in_default c = no_field IsCount natural_field c.args.line.now c.loop.rest.now c.loop.counter c.args.count c.loop.found.items clear_count c.loop.invariant c.loop-test.true c.in_default.ensures
 
 pub loop-preserved : goal.loop-preserved
-loop-preserved c = rw c.in_ok-push.ensures.items (more_fields IsCount natural_field c.args.line.now c.loop.rest.now c.in-Some.after.now c.loop.counter c.loop.found.items c.in-Some.place c.loop.invariant c.in-Some.ensures)
+loop-preserved c = rw c.in_ok-push.ensures.items
+    (more_fields IsCount natural_field c.args.line.now c.loop.rest.now c.in-Some.after.now c.loop.counter c.loop.found.items c.in-Some.place
+    c.loop.invariant c.in-Some.ensures)
 
 pub returns : goal.returns
 returns c = let e : c.loop.counter ≡ c.args.count = omega arith in subst (λ k. IsAt (AreSo IsCount k) (flat_map natural_field) c.args.line.now c.loop.found.items c.loop.rest.now) e c.loop.invariant

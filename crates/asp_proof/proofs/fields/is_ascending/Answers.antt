@@ -8,10 +8,12 @@ pub loop-a-init : goal.loop-a-init
 loop-a-init c = ahead_at_first c.args.atoms.now c.requires
 
 pub loop-a-preserved : goal.loop-a-preserved
-loop-a-preserved c = ahead_more c.args.atoms.now c.loop-a.last _ (drop (c.loop-a.a-index + 1) c.args.atoms.now) (omega arith) (subst (IsAhead c.args.atoms.now c.loop-a.last) (drop_turn_or c.args.atoms.now c.loop-a.a-index 0 (omega arith)) c.loop-a.invariant)
+loop-a-preserved c = ahead_more c.args.atoms.now c.loop-a.last _ (drop (c.loop-a.a-index + 1) c.args.atoms.now) (omega arith)
+    (subst (IsAhead c.args.atoms.now c.loop-a.last) (drop_turn_or c.args.atoms.now c.loop-a.a-index 0 (omega arith)) c.loop-a.invariant)
 
 pub returns-then-a-last : goal.returns-then-a-last
-returns-then-a-last c = ahead_stops c.args.atoms.now c.loop-a.last _ (drop (c.loop-a.a-index + 1) c.args.atoms.now) (omega arith) (subst (IsAhead c.args.atoms.now c.loop-a.last) (drop_turn_or c.args.atoms.now c.loop-a.a-index 0 (omega arith)) c.loop-a.invariant)
+returns-then-a-last c = ahead_stops c.args.atoms.now c.loop-a.last _ (drop (c.loop-a.a-index + 1) c.args.atoms.now) (omega arith)
+    (subst (IsAhead c.args.atoms.now c.loop-a.last) (drop_turn_or c.args.atoms.now c.loop-a.a-index 0 (omega arith)) c.loop-a.invariant)
 
 pub returns : goal.returns
 returns c = c.loop-a.invariant.to (rw (drop_all c.loop-a.a-index c.args.atoms.now c.loop-a-test.false) (tt, tt))

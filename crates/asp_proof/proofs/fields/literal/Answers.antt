@@ -9,12 +9,14 @@ returns-in_default c = no_literal c.args.line.now c.in_default.ensures
 pub returns-then-variable-eq0 : goal.returns-then-variable-eq0
 returns-then-variable-eq0 c =
     let plain = to_z-of_z w64 c.in-Some.n (search rules) in
-    other_literal c.args.line.now c.in-Some.n c.unsigned_abs-variable.result c.in-Some.rest.now c.in-Some.ensures (rw plain at c.unsigned_abs-variable.ensures.value) (λ h. omega (arith, h.0, c.if-variable-eq0.true))
+    other_literal c.args.line.now c.in-Some.n c.unsigned_abs-variable.result c.in-Some.rest.now c.in-Some.ensures
+    (rw plain at c.unsigned_abs-variable.ensures.value) (λ h. omega (arith, h.0, c.if-variable-eq0.true))
 
 pub returns-then-variable : goal.returns-then-variable
 returns-then-variable c =
     let plain = to_z-of_z w64 c.in-Some.n (search rules) in
-    other_literal c.args.line.now c.in-Some.n c.unsigned_abs-variable.result c.in-Some.rest.now c.in-Some.ensures (rw plain at c.unsigned_abs-variable.ensures.value) (λ h. omega (arith, h.1, c.if-variable.true))
+    other_literal c.args.line.now c.in-Some.n c.unsigned_abs-variable.result c.in-Some.rest.now c.in-Some.ensures
+    (rw plain at c.unsigned_abs-variable.ensures.value) (λ h. omega (arith, h.1, c.if-variable.true))
 
 pub overflow_cast-result : goal.overflow_cast-result
 overflow_cast-result c =
@@ -25,4 +27,6 @@ pub returns : goal.returns
 returns c =
     let plain = to_z-of_z w64 c.in-Some.n (search rules) in
     let size = rw plain at c.unsigned_abs-variable.ensures.value in
-    rw (plain, to_z-of_z w32 c.in-Some.n (fits_32 c.in-Some.n c.unsigned_abs-variable.result size c.if-variable.false)) (literal_at c.args.line.now c.in-Some.n c.unsigned_abs-variable.result c.in-Some.rest.now c.in-Some.ensures size (omega (arith, c.if-variable-eq0.false), c.if-variable.false))
+    rw (plain, to_z-of_z w32 c.in-Some.n (fits_32 c.in-Some.n c.unsigned_abs-variable.result size c.if-variable.false))
+    (literal_at c.args.line.now c.in-Some.n c.unsigned_abs-variable.result c.in-Some.rest.now c.in-Some.ensures size
+    (omega (arith, c.if-variable-eq0.false), c.if-variable.false))

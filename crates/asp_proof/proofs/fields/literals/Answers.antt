@@ -10,4 +10,5 @@ pub each_literal-requires : goal.each_literal-requires
 each_literal-requires c = c.in-Some.ensures.stops
 
 pub returns : goal.returns
-returns c = counted_from (λ x. x.0.items) (λ x. x.1.now) c.each_literal.result IsLiteral integer_field c.args.line.now c.in-Some.rest.now c.in-Some.count clear_literal c.in-Some.ensures c.each_literal.ensures
+returns c = counted_from (λ x. x.0.items) (λ x. x.1.now) c.each_literal.result IsLiteral integer_field c.args.line.now c.in-Some.rest.now
+    c.in-Some.count clear_literal c.in-Some.ensures c.each_literal.ensures

@@ -6,17 +6,27 @@ use Rattle.asp_proof.proofs.LineLaws.{none_whole, none_alone, whole_at, is_nil, 
 use Rattle.asp_proof.proofs.lines.learned_line.Goals as goal
 
 pub returns-in_default : goal.returns-in_default
-returns-in_default c = none_whole IsLearned learned_fields c.args.line.now (no_first IsCount (Both IsNogood ArePlaces) natural_field (two_fields literals_fields (counted_fields natural_field)) c.args.line.now clear_nogood_and_places c.in_default.ensures)
+returns-in_default c = none_whole IsLearned learned_fields c.args.line.now
+    (no_first IsCount (Both IsNogood ArePlaces) natural_field (two_fields literals_fields (counted_fields natural_field)) c.args.line.now
+    clear_nogood_and_places c.in_default.ensures)
 
 pub returns-in_default-2 : goal.returns-in_default-2
 returns-in_default-2 c = none_whole IsLearned learned_fields c.args.line.now
-    (no_second IsCount (Both IsNogood ArePlaces) natural_field (two_fields literals_fields (counted_fields natural_field)) c.args.line.now c.in-Some.place c.in-Some.rest.now clear_count clear_nogood_and_places c.in-Some.ensures (rw c.in_default-2.is at c.in_ok-nogood.ensures))
+    (no_second IsCount (Both IsNogood ArePlaces) natural_field (two_fields literals_fields (counted_fields natural_field)) c.args.line.now
+    c.in-Some.place c.in-Some.rest.now clear_count clear_nogood_and_places c.in-Some.ensures (rw c.in_default-2.is at c.in_ok-nogood.ensures))
 
 pub returns-then-not-is_empty : goal.returns-then-not-is_empty
-returns-then-not-is_empty c = none_alone IsLearned learned_fields c.args.line.now (c.in-Some.place, (c.in-Some-2.nogood.items, c.in-Some-2.names.items)) c.in-Some-2.rest.now clear_learned (not_nil c.is_empty.result c.in-Some-2.rest.now c.is_empty.ensures c.if-not-is_empty.true)
-    (both_at IsCount (Both IsNogood ArePlaces) natural_field (two_fields literals_fields (counted_fields natural_field)) c.args.line.now c.in-Some.place (c.in-Some-2.nogood.items, c.in-Some-2.names.items) c.in-Some.rest.now c.in-Some-2.rest.now c.in-Some.ensures (rw c.in-Some-2.is at c.in_ok-nogood.ensures))
+returns-then-not-is_empty c =
+    none_alone IsLearned learned_fields c.args.line.now (c.in-Some.place, (c.in-Some-2.nogood.items, c.in-Some-2.names.items)) c.in-Some-2.rest.now
+    clear_learned (not_nil c.is_empty.result c.in-Some-2.rest.now c.is_empty.ensures c.if-not-is_empty.true)
+    (both_at IsCount (Both IsNogood ArePlaces) natural_field (two_fields literals_fields (counted_fields natural_field)) c.args.line.now
+    c.in-Some.place (c.in-Some-2.nogood.items, c.in-Some-2.names.items) c.in-Some.rest.now c.in-Some-2.rest.now c.in-Some.ensures
+    (rw c.in-Some-2.is at c.in_ok-nogood.ensures))
 
 pub returns : goal.returns
 returns c = rw (c.from_vec.ensures, c.from_vec-2.ensures) (learned_whole c.args.line.now c.in-Some.place c.in-Some-2.nogood.items c.in-Some-2.names.items
-    (whole_at IsLearned learned_fields c.args.line.now (c.in-Some.place, (c.in-Some-2.nogood.items, c.in-Some-2.names.items)) c.in-Some-2.rest.now (is_nil c.is_empty.result c.in-Some-2.rest.now c.is_empty.ensures c.if-not-is_empty.false)
-    (both_at IsCount (Both IsNogood ArePlaces) natural_field (two_fields literals_fields (counted_fields natural_field)) c.args.line.now c.in-Some.place (c.in-Some-2.nogood.items, c.in-Some-2.names.items) c.in-Some.rest.now c.in-Some-2.rest.now c.in-Some.ensures (rw c.in-Some-2.is at c.in_ok-nogood.ensures))))
+    (whole_at IsLearned learned_fields c.args.line.now (c.in-Some.place, (c.in-Some-2.nogood.items, c.in-Some-2.names.items)) c.in-Some-2.rest.now
+    (is_nil c.is_empty.result c.in-Some-2.rest.now c.is_empty.ensures c.if-not-is_empty.false)
+    (both_at IsCount (Both IsNogood ArePlaces) natural_field (two_fields literals_fields (counted_fields natural_field)) c.args.line.now
+    c.in-Some.place (c.in-Some-2.nogood.items, c.in-Some-2.names.items) c.in-Some.rest.now c.in-Some-2.rest.now c.in-Some.ensures
+    (rw c.in-Some-2.is at c.in_ok-nogood.ensures))))

@@ -7,10 +7,12 @@ pub returns-in-Some : goal.returns-in-Some
 returns-in-Some c = line_from c.loop_line.result IsLoop loop_fields IsLine line_text 111 c.in-Some.fields.now c.args.line.now c.in-Some.ensures (no_loop_line c.in-Some.fields.now) c.loop_line.ensures
 
 pub returns-in-Some-after : goal.returns-in-Some-after
-returns-in-Some-after c = line_from c.learned_line.result IsLearned learned_fields IsLine line_text 108 c.in-Some-after.fields.now c.args.line.now c.in-Some-after.ensures (no_learned_line c.in-Some-after.fields.now) c.learned_line.ensures
+returns-in-Some-after c = line_from c.learned_line.result IsLearned learned_fields IsLine line_text 108 c.in-Some-after.fields.now c.args.line.now
+    c.in-Some-after.ensures (no_learned_line c.in-Some-after.fields.now) c.learned_line.ensures
 
 pub returns-in-Some-after-2 : goal.returns-in-Some-after-2
-returns-in-Some-after-2 c = line_from c.cube_line.result IsNogood literals_fields IsLine line_text 99 c.in-Some-after-2.fields.now c.args.line.now c.in-Some-after-2.ensures (no_cube_line c.in-Some-after-2.fields.now) c.cube_line.ensures
+returns-in-Some-after-2 c = line_from c.cube_line.result IsNogood literals_fields IsLine line_text 99 c.in-Some-after-2.fields.now c.args.line.now
+    c.in-Some-after-2.ensures (no_cube_line c.in-Some-after-2.fields.now) c.cube_line.ensures
 
 pub returns : goal.returns
 returns c = no_line c.args.line.now c.in_default.ensures c.in_default-after.ensures c.in_default-after-2.ensures

@@ -8,7 +8,11 @@ pub returns-in_default : goal.returns-in_default
 returns-in_default c = none_whole IsNogood literals_fields c.args.line.now (rw c.in_default.is at c.in_ok-literals.ensures)
 
 pub returns-then-not-is_empty : goal.returns-then-not-is_empty
-returns-then-not-is_empty c = none_alone IsNogood literals_fields c.args.line.now c.in-Some.literals.items c.in-Some.rest.now clear_nogood (not_nil c.is_empty.result c.in-Some.rest.now c.is_empty.ensures c.if-not-is_empty.true) (rw c.in-Some.is at c.in_ok-literals.ensures)
+returns-then-not-is_empty c =
+    none_alone IsNogood literals_fields c.args.line.now c.in-Some.literals.items c.in-Some.rest.now clear_nogood
+    (not_nil c.is_empty.result c.in-Some.rest.now c.is_empty.ensures c.if-not-is_empty.true) (rw c.in-Some.is at c.in_ok-literals.ensures)
 
 pub returns : goal.returns
-returns c = rw c.from_vec.ensures (whole_at IsNogood literals_fields c.args.line.now c.in-Some.literals.items c.in-Some.rest.now (is_nil c.is_empty.result c.in-Some.rest.now c.is_empty.ensures c.if-not-is_empty.false) (rw c.in-Some.is at c.in_ok-literals.ensures))
+returns c = rw c.from_vec.ensures
+    (whole_at IsNogood literals_fields c.args.line.now c.in-Some.literals.items c.in-Some.rest.now
+    (is_nil c.is_empty.result c.in-Some.rest.now c.is_empty.ensures c.if-not-is_empty.false) (rw c.in-Some.is at c.in_ok-literals.ensures))

@@ -10,7 +10,8 @@ returns-then-count-len-clause-takes c =
     let s = c.self.inside in
     let u = subst (λ (w : Window). IsUnbroken w.line) (sym c.self.view_is) c.requires in
     subst (λ (w : Window). HasLongLine (w.line ++ w.behind)) c.self.view_is
-    (piece_long s.line.items c.cut.result.0.now c.cut.result.1.now (take (s.end - s.start) (drop s.start s.piece.items)) u (rw c.deref.ensures.value at c.cut.ensures) (omega (arith, c.if-count-len.true, c.len.ensures, c.self.invariant.0)))
+    (piece_long s.line.items c.cut.result.0.now c.cut.result.1.now (take (s.end - s.start) (drop s.start s.piece.items)) u
+    (rw c.deref.ensures.value at c.cut.ensures) (omega (arith, c.if-count-len.true, c.len.ensures, c.self.invariant.0)))
 
 pub returns-clause-takes : goal.returns-clause-takes
 returns-clause-takes c =

@@ -1,0 +1,28 @@
+//! The nogoods that are known while a proof's lines are judged.
+
+use crate::bounds::Bound;
+use asp_model::interp::Interp;
+use asp_model::seq::Seq;
+use asp_vars::lit::Lit;
+
+/// The nogoods of the completion and of the lines.
+#[derive(Drop)]
+pub struct Rows {
+    /// Those that are known for good.
+    pub kept: Vec<Seq<Lit>>,
+    /// Those in places: each is known until another line takes its place.
+    pub placed: Vec<Seq<Lit>>,
+}
+
+/// All that is known before a line.
+#[derive(Clone, Copy)]
+pub struct Before<'a> {
+    /// The listed answers, where each of them is avoided.
+    pub listed: &'a [Interp],
+    /// The nogoods that are known for good.
+    pub kept: &'a [Seq<Lit>],
+    /// The nogoods in places.
+    pub placed: &'a [Seq<Lit>],
+    /// The cost that is to be bettered.
+    pub bound: &'a Option<Bound>,
+}
