@@ -132,9 +132,11 @@ found-left : (p : Program) (mode : Mode) (r : Found) → IsSound p → IsFound f
     IsFound false p mode (found_with (aside_of p) r).answers (found_with (aside_of p) r).best (found_with (aside_of p) r).known
 found-left p Enum r sound h = (ap (map (restored (aside_of p))) h.0 ∙ sym (same-answers p sound), ap (option_map (λ (b : Atoms × List ℤ). (restored (aside_of p) b.0, b.1))) h.1)
 found-left p Opt r sound h = (ap (map (restored (aside_of p))) h.0, best-left p r.best sound h.1)
-found-left p (Consequences w) r sound h =
-    (ap (map (restored (aside_of p))) h.0, ap (option_map (λ (b : Atoms × List ℤ). (restored (aside_of p) b.0, b.1))) h.1,
-            ap (option_map (restored (aside_of p))) h.2 ∙ sym (all-consequences p w sound))
+found-left p (Consequences w) r sound h = (
+  ap (map (restored (aside_of p))) h.0,
+  ap (option_map (λ (b : Atoms × List ℤ). (restored (aside_of p) b.0, b.1))) h.1,
+  ap (option_map (restored (aside_of p))) h.2 ∙ sym (all-consequences p w sound),
+)
 
 all_found-left : (p : Program) (all : Bool) (mode : Mode) (r : Found) → IsSound p → IsAllFound all false (reduced p) mode r.answers r.best r.known →
     IsAllFound all false p mode (found_with (aside_of p) r).answers (found_with (aside_of p) r).best (found_with (aside_of p) r).known
@@ -279,8 +281,8 @@ closing-with : (F : Aside) (r : Found) (texts : List (List ℕ)) (k : ℕ) → c
 closing-with F r texts k =
     ap (λ (xs : List ℕ). xs ++ result_text r k ++ models_text (told F r) k) (known_text-with F r.mode r texts)
     ∙ ap (λ (xs : List ℕ). known_text r.mode (found_with F r) texts ++ result_text r k
-            ++ (codes ",\"Models\":{\"Number\":" ++ decimal k ++ codes ",\"More\":\"" ++ more r.end ++ codes "\"" ++ xs ++ codes "}}\n"))
-        (best_text-with F r.mode r k)
+    ++ (codes ",\"Models\":{\"Number\":" ++ decimal k ++ codes ",\"More\":\"" ++ more r.end ++ codes "\"" ++ xs ++ codes "}}\n"))
+    (best_text-with F r.mode r k)
 
 json-left : (p : Program) (r : Found) (brief : Bool) → json_text (rest p) (told (aside_of p) r) brief ≡ json_text p (found_with (aside_of p) r) brief
 json-left p r brief =
@@ -288,8 +290,8 @@ json-left p r brief =
     let texts = known_texts (rest p) (option_map (restored F) r.known) in
     ap (λ (xs : List ℕ). codes "{\"Solver\":\"aspenum\",\"Call\":[{" ++ cond brief [] xs ++ codes "}]" ++ closing_text (told F r) texts (found_count r.mode (told F r))) (recorded_text-left p r.mode r)
     ∙ ap (λ (xs : List ℕ). call_text p (found_with F r) brief ++ xs)
-        (closing-with F r texts (found_count r.mode (told F r)) ∙ ap (closing_text (found_with F r) texts) (count-with F r.mode r)
-            ∙ ap (λ (ts : List (List ℕ)). closing_text (found_with F r) ts (found_count r.mode (found_with F r))) (texts-again p r.known))
+    (closing-with F r texts (found_count r.mode (told F r)) ∙ ap (closing_text (found_with F r) texts) (count-with F r.mode r)
+    ∙ ap (λ (ts : List (List ℕ)). closing_text (found_with F r) ts (found_count r.mode (found_with F r))) (texts-again p r.known))
 
 text_in-left : (form : Form) (p : Program) (r : Found) (brief names : Bool) → text_in form (rest p) (told (aside_of p) r) brief names ≡ text_in form p (found_with (aside_of p) r) brief names
 text_in-left Text p r brief names = text-left p r brief names
@@ -352,8 +354,8 @@ told-text given p r layout proof = by (asked given p) (is_settled given) refl
 -- the lines of a list don't tell what is known
 lines-told : (p : Program) (F : Aside) (r : Found) (mode : Mode) (brief names : Bool) → reasoning_of mode ≡ None
     → cond brief [] (answers_from p 1 (recorded mode r)) ++ sums_line names p mode r
-        ++ closing_lines r (found_count mode r) ≡ cond brief [] (answers_from p 1 (recorded mode (told F r))) ++ sums_line names p mode (told F r)
-        ++ closing_lines r (found_count mode (told F r))
+    ++ closing_lines r (found_count mode r) ≡ cond brief [] (answers_from p 1 (recorded mode (told F r))) ++ sums_line names p mode (told F r)
+    ++ closing_lines r (found_count mode (told F r))
 lines-told p F r Enum brief names listed = refl
 lines-told p F r Opt brief names listed = refl
 lines-told p F r (Consequences w) brief names listed = absurd (let no : Some w ≡ None = listed in let f : ⊥ = cc in f)

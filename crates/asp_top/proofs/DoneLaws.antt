@@ -28,8 +28,11 @@ solves-by given p x q r layout h h' w w' o is of same report proof (inr d) =
     let report'' : IsReport (searched given p) (ask_of given (searched given p)) given.budget r = subst (λ (y : Prepared). IsReport y.compiled (ask_of given y.compiled) given.budget r) is report' in
     let told' : Delivers layout x.compiled (told_with x.aside r) h h' w w' o = subst (λ (y : Program). Delivers layout y (told_with x.aside r) h h' w w' o) of d in
     let told'' : Delivers layout (searched given p) (told_with (set_aside given p) r) h h' w w' o = subst (λ (y : Prepared). Delivers layout y.compiled (told_with y.aside r) h h' w w' o) is told' in
-    inr (r, (subst (λ (ask : Ask). IsReport (searched given p) ask given.budget r) (same-ask given p) report'', proof),
-            subst (λ (b : Layout). Delivers b (searched given p) (told_with (set_aside given p) r) h h' w w' o) same told'')
+    inr (
+      r,
+      (subst (λ (ask : Ask). IsReport (searched given p) ask given.budget r) (same-ask given p) report'', proof),
+      subst (λ (b : Layout). Delivers b (searched given p) (told_with (set_aside given p) r) h h' w w' o) same told'',
+    )
 
 pub counted-by : (workers : ℕ) (layout : Layout) (p : Program) (F : Aside) (r : Report) (t : Tally) (h h' : Option (List ℕ)) (w w' : ℕ) (o : Outcome)
     → Concludes layout p F r h h' w w' o → IsCounted workers t r → IfSome o.report (IsCounted workers t)

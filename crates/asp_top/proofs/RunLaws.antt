@@ -155,9 +155,13 @@ delivered given a s report solved (inl m) =
     subst (Means given a report) (sym is) (written given a report solved done.results.end (has_model done.results) refl refl text)
 delivered given a s report solved (inr m) =
     subst (Means given a report) (sym m.0.1)
-        (inl (record { solved = solved; text =
-                    subst (AppendsFront a.held a.held') (told-text given solved.program solved.done (layout_of given) solved.proof) m.1; cause =
-                    m.2 }))
+    (inl (record {
+      solved = solved;
+      text =
+          subst (AppendsFront a.held a.held') (told-text given solved.program solved.done (layout_of given) solved.proof) m.1;
+      cause =
+          m.2;
+    }))
 
 -- the text of parts was written, or cut off
 handed : (given : Options) (a : Around) (s : Status) (report : Option Report) → (divided : IsDivided given a report)
@@ -170,9 +174,19 @@ runs-solved : (given : Options) (a : Around) (p : Program) (o : Outcome) → giv
     → Solves given p a.held a.held' a.writes a.writes' o → Runs given a o
 runs-solved given a p o whole from sound numbers reads quiet (inl m) = subst (Runs given a) (sym m.0) (runs-memory given a m.1 reads (omega (arith, m.2)) quiet)
 runs-solved given a p o whole from sound numbers reads quiet (inr s) =
-    let solved : IsSolved given a o.report = record
-        { program = p; source = from; sound = sound; numbers = numbers; whole = whole; done = s.0; reports = s.2.reports; is = s.1.0; says =
-            told-says given p (ask_of given p) s.0 s.0.results.end (asked-sound given p sound numbers) s.1.0.says; proof = s.1.1 } in
+    let solved : IsSolved given a o.report = record {
+      program = p;
+      source = from;
+      sound = sound;
+      numbers = numbers;
+      whole = whole;
+      done = s.0;
+      reports = s.2.reports;
+      is = s.1.0;
+      says =
+          told-says given p (ask_of given p) s.0 s.0.results.end (asked-sound given p sound numbers) s.1.0.says;
+      proof = s.1.1;
+    } in
     let means = delivered given a o.status o.report solved s.2.means in
     record { means = means; exact = exact given a o.report o.status means (λ isn't. quiet); later = (reads, s.2.later) }
 
@@ -218,7 +232,7 @@ of-err e is = cc
 -- no program was read
 pub over-unread : (given : Options) (l l' : Option (List ℕ)) (r r' : ℕ) (e : ReadError) (status : Status) → status ≡ status_of e → given.make ≡ None
     → IfSome l (λ t. ReadsText (Err e) (outcome_for given.format t)) → (text : List ℕ) × ReadsText (Err e) (outcome_for given.format text) → r ≤ r' →
-        (IsErrOf {T = Program} (Err e) errors.ReadFault → Rose r r') → StopsFor given.format most_bytes l l' (Err e)
+    (IsErrOf {T = Program} (Err e) errors.ReadFault → Rose r r') → StopsFor given.format most_bytes l l' (Err e)
     → (¬ IsErrOf {T = Program} (Err e) errors.ReadFault → r' ≡ r) → IsOver given l l' r r' status
 over-unread given l l' r r' e status is none text some later cause stops quiet =
     subst (IsOver given l l' r r') (sym is) (λ h w. runs-unread given (around l l' r r' h h w w) e none (Keeps-refl h) (omega arith)

@@ -185,8 +185,16 @@ pub runs-unread : (given : Options) (left left' : Option (List ℕ)) (r r' : ℕ
     → StopsBy asking most_bytes left left' (Err e) → (¬ IsErrOf {T = Series} (Err e) errors.ReadFault → r' ≡ r) → RunsSeries given (around left left' r r' held held w w) o
 runs-unread given left left' r r' held w e status o is same text some later cause stops quiet =
     let a = around left left' r r' held held w w in
-    let u : Unread a e = record { text = text; some_text = some; later = later; cause = λ fault. cause (err-of e fault); stops = stops; quiet =
-            λ no. quiet (λ x. no (of-err e x)); kept = Keeps-refl held } in
+    let u : Unread a e = record {
+      text = text;
+      some_text = some;
+      later = later;
+      cause = λ fault. cause (err-of e fault);
+      stops = stops;
+      quiet =
+          λ no. quiet (λ x. no (of-err e x));
+      kept = Keeps-refl held;
+    } in
     subst (RunsSeries given a) (sym (is ∙ ap (λ (x : Status). record { status = x; report = None }) same)) (record {
       none = refl;
       means = unread-means given a e u;

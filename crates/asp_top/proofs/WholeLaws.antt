@@ -206,7 +206,7 @@ opt-told : (form : Form) (given : Options) (p : Program) (L : List Atoms) (best 
     IsAllFound given.all_optima false p Opt L best known → is_some_of (bests best L) ≡ true
     → (S : Atoms) × Contains (optima p) S
     × InForm form (text_for form given p (found Opt Finished L best known) ≡ lines (is_brief given) p (cond given.all_optima (optima p) (S ∷ []))
-            ++ cost_line (cost p S) ++ closing (codes "OPTIMUM FOUND") (decimal (length (cond given.all_optima (optima p) (S ∷ [])))))
+    ++ cost_line (cost p S) ++ closing (codes "OPTIMUM FOUND") (decimal (length (cond given.all_optima (optima p) (S ∷ [])))))
     (text_for form given p (found Opt Finished L best known) ≡ json_found given p (found Opt Finished (cond given.all_optima (optima p) []) (Some (S, cost p S)) None))
 opt-told Text given p L best known is some = found-opt given.all_optima (is_brief given) p L best known is some
 opt-told Json given p L best known is some = json-opt given.all_optima given p L best known is some
@@ -288,12 +288,12 @@ json-none given p Opt L best known is none =
     ap (λ (Ss : List Atoms). json_found given p (found Opt Finished Ss best None)) empty.1 ∙ ap (λ (b : Option (Atoms × List ℤ)). json_found given p (found Opt Finished [] b None)) empty.0
 json-none given p (Consequences w) L best known is none =
     ap (λ (x : Option Atoms). json_text p (found (Consequences w) Finished L best x) (is_brief given))
-        (no-consequences p w (answers p) known (found-consequences given.all_optima p w L best known is).2 none).1
+    (no-consequences p w (answers p) known (found-consequences given.all_optima p w L best known is).2 none).1
 
 none-told : (form : Form) (given : Options) (p : Program) (mode : Mode) (L : List Atoms) (best : Option (Atoms × List ℤ)) (known : Option Atoms) → IsAllFound given.all_optima false p mode L best known
     → has_model_in mode (found mode Finished L best known) ≡ false
     → InForm form (text_for form given p (found mode Finished L best known) ≡ none_text mode)
-        (text_for form given p (found mode Finished L best known) ≡ json_found given p (found mode Finished [] None None))
+    (text_for form given p (found mode Finished L best known) ≡ json_found given p (found mode Finished [] None None))
 none-told Text given p mode L best known is none = (lines-none given.all_optima (is_brief given) given.names p mode L best known is none).1
 none-told Json given p mode L best known is none = json-none given p mode L best known is none
 
@@ -312,7 +312,7 @@ part-enum false p r is = is.0
 limited-opt : (brief : Bool) (p : Program) (n : ℕ) (L : List Atoms) (best : Option (Atoms × List ℤ)) (known : Option Atoms) → 0 < n → length L ≡ n →
     (chosen : Atoms → Bool) × (L ≡ filter chosen (optima p)) → IsBest p best
     → (S : Atoms) × (Ss : List Atoms) × Contains (optima p) S × ArePicked n (optima p) Ss ×
-        (plain_text p (found Opt Limited L best known) brief ≡ lines brief p Ss ++ cost_line (cost p S) ++ last_lines n)
+    (plain_text p (found Opt Limited L best known) brief ≡ lines brief p Ss ++ cost_line (cost p S) ++ last_lines n)
 limited-opt brief p n [] best known some count part is = absurd (let f : ⊥ = omega (arith, some, count) in f)
 limited-opt brief p n (T ∷ L) None known some count part is = let none : T ∷ L ≡ [] = part.1 ∙ ap (filter part.0) (no-optima p is) in absurd cc
 limited-opt brief p n (T ∷ L) (Some b) known some count part is = (
@@ -327,20 +327,20 @@ limited-opt brief p n (T ∷ L) (Some b) known some count part is = (
 opt-limited : (all brief : Bool) (p : Program) (n : ℕ) (L : List Atoms) (best : Option (Atoms × List ℤ)) (known : Option Atoms) →
     asks_list all Opt ≡ true → 0 < n → length L ≡ n → IsPartOf all false p Opt (found Opt Limited L best known) → IsBest p best
     → (S : Atoms) × (Ss : List Atoms) × Contains (optima p) S × ArePicked n (optima p) Ss ×
-        (plain_text p (found Opt Limited L best known) brief ≡ lines brief p Ss ++ cost_line (cost p S) ++ last_lines n)
+    (plain_text p (found Opt Limited L best known) brief ≡ lines brief p Ss ++ cost_line (cost p S) ++ last_lines n)
 opt-limited true brief p n L best known listing some count part is = limited-opt brief p n L best known some count part.0 is
 opt-limited false brief p n L best known listing some count part is = absurd (false≢true listing)
 
 enough-enum : (form : Form) (given : Options) (p : Program) (n : ℕ) (L : List Atoms) (best : Option (Atoms × List ℤ)) (known : Option Atoms) → length L ≡ n
     → InForm form (text_for form given p (found Enum Limited L best known) ≡ lines (is_brief given) p L ++ last_lines n)
-        (text_for form given p (found Enum Limited L best known) ≡ json_found given p (found Enum Limited L None None))
+    (text_for form given p (found Enum Limited L best known) ≡ json_found given p (found Enum Limited L None None))
 enough-enum Text given p n L best known count = joined (lines (is_brief given) p L) _ _ (ap last_lines count)
 enough-enum Json given p n L best known count = refl
 
 enough-json : (all : Bool) (given : Options) (p : Program) (n : ℕ) (L : List Atoms) (best : Option (Atoms × List ℤ)) (known : Option Atoms) →
     asks_list all Opt ≡ true → 0 < n → length L ≡ n → IsPartOf all false p Opt (found Opt Limited L best known) → IsBest p best
     → (S : Atoms) × (Ss : List Atoms) × Contains (optima p) S × ArePicked n (optima p) Ss ×
-        (json_found given p (found Opt Limited L best known) ≡ json_found given p (found Opt Limited Ss (Some (S, cost p S)) None))
+    (json_found given p (found Opt Limited L best known) ≡ json_found given p (found Opt Limited Ss (Some (S, cost p S)) None))
 enough-json false given p n L best known listing some count part is = absurd (false≢true listing)
 enough-json true given p n [] best known listing some count part is = absurd (let f : ⊥ = omega (arith, some, count) in f)
 enough-json true given p n (T ∷ L) None known listing some count part is = let none : T ∷ L ≡ [] = part.0.1 ∙ ap (filter part.0.0) (no-optima p is) in absurd cc
@@ -358,7 +358,7 @@ enough-opt Json given p n L best known listing some count part is = enough-json 
 
 tells-enough : (given : Options) (p : Program) (mode : Mode) (L : List Atoms) (best : Option (Atoms × List ℤ)) (known : Option Atoms) → asks_list given.all_optima mode ≡ true → 0 < given.models
     → length L ≡ given.models → IsPartOf given.all_optima false p mode (found mode Limited L best known) → HasBest p mode best →
-        TellsEnough given p mode (text_for given.form given p (found mode Limited L best known))
+    TellsEnough given p mode (text_for given.form given p (found mode Limited L best known))
 tells-enough given p Enum L best known listing some count part is =
     (L, (part-enum given.all_optima p (found Enum Limited L best known) part, count), enough-enum given.form given p given.models L best known count)
 tells-enough given p Opt L best known listing some count part is = enough-opt given.form given p given.models L best known listing some count part is
@@ -434,7 +434,7 @@ asked-listed : (given : Options) (p : Program) (mode : Mode) → mode_of given.m
 asked-listed given p mode is listed =
     ap (λ (b : Bool). cond b (named p) p)
     (named-last (is_settled given) (seeks_consequences (Some given.mode)) (given.names || is_json given.form)
-        (unsought-mode given.mode p mode is listed))
+    (unsought-mode given.mode p mode is listed))
 
 -- ---- consequences by name are those of the program
 no-answers : (p : Program) → IsSound p → has_numbers p ≡ true → answers p ≡ [] → answers (named p) ≡ []
@@ -481,13 +481,15 @@ consequences-asked given p w text true settled sound numbers mode by told =
       some,
       by-name given.form given.names (is_brief given) p w text
           (last-named (is_settled given) (seeks_consequences (Some given.mode)) (given.names || is_json given.form) true settled
-              (sought-mode given.mode p w mode) by)
+          (sought-mode given.mode p w mode) by)
           (told-named w (first_free p) p (split-named p sound enough) some) told.1,
     )
-consequences-asked given p w text false settled sound numbers mode by told =
-    (told.0, by-number given.form given.names (is_brief given) p w text
-            (last-named (is_settled given) (seeks_consequences (Some given.mode)) (given.names || is_json given.form) false settled
-                (sought-mode given.mode p w mode) by) told.1)
+consequences-asked given p w text false settled sound numbers mode by told = (
+  told.0,
+  by-number given.form given.names (is_brief given) p w text
+      (last-named (is_settled given) (seeks_consequences (Some given.mode)) (given.names || is_json given.form) false settled
+      (sought-mode given.mode p w mode) by) told.1,
+)
 
 none-asked : (given : Options) (p : Program) (b : Bool) → IsSound p → HasNumbers given p → is_named given ≡ b → answers (cond b (named p) p) ≡ [] → answers p ≡ []
 none-asked given p true sound numbers by none = no-named p sound (numbers by) none
@@ -503,12 +505,12 @@ all-asked : (given : Options) (p : Program) (mode : Mode) (L : List Atoms) (best
     → TellsAll given p mode (text_for given.form given (asked given p) (found mode Finished L best known))
 all-asked given p Enum L best known settled sound numbers mode is some =
     subst (λ (q : Program). IsAllFound given.all_optima false q Enum L best known →
-            TellsAll given p Enum (text_for given.form given q (found Enum Finished L best known))) (sym (asked-listed given p Enum mode refl))
-        (λ own. tells-listed given p Enum L best known refl own some) is
+    TellsAll given p Enum (text_for given.form given q (found Enum Finished L best known))) (sym (asked-listed given p Enum mode refl))
+    (λ own. tells-listed given p Enum L best known refl own some) is
 all-asked given p Opt L best known settled sound numbers mode is some =
     subst (λ (q : Program). IsAllFound given.all_optima false q Opt L best known →
-            TellsAll given p Opt (text_for given.form given q (found Opt Finished L best known))) (sym (asked-listed given p Opt mode refl))
-        (λ own. tells-listed given p Opt L best known refl own some) is
+    TellsAll given p Opt (text_for given.form given q (found Opt Finished L best known))) (sym (asked-listed given p Opt mode refl))
+    (λ own. tells-listed given p Opt L best known refl own some) is
 all-asked given p (Consequences w) L best known settled sound numbers mode is some =
     consequences-asked given p w (text_for given.form given (asked given p) (found (Consequences w) Finished L best known)) (is_named given) settled sound numbers mode refl
     (consequences-told given.form given (asked given p) w L best known (found-consequences given.all_optima (asked given p) w L best known is) some)
@@ -524,17 +526,18 @@ nothing-asked : (given : Options) (p : Program) (mode : Mode) (L : List Atoms) (
     → TellsNone given p mode (text_for given.form given (asked given p) (found mode Finished L best known))
 nothing-asked given p Enum L best known sound numbers mode is none =
     subst (λ (q : Program). IsAllFound given.all_optima false q Enum L best known →
-            TellsNone given p Enum (text_for given.form given q (found Enum Finished L best known))) (sym (asked-listed given p Enum mode refl))
-        (λ own. tells-none given p Enum L best known own none) is
+    TellsNone given p Enum (text_for given.form given q (found Enum Finished L best known))) (sym (asked-listed given p Enum mode refl))
+    (λ own. tells-none given p Enum L best known own none) is
 nothing-asked given p Opt L best known sound numbers mode is none =
     subst (λ (q : Program). IsAllFound given.all_optima false q Opt L best known →
-            TellsNone given p Opt (text_for given.form given q (found Opt Finished L best known))) (sym (asked-listed given p Opt mode refl))
-        (λ own. tells-none given p Opt L best known own none) is
+    TellsNone given p Opt (text_for given.form given q (found Opt Finished L best known))) (sym (asked-listed given p Opt mode refl))
+    (λ own. tells-none given p Opt L best known own none) is
 nothing-asked given p (Consequences w) L best known sound numbers mode is none =
-    let told = tells-none given (asked given p) (Consequences w) L best known is none in
-    (none-asked given p (is_named given) sound numbers refl told.0,
-            none-in given.form given p (asked given p) w (text_for given.form given (asked given p) (found (Consequences w) Finished L best known))
-            told.1)
+    let told = tells-none given (asked given p) (Consequences w) L best known is none in (
+      none-asked given p (is_named given) sound numbers refl told.0,
+      none-in given.form given p (asked given p) w (text_for given.form given (asked given p) (found (Consequences w) Finished L best known))
+          told.1,
+    )
 
 enough-asked : (given : Options) (p : Program) (mode : Mode) (L : List Atoms) (best : Option (Atoms × List ℤ)) (known : Option Atoms) →
     mode_of given.mode p ≡ mode → asks_list given.all_optima mode ≡ true → 0 < given.models
@@ -542,11 +545,11 @@ enough-asked : (given : Options) (p : Program) (mode : Mode) (L : List Atoms) (b
     → TellsEnough given p mode (text_for given.form given (asked given p) (found mode Limited L best known))
 enough-asked given p Enum L best known mode listing some count part is =
     subst (λ (q : Program). IsPartOf given.all_optima false q Enum (found Enum Limited L best known) → HasBest q Enum best →
-            TellsEnough given p Enum (text_for given.form given q (found Enum Limited L best known))) (sym (asked-listed given p Enum mode refl))
+    TellsEnough given p Enum (text_for given.form given q (found Enum Limited L best known))) (sym (asked-listed given p Enum mode refl))
     (λ own best-own. tells-enough given p Enum L best known listing some count own best-own) part is
 enough-asked given p Opt L best known mode listing some count part is =
     subst (λ (q : Program). IsPartOf given.all_optima false q Opt (found Opt Limited L best known) → HasBest q Opt best →
-            TellsEnough given p Opt (text_for given.form given q (found Opt Limited L best known))) (sym (asked-listed given p Opt mode refl))
+    TellsEnough given p Opt (text_for given.form given q (found Opt Limited L best known))) (sym (asked-listed given p Opt mode refl))
     (λ own best-own. tells-enough given p Opt L best known listing some count own best-own) part is
 enough-asked given p (Consequences w) L best known mode listing some count part is = absurd (false≢true listing)
 
@@ -586,8 +589,8 @@ wrote given a report end model Tells is_sent plain telling w sent =
       text = text_for given.form given q (found mode end R.results.answers R.results.best R.results.known);
       tells = telling p R (settled-from given plain w.solved.whole) w.solved.sound w.solved.numbers (subst (SaysReport q (without_names (ask_of given p)) R) w.end_is s.says)
           (model-same (is_named given) q mode end told.results.answers told.results.best s.known told.results.known s.same
-                  ∙ model-of mode mode end told.results ∙ ap (λ m. has_model_in m told.results) (sym w.solved.is.mode_is)
-                  ∙ model-with F done.results.mode done.results ∙ w.model_is);
+          ∙ model-of mode mode end told.results ∙ ap (λ m. has_model_in m told.results) (sym w.solved.is.mode_is)
+          ∙ model-with F done.results.mode done.results ∙ w.model_is);
       written = subst (Appends a.held a.held') same w.text;
       sent = sent;
     }

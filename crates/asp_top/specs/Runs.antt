@@ -249,7 +249,7 @@ abbrev pub Solves : Options → Program → Option (List ℕ) → Option (List �
 Solves given p held held' writes writes' o =
     ((o ≡ record { status = Memory; report = None }) × Keeps held held' × (writes' ≡ writes))
     ⊎ ((r : Report) × (IsReport (searched given p) (ask_of given p) given.budget r × HasProof given.proof r) ×
-            Delivers (layout_of given) (searched given p) (told_with (set_aside given p) r) held held' writes writes' o)
+    Delivers (layout_of given) (searched given p) (told_with (set_aside given p) r) held held' writes writes' o)
 
 -- The program was divided where parts are asked for, and else solved.
 abbrev pub DoesBy : Option ℕ → Options → Program → Option (List ℕ) → Option (List ℕ) → ℕ → ℕ → Outcome → Type 0

@@ -20,7 +20,7 @@ returns-in-Ok-clause-solves g c = λ p is.
     let report = from-ok (IsReport x.compiled c.ask_of-ask.result given.budget) _ c.in-Ok.report c.in-Ok.is c.solved_by_crew-solved.ensures.report in
     solves-by given p x q c.in-Ok.report c.layout_of.result _ _ _ _ _ is c.program-program.ensures.program c.layout_of.ensures
     (subst (λ (ask : Ask). IsReport x.compiled ask given.budget c.in-Ok.report) c.ask_of-ask.ensures report)
-        (from-ok (HasProof given.proof) _ c.in-Ok.report c.in-Ok.is c.solved_by_crew-solved.ensures.proof) c.conclude.ensures.concludes
+    (from-ok (HasProof given.proof) _ c.in-Ok.report c.in-Ok.is c.solved_by_crew-solved.ensures.proof) c.conclude.ensures.concludes
 
 pub returns-in-Ok-clause-counted : goal.returns-in-Ok-clause-counted
 returns-in-Ok-clause-counted g c = counted-by _ c.layout_of.result c.program-program.result.now c.args.prepared.now.aside c.in-Ok.report _ _ _ _ _ _ c.conclude.ensures.concludes (record {

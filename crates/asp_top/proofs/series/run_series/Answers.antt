@@ -6,8 +6,8 @@ pub returns-in-Ok-clause-runs : goal.returns-in-Ok-clause-runs
 returns-in-Ok-clause-runs g c =
     let read = c.in-Ok.ensures in
     runs-asked c.args.options.now _ _ _ _ _ _ _ _ c.in-Ok.series c.ask_all-end.result c.status_at.result c.failed.result c.status_at.ensures
-        c.failed.ensures read.text read.some_text read.end read.sound read.later (read.quiet (ok-no-fault c.in-Ok.series errors.ReadFault))
-        c.ask_all-end.ensures.asks
+    c.failed.ensures read.text read.some_text read.end read.sound read.later (read.quiet (ok-no-fault c.in-Ok.series errors.ReadFault))
+    c.ask_all-end.ensures.asks
 
 pub returns-in-Ok-clause-flushed : goal.returns-in-Ok-clause-flushed
 returns-in-Ok-clause-flushed g c = series-flushed _ _ c.ask_all-end.result c.status_at.result c.failed.result c.status_at.ensures c.failed.ensures c.ask_all-end.ensures.flushed
@@ -22,7 +22,7 @@ pub returns-in-Err-clause-runs : goal.returns-in-Err-clause-runs
 returns-in-Err-clause-runs g c =
     let read = c.in-Err.ensures in
     runs-unread c.args.options.now _ _ _ _ _ _ c.in-Err.error c.status_of.result c.failed-in-Err.result c.failed-in-Err.ensures c.status_of.ensures
-        read.text read.some_text read.later read.cause read.stops read.quiet
+    read.text read.some_text read.later read.cause read.stops read.quiet
 
 pub returns-in-Err-clause-sent : goal.returns-in-Err-clause-sent
 returns-in-Err-clause-sent g c = unread-sent c.in-Err.error c.status_of.result c.failed-in-Err.result _ c.failed-in-Err.ensures c.status_of.ensures
