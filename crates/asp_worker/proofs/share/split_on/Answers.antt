@@ -9,10 +9,14 @@ use Rattle.asp_slots.proofs.ShelfLaws.{still-seen}
 use Rattle.asp_worker.proofs.share.split_on.Goals as goal
 
 pub divide-requires-clause-variable : goal.divide-requires-clause-variable
-divide-requires-clause-variable g c = (open-lit c.args.shared.now.mode (view c.args.worker.now.seat) c.args.engine.now.search c.args.engine.now.fuel c.args.leaf.now c.args.lit c.requires.on c.requires.open).0
+divide-requires-clause-variable g c =
+    (open-lit c.args.shared.now.mode (view c.args.worker.now.seat) c.args.engine.now.search c.args.engine.now.fuel c.args.leaf.now c.args.lit
+    c.requires.on c.requires.open).0
 
 pub divide-requires-clause-new : goal.divide-requires-clause-new
-divide-requires-clause-new g c = (open-lit c.args.shared.now.mode (view c.args.worker.now.seat) c.args.engine.now.search c.args.engine.now.fuel c.args.leaf.now c.args.lit c.requires.on c.requires.open).1
+divide-requires-clause-new g c =
+    (open-lit c.args.shared.now.mode (view c.args.worker.now.seat) c.args.engine.now.search c.args.engine.now.fuel c.args.leaf.now c.args.lit
+    c.requires.on c.requires.open).1
 
 pub returns-in_err-divide-clause-err : goal.returns-in_err-divide-clause-err
 returns-in_err-divide-clause-err g c =
