@@ -5,6 +5,7 @@ ghost use Rattle.asp_model.specs.Sets.{IsBefore, has};
 ghost use Rattle.asp_model.specs.Models.{answers, atoms_of};
 ghost use Rattle.asp_model.specs.declared.program.Program.{Program};
 ghost use Rattle.asp_vars.specs.Numbering.{literal_of};
+ghost use Rattle.asp_proof.specs.Changes.{changed, last_of};
 ghost use Rattle.asp_proof.specs.Texts.{line_text};
 ghost use Rattle.asp_proof.specs.Grammar.{IsLine};
 ghost use Rattle.asp_proof.specs.Fields.{IsWhole};
@@ -148,6 +149,14 @@ pub enum Listed {
     Other,
 }
 
+// The answer that comes after these by this change. It has no room for more atoms.
+fn following(alloc: Global, before: &[Interp], change: &Interp) -> Result<Interp, AllocError>
+    ensures { IfOk result (λ answer. answer ≡ changed (last_of before.now) change.now) }
+{
+    let answer = next_answer(alloc, before, change)?;
+    answer.copy()
+}
+
 /// Reads a line that may be an answer's, by what it changes of the one before it, and judges the answer behind those before it.
 pub(crate) fn read_answer(
     alloc: Global,
@@ -163,7 +172,7 @@ pub(crate) fn read_answer(
         return Ok(Listed::Other);
     };
     let before = answers.as_slice();
-    let set = next_answer(alloc, before, &change)?;
+    let set = following(alloc, before, &change)?;
     let fault = fault_of_answer(alloc, compiled, opt, before, &set)?;
     match fault {
         Some(why) => Ok(Listed::Wrong(why)),

@@ -412,3 +412,6 @@ half-err v w leaf l (Err x) e held = held
 pub half-none : (v w : Knows) (leaf : ℕ) (l : Literal) (o : Option ℕ) → HoldsHalf v w leaf l (Ok o) → o ≡ None →
     slice_index_or (seen_board w).nodes leaf nowhere ≡ slice_index_or (seen_board v).nodes leaf nowhere
 half-none v w leaf l o h e = subst (λ (x : Option ℕ). HoldsHalf v w leaf l (Ok x)) e h
+
+pub half-some : (v w : Knows) (leaf : ℕ) (l : Literal) (o : Option ℕ) (half : ℕ) → HoldsHalf v w leaf l (Ok o) → o ≡ Some half → Holds w half
+half-some v w leaf l o half h e = (subst (λ (x : Option ℕ). HoldsHalf v w leaf l (Ok x)) e h).0

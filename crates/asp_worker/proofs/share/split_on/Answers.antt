@@ -2,7 +2,7 @@ use Rattle.asp_vault.specs.Seats.{view}
 use Rattle.asp_book.specs.Calls.{Knows}
 use Rattle.asp_worker.specs.Working.{IsOff}
 use Rattle.asp_worker.proofs.Replies.{always-err}
-use Rattle.asp_worker.proofs.SeatLaws.{half-none, keeps-trans}
+use Rattle.asp_worker.proofs.SeatLaws.{half-none, half-some, keeps-trans}
 use Rattle.asp_worker.proofs.GoingLaws.{goes-on, owes-of, owes-on}
 use Rattle.asp_worker.proofs.PathLaws.{kept-on, open-lit}
 use Rattle.asp_slots.proofs.ShelfLaws.{still-seen}
@@ -23,6 +23,11 @@ returns-in_err-divide-clause-err g c =
     let v : Knows = view c.args.worker.now.seat in let w : Knows = view c.divide.new.worker.seat in
     always-err c.from_residual.result (IsOff w c.args.engine.now.fuel c.args.leaf.now)
     (record { held = c.in_err-divide.ensures.half; units = owes-on v w c.args.engine.now.fuel (owes-of c.requires.on.going) c.divide.ensures.passes })
+
+pub begin-requires-clause-held : goal.begin-requires-clause-held
+begin-requires-clause-held g c =
+    half-some (view c.args.worker.now.seat) (view c.divide.new.worker.seat) c.args.leaf.now c.args.lit c.in_ok-divide.field-0 c.in-Some.half
+    c.in_ok-divide.ensures.half c.in-Some.is
 
 pub begin-requires-clause-going : goal.begin-requires-clause-going
 begin-requires-clause-going g c =
