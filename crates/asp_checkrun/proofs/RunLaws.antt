@@ -63,8 +63,10 @@ replied help a s h unread = (h, unread)
 replied version a s h unread = (h, unread)
 replied (misuse m) a s h unread = (h, unread)
 
-pub replies_given : (given asked : Given) (left held held' : Option (List ℕ)) (sent : Bool) (s : Status) → asked ≡ given → Replies asked held held' sent s → Does given (around left left held held' sent) s
+pub replies_given : (given asked : Given) (left held held' : Option (List ℕ)) (sent : Bool) (s : Status) → asked ≡ given →
+    Replies asked held held' sent s → Does given (around left left held held' sent) s
 replies_given given asked left held held' sent s e h = subst (λ g. Does g (around left left held held' sent) s) e (replied asked (around left left held held' sent) s h (kept left))
 
-pub noted_for : (given asked : Given) (held held' : Option (List ℕ)) (faults faults' : ℕ) (closed : Bool) (s : Status) → asked ≡ given → IsNoted held held' faults faults' (note_for asked closed s) → IsNoted held held' faults faults' (note_for given closed s)
+pub noted_for : (given asked : Given) (held held' : Option (List ℕ)) (faults faults' : ℕ) (closed : Bool) (s : Status) → asked ≡ given →
+    IsNoted held held' faults faults' (note_for asked closed s) → IsNoted held held' faults faults' (note_for given closed s)
 noted_for given asked held held' faults faults' closed s e h = subst (λ g. IsNoted held held' faults faults' (note_for g closed s)) e h

@@ -1,7 +1,8 @@
 -- A second search: how its book begins, and what its report says beside that of the first.
-use Rattle.std.proofs.Common.{◌≡◌, ℕ, ◌+◌, Bool, true, false, List, [], ◌∷◌, Option, Some, None, refl, sym, ap, ◌∙◌, subst, inr}
+use Rattle.std.proofs.Common.{◌≡◌, ℕ, ◌+◌, Bool, true, false, List, [], ◌∷◌, Option, Some, None, not, refl, sym, ap, ◌∙◌, subst, inr}
 use Rattle.std.specs.Prelude.{ℤ, IsTrue}
 use Rattle.std.specs.List.{list_any}
+use Rattle.std.proofs.lemmas.Bool.{false≢true}
 use Rattle.asp_model.specs.declared.program.Program.{Program}
 use Rattle.asp_model.specs.declared.results.Ask.{Ask}
 use Rattle.asp_model.specs.declared.results.Mode.{Mode}
@@ -100,7 +101,25 @@ may-search p ask r best is end found =
     let has = first-optimum p ask is.0 r best is.1 end found in
     subst (IsOptimum p best.0) has.optimum.sums has.optimum
 
--- ---- no second search
+-- the second search's report beside it
+is-true : (b : Bool) → not b ≡ false → b ≡ true
+is-true true h = refl
+is-true false h = absurd (false≢true (sym h))
+
+pub second-is : (p : Program) (ask : Ask) (first ties : Report) (best : Atoms × List ℤ) (left : ℕ) →
+    ((units : ℕ) × IsReport p (asks ask.mode ask.models ask.by_name) units first) → not ask.all_optima ≡ false → first.results.end ≡ Finished →
+    first.results.best ≡ Some best → left ≡ first.paid.left → IsSearched (ties_of p ask (cost p best.0) left) ties → IsSecond p ask first ties
+second-is p ask first ties best left is all end found units searched =
+    let has = first-optimum p ask is.0 first best is.1 end found in
+    record {
+      all = is-true ask.all_optima all;
+      opt = has.opt;
+      finished = end;
+      best = best.0;
+      found = found ∙ ap (λ (c : List ℤ). let o : Option (Atoms × List ℤ) = Some (best.0, c) in o) has.optimum.sums;
+      searched = subst (λ (n : ℕ). IsSearched (ties_of p ask (cost p best.0) n) ties) units searched;
+    }
+
 -- ---- both
 pub joins-program : (p : Program) (ask : Ask) (first ties : Report) → (units : ℕ) × IsReport p (asks ask.mode ask.models ask.by_name) units first →
     IsSecond p ask first ties → ties.paid.program ≡ first.paid.program

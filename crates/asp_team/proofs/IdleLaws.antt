@@ -49,8 +49,8 @@ each-number P i (h ∷ hs) is all n low high =
 module _ (v w : Knows) (b : Booked) (idle : IsIdle v) (first : v.number ≡ 0) (mine : of_number signed v.number (placed 0 v.seen) ≡ named signed v.own)
     (home : (n : ℕ) → 0 < n → n ≤ v.splits → IsHome v n)
     (looks : w ≡ seeing w.seen v) (learnt : Learnt signed v w.seen) (more : IsPrefix w.seen b.journal)
-        (same : (n : ℕ) → of_number signed n (placed 0 b.journal) ≡ of_number signed n (placed 0 w.seen)) (guests : Guests signed w b.journal)
-        (about : Some b.task ≡ w.about) (lawful : IsJournalOf b.task b.journal) where
+    (same : (n : ℕ) → of_number signed n (placed 0 b.journal) ≡ of_number signed n (placed 0 w.seen)) (guests : Guests signed w b.journal)
+    (about : Some b.task ≡ w.about) (lawful : IsJournalOf b.task b.journal) where
   task : task_of v ≡ b.task
   task = sym (ap (λ (o : Option Task). unwrap_or o no_task) (about ∙ ap (λ (x : Knows). x.about) looks))
 
@@ -99,7 +99,7 @@ module _ (v w : Knows) (b : Booked) (idle : IsIdle v) (first : v.number ≡ 0) (
   gone-closed n h short never begun g =
       let now : of_number signed n (placed 0 b.journal) ≡ named signed h.own = guests h.place (n, h.own) (ap (λ (x : Knows). get_elem? x.guests h.place) looks ∙ h.guest) in
       gone-prefix b.task n v.seen b.journal whole lawful (since-none n v.seen b.journal h.own whole h.stands now) short short never (λ s. s) begun
-          (subst (λ (t : Task). IsGone t short never n begun v.seen) task g)
+      (subst (λ (t : Task). IsGone t short never n begun v.seen) task g)
 
   -- number 0 did nothing since it looked
   alone : NoneBy signed 0 whole.0

@@ -118,7 +118,7 @@ module _ (v u w : Knows) (same : u.about ≡ v.about) (is : w ≡ merged v u) (b
       let stands : of_number signed u.number (placed 0 w.seen) ≡ named signed u.own = guests (length v.guests) (u.number, u.own) at in
       let law : IsJournalOf (task_of u) w.seen = subst (λ (t : Task). IsJournalOf t w.seen) task-other (joined-lawful other) in
       let s : Spares u.number (replay (task_of u) u.seen) (replay (task_of u) w.seen) =
-          spares-later (task_of u) u.number u.seen w.seen begins.1 law (since-none u.number u.seen w.seen u.own begins.1 own stands) in
+      spares-later (task_of u) u.number u.seen w.seen begins.1 law (since-none u.number u.seen w.seen u.own begins.1 own stands) in
       record {
         place = length v.guests;
         own = u.own;
@@ -166,7 +166,7 @@ still-idle v w n i j same rests lawful mine now =
     let law : IsJournalOf (task_of v) w.seen = subst (λ (t : Task). IsJournalOf t w.seen) task lawful in
     let stands : of_number signed v.number (placed 0 w.seen) ≡ named signed v.own = ap (λ k. of_number signed k (placed 0 w.seen)) (sym same) ∙ now ∙ ap (named signed) j.own in
     let s : Spares v.number (replay (task_of v) v.seen) (replay (task_of v) w.seen) =
-        spares-later (task_of v) v.number v.seen w.seen j.seen law (since-none v.number v.seen w.seen v.own j.seen mine stands) in
+    spares-later (task_of v) v.number v.seen w.seen j.seen law (since-none v.number v.seen w.seen v.own j.seen mine stands) in
     record {
       settled = record {
         seated = record { about = j.about ∙ i.settled.seated.about ∙ ap (λ (t : Task). Some t) (sym task); rests = rests; lawful = lawful };

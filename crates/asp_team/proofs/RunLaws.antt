@@ -58,8 +58,8 @@ pub have-left : (stopped : Type 0) (never : Bool) → (never ≡ true → stoppe
     AreForks (view l.seat).seen → AreReady c l hs → Joins (view l.seat) (view k.seat) (length hs) → (view l.seat).number ≡ 0 →
     (view k.seat).number ≡ 0 →
     of_number signed (view l.seat).number (placed 0 (view l.seat).seen) ≡ named signed (view l.seat).own →
-        of_number signed (view k.seat).number (placed 0 (view k.seat).seen) ≡ named signed (view k.seat).own → All (CameHome stopped k) hs →
-        HaveLeft k never (view l.seat).seen
+    of_number signed (view k.seat).number (placed 0 (view k.seat).seen) ≡ named signed (view k.seat).own → All (CameHome stopped k) hs →
+    HaveLeft k never (view l.seat).seen
 have-left stopped never denied c l k hs forks ready j first last mine now came =
     let v : Knows = view l.seat in
     let w : Knows = view k.seat in

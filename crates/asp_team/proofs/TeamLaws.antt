@@ -43,8 +43,14 @@ opened-idle p ask budget v fits is = subst IsIdle (sym is) (record {
 pub opened-begun : (p : Program) (ask : Ask) (budget : ℕ) (v : Knows) → budget < 2 ^ 64 → v ≡ opened (runs.task_of p ask budget) [] → IsBegun (runs.task_of p ask budget) v
 opened-begun p ask budget v fits is =
     let t : Task = runs.task_of p ask budget in
-    subst (IsBegun t) (sym is) (record { about = refl; first = refl; idle = opened-idle p ask budget (opened t []) fits refl; new = λ n over. tt;
-                out = record { splits = refl; joins = refl }; forks = tt })
+    subst (IsBegun t) (sym is) (record {
+      about = refl;
+      first = refl;
+      idle = opened-idle p ask budget (opened t []) fits refl;
+      new = λ n over. tt;
+      out = record { splits = refl; joins = refl };
+      forks = tt;
+    })
 
 -- ---- one seat is split in two
 pub parted-idle : (v : Knows) → IsIdle v → IsIdle (parted v)
@@ -140,9 +146,14 @@ ready-more c l k hs xs h is e f may number began at =
     }
 
 pub ready-none : (c : Shared) (l : Lead) → HasOut (view l.seat) 0 → HasSplit l.pages 0 → AreReady c l []
-ready-none c l out pages_out = record
-    { out = out; pages_out = pages_out; may = All-nil (MayJoin (task_of (view l.seat)).program c (view l.seat).about); numbered = tt; began =
-        All-nil (λ x. (view x.seat).seen ≡ (view l.seat).seen) }
+ready-none c l out pages_out = record {
+  out = out;
+  pages_out = pages_out;
+  may = All-nil (MayJoin (task_of (view l.seat)).program c (view l.seat).about);
+  numbered = tt;
+  began =
+      All-nil (λ x. (view x.seat).seen ≡ (view l.seat).seen);
+}
 
 -- ---- a pass is taken
 pub popped-rest : {X : Type 0} (P : X → Type 0) (xs ys : List X) (o : Option X) → Every P xs → xs ≡ ys ++ option_to_list o → Every P ys

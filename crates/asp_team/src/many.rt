@@ -99,7 +99,7 @@ fn dismissed(shared: Shared, lead: Lead) -> (Book, u32, Tallies, Scroll)
     ensures idle { IsIdleBoard (board result.0) }
     ensures tallies { result.2 ≡ shared.tallies }
     ensures crew { (never : Bool) (begun : List Event) → HaveLeft lead never begun → (rest : List Event) × (result.0.journal ≡ begun ++ rest) ×
-            IsCrewGone result.0.task (view lead.seat).splits lead.short never begun rest }
+        IsCrewGone result.0.task (view lead.seat).splits lead.short never begun rest }
 {
     let Lead {
         mut seat,

@@ -30,7 +30,8 @@ use Rattle.asp_worker.proofs.GoingLaws.{owes-by}
 use Rattle.asp_worker.proofs.SeatLaws.{board-task, board-now, grows-now, lawful-now, settled-on, idles-call, free-idles, free-released, settled-idles, settled-passes, placed-ready}
 
 -- ---- a number that has no units out
-pub owes-none : (p : Program) (m : Mode) (v : Knows) (u : Units) → IsRunOf p m v → out_of (seen_board v).out v.number ≡ 0 → u ≡ record { program = p; left = 0; burnt = 0; reasoned = false; known = 0; least = None } → Owes v u
+pub owes-none : (p : Program) (m : Mode) (v : Knows) (u : Units) → IsRunOf p m v → out_of (seen_board v).out v.number ≡ 0 →
+    u ≡ record { program = p; left = 0; burnt = 0; reasoned = false; known = 0; least = None } → Owes v u
 owes-none p m v u run home e =
     let same : (seen_board v).task.program ≡ p = ap (λ (t : Task). t.program) (board-task v) ∙ run.program in
     subst (λ (x : Units). Owes v x) (sym e) (record {
@@ -50,7 +51,8 @@ pub idle-passes : (v w : Knows) → IsIdle v → Passes v w → IsFree w → IsI
 idle-passes v w idle i free = record { settled = settled-passes v w idle.settled i; free = free; home = home-passes v w idle.home i }
 
 -- a new search goes with the board
-pub begins : (p : Program) (m : Mode) (v : Knows) (s : Searching) (u : Units) → IsRunOf p m v → out_of (seen_board v).out v.number ≡ 0 → s ≡ new_search p m s.slots → u ≡ record { program = p; left = 0; burnt = 0; reasoned = false; known = 0; least = None } → GoesOn m v s u
+pub begins : (p : Program) (m : Mode) (v : Knows) (s : Searching) (u : Units) → IsRunOf p m v → out_of (seen_board v).out v.number ≡ 0 →
+    s ≡ new_search p m s.slots → u ≡ record { program = p; left = 0; burnt = 0; reasoned = false; known = 0; least = None } → GoesOn m v s u
 begins p m v s u run home e f =
     let goal : (seen_board v).task.goal ≡ goal_of m run.goal.0 = ap (λ (t : Task). t.goal) (board-task v) ∙ run.goal.1 in
     let owes : Owes v u = owes-none p m v u run home f in

@@ -57,7 +57,8 @@ sets-push : (found : List Listing) (x : Listing) → sets_of (found ++ x ∷ [])
 sets-push [] x = refl
 sets-push (y ∷ found) x = ap (λ (l : List Atoms). y.set ∷ l) (sets-push found x)
 
-new-push : (s : Searching) (q : List Literal) (known : List Atoms) (found : List Listing) (x : Listing) → AreNew s q known found → IsNew s q (known ++ sets_of found) x → AreNew s q known (found ++ x ∷ [])
+new-push : (s : Searching) (q : List Literal) (known : List Atoms) (found : List Listing) (x : Listing) → AreNew s q known found →
+    IsNew s q (known ++ sets_of found) x → AreNew s q known (found ++ x ∷ [])
 new-push s q known [] x h n = (subst (λ (k : List Atoms). IsNew s q k x) (append-nil known) n, tt)
 new-push s q known (y ∷ found) x h n = (h.0, new-push s q (known ++ y.set ∷ []) found x h.1 (subst (λ (k : List Atoms). IsNew s q k x) (sym (append_assoc known (y.set ∷ []) (sets_of found))) n))
 
@@ -79,7 +80,8 @@ module _ (s x t : Searching) (q : List Literal) (found : List Listing) (g : Gath
   }
 
   -- an answer was found
-  pub gathers-more : (S : Atoms) (row : Row) → t.program ≡ x.program → t.mode ≡ x.mode → t.cube ≡ x.cube → IsTrue (is_stable x.program S) → IsTrue (hits (values x.program S) q) → list_any (same_set S) (used x) ≡ false → IsSmaller (cost x.program S) x.bound
+  pub gathers-more : (S : Atoms) (row : Row) → t.program ≡ x.program → t.mode ≡ x.mode → t.cube ≡ x.cube → IsTrue (is_stable x.program S) →
+      IsTrue (hits (values x.program S) q) → list_any (same_set S) (used x) ≡ false → IsSmaller (cost x.program S) x.bound
       → Records x.mode x t q S → IsRowFor (atoms_of t.program) S row → Gathers s t q (found ++ record { row = row; set = S } ∷ [])
   gathers-more S row program mode cube stable hit new cheaper records for =
       let y : Listing = record { row = row; set = S } in
@@ -134,7 +136,8 @@ module _ (s x t : Searching) (q : List Literal) (found : List Listing) (g : Gath
         (d.within, settled-same x t same n.lits d.settled)
 
 -- the first one
-gathers-first : (m : Mode) (v : Knows) (s t : Searching) (u : Units) (leaf : ℕ) (S : Atoms) (row : Row) → m ≡ Enum → Finds m v s t u leaf S → IsRowFor (atoms_of t.program) S row → Gathers s t (cube_of (seen_board v).nodes leaf) (record { row = row; set = S } ∷ [])
+gathers-first : (m : Mode) (v : Knows) (s t : Searching) (u : Units) (leaf : ℕ) (S : Atoms) (row : Row) → m ≡ Enum → Finds m v s t u leaf S →
+    IsRowFor (atoms_of t.program) S row → Gathers s t (cube_of (seen_board v).nodes leaf) (record { row = row; set = S } ∷ [])
 gathers-first m v s t u leaf S row e f for =
     let none : Gathers s s (cube_of (seen_board v).nodes leaf) [] = record {
       listing = f.on.going.mode_is ∙ e;
@@ -149,10 +152,12 @@ gathers-first m v s t u leaf S row e f for =
     gathers-more s s t (cube_of (seen_board v).nodes leaf) [] none S row f.program f.mode_is f.cube f.stable f.hit f.new f.cheaper f.records for
 
 -- the first one, kept in an empty list
-pub gathers-begun : (m : Mode) (v : Knows) (s t : Searching) (u : Units) (leaf : ℕ) (S : Atoms) (row : Row) (old new : List Listing) → m ≡ Enum → Finds m v s t u leaf S → IsRowFor (atoms_of t.program) S row → old ≡ [] → new ≡ old ++ record { row = row; set = S } ∷ []
+pub gathers-begun : (m : Mode) (v : Knows) (s t : Searching) (u : Units) (leaf : ℕ) (S : Atoms) (row : Row) (old new : List Listing) → m ≡ Enum →
+    Finds m v s t u leaf S → IsRowFor (atoms_of t.program) S row → old ≡ [] → new ≡ old ++ record { row = row; set = S } ∷ []
     → Gathers s t (cube_of (seen_board v).nodes leaf) new
 gathers-begun m v s t u leaf S row old new e f for none is =
-    subst (λ (l : List Listing). Gathers s t (cube_of (seen_board v).nodes leaf) l) (sym (is ∙ ap (λ (l : List Listing). l ++ record { row = row; set = S } ∷ []) none)) (gathers-first m v s t u leaf S row e f for)
+    subst (λ (l : List Listing). Gathers s t (cube_of (seen_board v).nodes leaf) l)
+    (sym (is ∙ ap (λ (l : List Listing). l ++ record { row = row; set = S } ∷ []) none)) (gathers-first m v s t u leaf S row e f for)
 
 -- ---- they may be delivered
 module _ (m : Mode) (v : Knows) (s t : Searching) (u : Units) (leaf : ℕ) (found : List Listing) (on : IsOn m v s u leaf) (g : Gathers s t (cube_of (seen_board v).nodes leaf) found) where
@@ -202,7 +207,8 @@ all-tidy : (n : ℕ) (found : List Listing) → By IsTidy n (deliveries n found)
 all-tidy n [] = tt
 all-tidy n (x ∷ found) = (λ _. (tt, λ r. r), all-tidy n found)
 
-work-all : (b : Board) (n : ℕ) (s : Searching) (q : List Literal) (known : List Atoms) (bound : Option (List ℤ)) (u : Units) (found : List Listing) → IsAtWork b n Enum known bound u → IsLawful b (deliveries n found) → AreNew s q known found
+work-all : (b : Board) (n : ℕ) (s : Searching) (q : List Literal) (known : List Atoms) (bound : Option (List ℤ)) (u : Units) (found : List Listing) →
+    IsAtWork b n Enum known bound u → IsLawful b (deliveries n found) → AreNew s q known found
     → IsAtWork (run b (deliveries n found)) n Enum (known ++ sets_of found) bound u
 work-all b n s q known bound u [] w lawful h = subst (λ (k : List Atoms). IsAtWork b n Enum k bound u) (sym (append-nil known)) w
 work-all b n s q known bound u (x ∷ found) w lawful h =
@@ -225,7 +231,8 @@ module _ (v w : Knows) (before : List Event) (stays : Stays v w) (found : List L
         lawful = behaves-call v w before (deliveries v.number found) stays call (all-tidy v.number found);
         grows = subst (Grows (seen_board v)) (sym then-is) (Grows-trans (seen_board v) b c call.grown (Grows-run b (deliveries v.number found) then-lawful));
         spares = record {
-          leaves = λ leaf h. ap (λ (x : Board). slice_index_or x.nodes leaf nowhere) then-is ∙ ap (λ (ns : List Node). slice_index_or ns leaf nowhere) (run-nodes b v.number found) ∙ call.spared.leaves leaf h;
+          leaves = λ leaf h. ap (λ (x : Board). slice_index_or x.nodes leaf nowhere) then-is
+              ∙ ap (λ (ns : List Node). slice_index_or ns leaf nowhere) (run-nodes b v.number found) ∙ call.spared.leaves leaf h;
           count = ap (λ (x : Board). held_by v.number x.nodes) then-is ∙ ap (held_by v.number) (run-nodes b v.number found) ∙ call.spared.count;
           units = ap (λ (x : Board). out_of x.out v.number) then-is ∙ ap (λ (o : List (ℕ × ℕ)). out_of o v.number) (run-out b v.number found) ∙ call.spared.units;
         };
@@ -239,7 +246,8 @@ module _ (v w : Knows) (before : List Event) (stays : Stays v w) (found : List L
         subst (λ (k : List Atoms). IsAtWork c v.number Enum k t.bound u) (sym g.known)
         (subst (λ (o : Option (List ℤ)). IsAtWork c v.number Enum (s.known ++ sets_of found) o u) (sym g.bound)
         (work-all b v.number s (cube_of (seen_board v).nodes leaf) s.known s.bound u found
-        (subst (λ (k : Mode). IsAtWork b v.number k s.known s.bound u) (sym on.going.mode_is ∙ g.listing) (work-on (seen_board v) b v.number m s.known s.bound u on.going.work call.grown call.spared.units))
+        (subst (λ (k : Mode). IsAtWork b v.number k s.known s.bound u) (sym on.going.mode_is ∙ g.listing)
+        (work-on (seen_board v) b v.number m s.known s.bound u on.going.work call.grown call.spared.units))
         then-lawful g.new))
 
     pub gathered-goes : GoesOn m w t u

@@ -144,7 +144,8 @@ best-cube (Consequences r) b s t h = here (show_more r b s) h
 pub known-seen : (v w : Knows) (before : List Event) → Stays v w → IsCall v w before [] → (r : Option Knowing) → r ≡ known_of (replay (task_of v) before) → r ≡ known_of (seen_board w)
 known-seen v w before stays call r e = e ∙ ap known_of (sym (seen-after v w before [] stays call))
 
-pub told-known : (v w : Knows) (before : List Event) → Stays v w → IsCall v w before [] → (r : Option Knowing) (x : Knowing) → r ≡ known_of (replay (task_of v) before) → r ≡ Some x → IsKnown (seen_board w) x
+pub told-known : (v w : Knows) (before : List Event) → Stays v w → IsCall v w before [] → (r : Option Knowing) (x : Knowing) →
+    r ≡ known_of (replay (task_of v) before) → r ≡ Some x → IsKnown (seen_board w) x
 told-known v w before stays call r x e is = known-is (seen_board w) x (sym (known-seen v w before stays call r e) ∙ is)
 
 -- a search at work takes it over
@@ -160,7 +161,9 @@ may-take m v s u x g k =
     record { program = may.program ∙ ap (λ (t : Task). t.program) (board-task v) ∙ sym g.program; reasoning = may.reasoning ∙ ap reasoning_of (sym g.mode_is); all = may.all }
 
 -- what a call told of the answers delivered
-pub taken-over : (m : Mode) (v w : Knows) (before : List Event) → Stays v w → IsCall v w before [] → (s : Searching) (u : Units) (r : Option Knowing) (x : Knowing) → GoesOn m v s u → r ≡ known_of (replay (task_of v) before) → r ≡ Some x → MayTake s x
+pub taken-over : (m : Mode) (v w : Knows) (before : List Event) → Stays v w → IsCall v w before [] →
+    (s : Searching) (u : Units) (r : Option Knowing) (x : Knowing) → GoesOn m v s u → r ≡ known_of (replay (task_of v) before) → r ≡ Some x →
+    MayTake s x
 taken-over m v w before stays call s u r x g e is =
     may-take m w s u x (goes-on m v w s u g (idles-passes v w (idles-call v w before stays call))) (told-known v w before stays call r x e is)
 
@@ -196,9 +199,12 @@ taken-best m v w before stays call s t u r x g e is =
     takes-known m w s t u x (goes-on m v w s u g (idles-passes v w (idles-call v w before stays call))) (told-known v w before stays call r x e is)
 
 -- where they are sought a call always tells what the answers delivered have in common
-pub always-known : (m : Mode) (r : Reasoning) (v w : Knows) (before : List Event) → Stays v w → IsCall v w before [] → (s t : Searching) (u : Units) (k : Option Knowing) → GoesOn m v s u → m ≡ Consequences r →
+pub always-known : (m : Mode) (r : Reasoning) (v w : Knows) (before : List Event) → Stays v w → IsCall v w before [] →
+    (s t : Searching) (u : Units) (k : Option Knowing) → GoesOn m v s u → m ≡ Consequences r →
     k ≡ known_of (replay (task_of v) before) → k ≡ None → TakesBest m (seen_board w) s t
-always-known m r v w before stays call s t u k g is e none = absurd (apart (sym none ∙ known-seen v w before stays call k e ∙ ap (λ (o : Option Reasoning). known_by o (seen_board w).task.program (showing_of (seen_board w))) seeks))
+always-known m r v w before stays call s t u k g is e none =
+    absurd (apart (sym none ∙ known-seen v w before stays call k e
+    ∙ ap (λ (o : Option Reasoning). known_by o (seen_board w).task.program (showing_of (seen_board w))) seeks))
   where
     on : GoesOn m w s u
     on = goes-on m v w s u g (idles-passes v w (idles-call v w before stays call))
@@ -210,7 +216,8 @@ always-known m r v w before stays call s t u k g is e none = absurd (apart (sym 
     apart z = cc
 
 -- ---- a leaf may be closed for what the search has settled
-pub done-excused : (m : Mode) (v : Knows) (s : Searching) (u : Units) (q : List Literal) → GoesOn m v s u → Settled s.program (used s) s.bound q → HitsOnly (task_of v).program (is_excused (seen_board v)) q
+pub done-excused : (m : Mode) (v : Knows) (s : Searching) (u : Units) (q : List Literal) → GoesOn m v s u → Settled s.program (used s) s.bound q →
+    HitsOnly (task_of v).program (is_excused (seen_board v)) q
 done-excused m v s u q g h =
     let same : s.program ≡ (seen_board v).task.program = g.program ∙ ap (λ (t : Task). t.program) (sym (board-task v)) in
     subst (λ (t : Task). HitsOnly t.program (is_excused (seen_board v)) q) (board-task v)
@@ -236,5 +243,7 @@ lowered-else s c b e h = ap (λ x. cond x (record s { bound = Some c }) s) (sym 
 pub best-then : (m : Mode) (b : Board) (s t : Searching) (r x : Option (List ℤ)) → m ≡ Opt → r ≡ option_map (cost b.task.program) b.best → r ≡ x → t ≡ lowered_by x s → TakesBest m b s t
 best-then m b s t r x e is at now = subst (λ (k : Mode). TakesBest k b s t) (sym e) (now ∙ ap (λ (o : Option (List ℤ)). lowered_by o s) (sym at ∙ is))
 
-pub best-seen : (v w : Knows) (before : List Event) → Stays v w → IsCall v w before [] → (r : Option (List ℤ)) → r ≡ option_map (cost (replay (task_of v) before).task.program) (replay (task_of v) before).best → r ≡ option_map (cost (seen_board w).task.program) (seen_board w).best
+pub best-seen : (v w : Knows) (before : List Event) → Stays v w → IsCall v w before [] → (r : Option (List ℤ)) →
+    r ≡ option_map (cost (replay (task_of v) before).task.program) (replay (task_of v) before).best →
+    r ≡ option_map (cost (seen_board w).task.program) (seen_board w).best
 best-seen v w before stays call r e = e ∙ ap (λ (b : Board). option_map (cost b.task.program) b.best) (sym (seen-after v w before [] stays call))

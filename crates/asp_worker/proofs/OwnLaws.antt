@@ -36,7 +36,8 @@ pub since-is : (n : ℕ) (xs ys : List Event) (p : IsPrefix xs ys) → NoneBy si
 since-is n xs ys p h = subst (NoneBy signed n) (ap (drop (length xs)) (sym p.1) ∙ drop_prefix xs p.0) h
 
 -- others added something, and then the number did
-pub own-more : (P : Event → Type 0) (v w : Knows) (rest added : List Event) → w.number ≡ v.number → w.seen ≡ (v.seen ++ rest) ++ added → NoneBy signed v.number rest → By P v.number added → OwnAre P v → OwnAre P w
+pub own-more : (P : Event → Type 0) (v w : Knows) (rest added : List Event) → w.number ≡ v.number → w.seen ≡ (v.seen ++ rest) ++ added →
+    NoneBy signed v.number rest → By P v.number added → OwnAre P v → OwnAre P w
 own-more P v w rest added number is none mine all =
     subst (λ n. By P n w.seen) (sym number)
     (subst (By P v.number) (sym is)

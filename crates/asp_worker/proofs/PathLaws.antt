@@ -24,7 +24,8 @@ use Rattle.asp_worker.proofs.GoingLaws.{owes-of, goes-on, owes-on}
 use Rattle.asp_worker.proofs.SharingLaws.{refreshed-goes, refreshed-cube}
 
 -- what others found was taken over
-pub refreshed-on : (m : Mode) (v w : Knows) (t r : Searching) (u : Units) (leaf : ℕ) (pages : ShelfSeat) (from : ℕ) → IsOn m v t u leaf → Idles v w → TakesOver m (seen_board w) pages from t r → IsOn m w r u leaf
+pub refreshed-on : (m : Mode) (v w : Knows) (t r : Searching) (u : Units) (leaf : ℕ) (pages : ShelfSeat) (from : ℕ) → IsOn m v t u leaf → Idles v w →
+    TakesOver m (seen_board w) pages from t r → IsOn m w r u leaf
 refreshed-on m v w t r u leaf pages from on i e = record {
   going = refreshed-goes m v w t r u pages from on.going i e;
   works = record {
@@ -35,7 +36,9 @@ refreshed-on m v w t r u leaf pages from on i e = record {
 
 -- memory was wanting, and the number left its leaves and units alone
 pub idled-off : (m : Mode) (v w : Knows) (s : Searching) (u x : Units) (leaf : ℕ) → IsOn m v s u leaf → Idles v w → x ≡ u → IsOff w x leaf
-idled-off m v w s u x leaf on i e = subst (λ (y : Units). IsOff w y leaf) (sym e) (record { held = holds-idles v w leaf on.works.held i; units = owes-on v w u (owes-of on.going) (idles-passes v w i) })
+idled-off m v w s u x leaf on i e =
+    subst (λ (y : Units). IsOff w y leaf) (sym e)
+    (record { held = holds-idles v w leaf on.works.held i; units = owes-on v w u (owes-of on.going) (idles-passes v w i) })
 
 -- units were leased
 pub leased-on : (m : Mode) (v w : Knows) (s t : Searching) (u x : Units) (leaf : ℕ) → IsOn m v s u leaf → Leases v w → t ≡ s → GoesOn m w t x → IsOn m w t x leaf
@@ -51,7 +54,8 @@ pub leased-off : (m : Mode) (v w : Knows) (s t : Searching) (u x : Units) (leaf 
 leased-off m v w s t u x leaf on l g = record { held = holds-leases v w leaf on.works.held l; units = owes-of g }
 
 -- the number did something, but the leaf is as it was
-pub kept-on : (m : Mode) (v w : Knows) (s : Searching) (u : Units) (leaf : ℕ) → IsOn m v s u leaf → Passes v w → slice_index_or (seen_board w).nodes leaf nowhere ≡ slice_index_or (seen_board v).nodes leaf nowhere → IsOn m w s u leaf
+pub kept-on : (m : Mode) (v w : Knows) (s : Searching) (u : Units) (leaf : ℕ) → IsOn m v s u leaf → Passes v w →
+    slice_index_or (seen_board w).nodes leaf nowhere ≡ slice_index_or (seen_board v).nodes leaf nowhere → IsOn m w s u leaf
 kept-on m v w s u leaf on p same = record {
   going = goes-on m v w s u on.going p;
   works = record {
@@ -67,4 +71,5 @@ ready-pages c h k r keeps pool same = ready-seat c h k r keeps pool (subst (λ (
 -- a literal that is open for the search may split the path
 pub open-lit : (m : Mode) (v : Knows) (s : Searching) (u : Units) (leaf : ℕ) (l : Literal) → IsOn m v s u leaf → ((q : List Literal) → s.cube ≡ Some q → IsOpen s.program q l) →
     IsVariable (task_of v).program l.var × (has_var (cube_of (seen_board v).nodes leaf) l.var ≡ false)
-open-lit m v s u leaf l on h = let opens : IsOpen s.program (cube_of (seen_board v).nodes leaf) l = h (cube_of (seen_board v).nodes leaf) on.works.entered in (subst (λ (p : Program). IsVariable p l.var) on.going.program opens.0, opens.1)
+open-lit m v s u leaf l on h = let opens : IsOpen s.program (cube_of (seen_board v).nodes leaf) l =
+    h (cube_of (seen_board v).nodes leaf) on.works.entered in (subst (λ (p : Program). IsVariable p l.var) on.going.program opens.0, opens.1)

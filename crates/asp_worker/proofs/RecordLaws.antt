@@ -89,7 +89,8 @@ pub is-sought : (v : Knows) (s t : Searching) (u : Units) (leaf : ℕ) (S : Atom
 is-sought v s t u leaf S f = may-optimise (seen_board v).task f.on.going.work.goal
 
 -- the search that knows the answer, where it goes with the board
-goes-with : (m : Mode) (v w : Knows) (s t : Searching) (u : Units) (leaf : ℕ) (S : Atoms) (b : Board) → Finds m v s t u leaf S → Stays v w → seen_board w ≡ b → IsAtWork b v.number m t.known t.bound u → GoesOn m w t u
+goes-with : (m : Mode) (v w : Knows) (s t : Searching) (u : Units) (leaf : ℕ) (S : Atoms) (b : Board) → Finds m v s t u leaf S → Stays v w →
+    seen_board w ≡ b → IsAtWork b v.number m t.known t.bound u → GoesOn m w t u
 goes-with m v w s t u leaf S b f stays now work = record {
   program = f.program ∙ f.on.going.program ∙ ap (λ (x : Task). x.program) (sym (task-stays v w stays));
   mode_is = f.mode_is ∙ f.on.going.mode_is;
@@ -111,7 +112,8 @@ module _ (v w : Knows) (before : List Event) (stays : Stays v w) (s t : Searchin
   new-in : (m : Mode) → Finds m v s t u leaf S → list_any (same_set S) (used_up (reasoning_of m) s.program s.known) ≡ false
   new-in m f = ap (λ (k : Mode). list_any (same_set S) (used_up (reasoning_of k) s.program s.known)) (sym f.on.going.mode_is) ∙ f.new
 
-  delivered-in : (m : Mode) → is_opt m ≡ false → Finds m v s t u leaf S → IsCall v w before (event.Deliver v.number S ∷ []) → IsAtWork (happens (replay (task_of v) before) (event.Deliver v.number S)) v.number m t.known t.bound u
+  delivered-in : (m : Mode) → is_opt m ≡ false → Finds m v s t u leaf S → IsCall v w before (event.Deliver v.number S ∷ []) →
+      IsAtWork (happens (replay (task_of v) before) (event.Deliver v.number S)) v.number m t.known t.bound u
   delivered-in Enum listing f call =
       let b : Board = replay (task_of v) before in
       let r = records-in Enum f in
@@ -122,7 +124,8 @@ module _ (v w : Knows) (before : List Event) (stays : Stays v w) (s t : Searchin
   delivered-in (Consequences k) listing f call =
       let b : Board = replay (task_of v) before in
       let r = records-in (Consequences k) f in
-      subst (λ (K : List Atoms). IsAtWork (happens b (event.Deliver v.number S)) v.number (Consequences k) K t.bound u) (sym (r.0 ∙ ap (λ (p : Program). common_sets k p (s.known ++ S ∷ [])) (program-then (Consequences k) f)))
+      subst (λ (K : List Atoms). IsAtWork (happens b (event.Deliver v.number S)) v.number (Consequences k) K t.bound u)
+      (sym (r.0 ∙ ap (λ (p : Program). common_sets k p (s.known ++ S ∷ [])) (program-then (Consequences k) f)))
       (subst (λ (o : Option (List ℤ)). IsAtWork (happens b (event.Deliver v.number S)) v.number (Consequences k) (common_sets k b.task.program (s.known ++ S ∷ [])) o u) (sym r.1)
       (work-told b v.number S k s.known s.bound u (at-moment (Consequences k) (event.Deliver v.number S ∷ []) call f) (guard-was v w before stays (event.Deliver v.number S) call)))
 
@@ -166,7 +169,9 @@ module _ (v w : Knows) (before : List Event) (stays : Stays v w) (s t : Searchin
     some-inj c d e = cc
 
     -- a best stood that is no dearer: its cost is a bound as well
-    pub unimproved-goes : (c : List ℤ) → seen_board w ≡ replay (task_of v) before → option_map (cost (replay (task_of v) before).task.program) (replay (task_of v) before).best ≡ Some c → betters (cost (replay (task_of v) before).task.program S) c ≡ false → IsCall v w before [] →
+    pub unimproved-goes : (c : List ℤ) → seen_board w ≡ replay (task_of v) before →
+        option_map (cost (replay (task_of v) before).task.program) (replay (task_of v) before).best ≡ Some c →
+        betters (cost (replay (task_of v) before).task.program S) c ≡ false → IsCall v w before [] →
         GoesOn Opt w (lowered t c) u
     unimproved-goes c now best worse call = here (replay (task_of v) before).best refl best
       where
@@ -181,7 +186,8 @@ module _ (v w : Knows) (before : List Event) (stays : Stays v w) (s t : Searchin
         here (Some B) e h =
             let is : cost (replay (task_of v) before).task.program B ≡ c = some-inj (cost (replay (task_of v) before).task.program B) c h in
             let goes : GoesOn Opt w t u = goes-priced (replay (task_of v) before) now (sym (program-then Opt f))
-            (work-unimproved (replay (task_of v) before) v.number S B s.known s.bound u (at-moment Opt [] call f) (sym e) (ap (betters (cost (replay (task_of v) before).task.program S)) is ∙ worse)) in
+            (work-unimproved (replay (task_of v) before) v.number S B s.known s.bound u (at-moment Opt [] call f) (sym e)
+            (ap (betters (cost (replay (task_of v) before).task.program S)) is ∙ worse)) in
             subst (λ (d : List ℤ). GoesOn Opt w (lowered t d) u) (ap (λ (x : Board). cost x.task.program B) now ∙ is) (lowered-goes w B t u (ap (λ (x : Board). x.best) now ∙ sym e) goes)
 
 -- ---- units
@@ -189,7 +195,8 @@ abbrev pub merged : Units → Units → Units
 merged u x = record { program = u.program; left = u.left + x.left; burnt = u.burnt + x.burnt; reasoned = u.reasoned || x.reasoned; known = max u.known x.known; least = least_of u.least x.least }
 
 -- the same sum of units, otherwise spread
-work-spread : (b : Board) (n : ℕ) (m : Mode) (known : List Atoms) (bound : Option (List ℤ)) (u x : Units) → IsAtWork b n m known bound u → x.left + x.burnt ≡ u.left + u.burnt → Fits b x → IsAtWork b n m known bound x
+work-spread : (b : Board) (n : ℕ) (m : Mode) (known : List Atoms) (bound : Option (List ℤ)) (u x : Units) → IsAtWork b n m known bound u →
+    x.left + x.burnt ≡ u.left + u.burnt → Fits b x → IsAtWork b n m known bound x
 work-spread b n m known bound u x w sum fits = record { goal = w.goal; agrees = w.agrees; apart = w.apart; kept = w.kept; units = (fits, sum ∙ w.units.1) }
 
 module _ (v w : Knows) (before : List Event) (stays : Stays v w) (m : Mode) (s : Searching) (u x : Units) (set : IsSettled v) (g : GoesOn m v s u)
@@ -228,7 +235,9 @@ module _ (v w : Knows) (before : List Event) (stays : Stays v w) (m : Mode) (s :
       let e : Event = event.Lease v.number k in
       let now : seen_board w ≡ happens b e = board-now v w before stays e call in
       let sum : (merged u x).left + (merged u x).burnt ≡ u.left + u.burnt + k = omega (arith, same, ap (λ (y : Units). y.burnt) is) in
-      let work : IsAtWork (happens b e) v.number m s.known s.bound (merged u x) = work-leased b v.number k m s.known s.bound u (merged u x) (work-then (e ∷ []) call) (guard-was v w before stays e call) sum (fits-then (e ∷ []) call) in (
+      let work : IsAtWork (happens b e) v.number m s.known s.bound (merged u x) =
+      work-leased b v.number k m s.known s.bound u (merged u x) (work-then (e ∷ []) call) (guard-was v w before stays e call) sum
+      (fits-then (e ∷ []) call) in (
         leases-now v w before stays e call (omega (arith, same, leased-few), λ r. r) refl,
         (let o : out_of (seen_board w).out v.number ≡ out_of b.out v.number + k = ap (λ (y : Board). out_of y.out v.number) now ∙ out_of-leased v.number k b.out in
             let p : out_of b.out v.number ≡ u.left + u.burnt = call.spared.units ∙ sym g.work.units.1 in
@@ -268,5 +277,7 @@ module _ (v w : Knows) (before : List Event) (stays : Stays v w) (s t : Searchin
   pub unimproved-by : (r : Option (List ℤ)) (c : List ℤ) → r ≡ Some c → Improves (replay (task_of v) before) S r → IsCall v w before (improved v.number S r) → GoesOn Opt w (lowered t c) u
   unimproved-by r c e how call =
       let call' : IsCall v w before [] = subst (λ (x : Option (List ℤ)). IsCall v w before (improved v.number S x)) e call in
-      let best = subst (λ (x : Option (List ℤ)). IfSome x (λ (d : List ℤ). (option_map (cost (replay (task_of v) before).task.program) (replay (task_of v) before).best ≡ Some d) × (betters (cost (replay (task_of v) before).task.program S) d ≡ false))) e how.best in
+      let best = subst (λ (x : Option (List ℤ)). IfSome x
+      (λ (d : List ℤ). (option_map (cost (replay (task_of v) before).task.program) (replay (task_of v) before).best ≡ Some d) ×
+      (betters (cost (replay (task_of v) before).task.program S) d ≡ false))) e how.best in
       unimproved-goes v w before stays s t u leaf S f c (seen-after v w before [] stays call') best.0 best.1 call'

@@ -179,7 +179,8 @@ module _ (v w : Knows) (before : List Event) (stays : Stays v w) where
     }
 
     -- which left leaves and units alone
-    pub idles-now : IsTidy e → (happens (replay (task_of v) before) e).nodes ≡ (replay (task_of v) before).nodes → (happens (replay (task_of v) before) e).out ≡ (replay (task_of v) before).out → Idles v w
+    pub idles-now : IsTidy e → (happens (replay (task_of v) before) e).nodes ≡ (replay (task_of v) before).nodes →
+        (happens (replay (task_of v) before) e).out ≡ (replay (task_of v) before).out → Idles v w
     idles-now tidy nodes out = record {
       stays = stays;
       lawful = behaves-now tidy;
@@ -252,7 +253,8 @@ module _ (v w : Knows) (before : List Event) (stays : Stays v w) (leaf : ℕ) wh
         let len : length ws ≡ length nodes = length-set nodes leaf (record { cube = cube_of nodes leaf; status = status.Forked }) in
         let at : length nodes ≡ length ws + 0 = omega (arith, len) in
         ap (λ n. slice_index_or (split nodes leaf l) n nowhere) at
-        ∙ get_or-append-add ws (record { cube = cube_of nodes leaf ++ l ∷ []; status = status_of nodes leaf } ∷ record { cube = cube_of nodes leaf ++ complement l ∷ []; status = status.Open } ∷ []) 0 nowhere
+        ∙ get_or-append-add ws (record { cube = cube_of nodes leaf ++ l ∷ []; status = status_of nodes leaf } ∷ record
+        { cube = cube_of nodes leaf ++ complement l ∷ []; status = status.Open } ∷ []) 0 nowhere
 
     pub passes-split : Passes v w
     passes-split = passes-now v w before stays (event.Split v.number leaf l) call (tt, λ r. r) refl
@@ -341,11 +343,14 @@ module _ (v w : Knows) (stays : Stays v w) (leaf : ℕ) (l : Literal) (held : Ho
   divided-passes before None call = idles-passes v w (idles-call v w before stays call)
   divided-passes before (Some leaves) call = passes-split v w before stays leaf l call
 
-  pub divided-none : (before : List Event) (r : Option (ℕ × ℕ)) → r ≡ None → IsCall v w before (divided v.number leaf l r) → slice_index_or (seen_board w).nodes leaf nowhere ≡ slice_index_or (seen_board v).nodes leaf nowhere
+  pub divided-none : (before : List Event) (r : Option (ℕ × ℕ)) → r ≡ None → IsCall v w before (divided v.number leaf l r) →
+      slice_index_or (seen_board w).nodes leaf nowhere ≡ slice_index_or (seen_board v).nodes leaf nowhere
   divided-none before r e call =
       node-idles v w leaf held (idles-call v w before stays (subst (λ (x : Option (ℕ × ℕ)). IsCall v w before (divided v.number leaf l x)) e call))
 
-  pub divided-some : (before : List Event) (r : Option (ℕ × ℕ)) (half other : ℕ) → r ≡ Some (half, other) → IfSome r (λ (x : ℕ × ℕ). x ≡ (length (replay (task_of v) before).nodes, length (replay (task_of v) before).nodes + 1)) → IsCall v w before (divided v.number leaf l r) →
+  pub divided-some : (before : List Event) (r : Option (ℕ × ℕ)) (half other : ℕ) → r ≡ Some (half, other) →
+      IfSome r (λ (x : ℕ × ℕ). x ≡ (length (replay (task_of v) before).nodes, length (replay (task_of v) before).nodes + 1)) →
+      IsCall v w before (divided v.number leaf l r) →
       Holds w half × (cube_of (seen_board w).nodes half ≡ cube_of (seen_board v).nodes leaf ++ l ∷ [])
   divided-some before r half other e at call =
       let n : ℕ = length (replay (task_of v) before).nodes in
@@ -362,7 +367,9 @@ takes-not v (Some leaf) h e = absurd (false≢true (sym e))
 
 -- ---- a path is closed, or was not for want of memory
 module _ (v w : Knows) (stays : Stays v w) (leaf : ℕ) (nogood : List Literal) (run : IsRun (task_of v)) (held : Holds v leaf) where
-  pub closed-by : {A : Type 0} (r : Result A AllocError) → OnOk r ((before : List Event) × IsCall v w before (event.Close v.number leaf nogood ∷ [])) → OnErr r ((before : List Event) × IsCall v w before []) →
+  pub closed-by : {A : Type 0} (r : Result A AllocError) →
+      OnOk r ((before : List Event) × IsCall v w before (event.Close v.number leaf nogood ∷ [])) →
+      OnErr r ((before : List Event) × IsCall v w before []) →
       Passes v w × OnOk r (IsFree w) × OnErr r (Holds w leaf)
   closed-by (Ok x) ok err = (passes-closed v w ok.0 stays leaf nogood ok.1, free-closed v w ok.0 stays leaf nogood ok.1 run, tt)
   closed-by (Err e) ok err = (idles-passes v w (none-idles v w stays err), tt, holds-idles v w leaf held (none-idles v w stays err))
@@ -402,5 +409,9 @@ pub half-err : (v w : Knows) (leaf : ℕ) (l : Literal) (r : Result (Option ℕ)
 half-err v w leaf l (Ok o) e held = absurd (false≢true e)
 half-err v w leaf l (Err x) e held = held
 
-pub half-none : (v w : Knows) (leaf : ℕ) (l : Literal) (o : Option ℕ) → HoldsHalf v w leaf l (Ok o) → o ≡ None → slice_index_or (seen_board w).nodes leaf nowhere ≡ slice_index_or (seen_board v).nodes leaf nowhere
+pub half-none : (v w : Knows) (leaf : ℕ) (l : Literal) (o : Option ℕ) → HoldsHalf v w leaf l (Ok o) → o ≡ None →
+    slice_index_or (seen_board w).nodes leaf nowhere ≡ slice_index_or (seen_board v).nodes leaf nowhere
 half-none v w leaf l o h e = subst (λ (x : Option ℕ). HoldsHalf v w leaf l (Ok x)) e h
+
+pub half-some : (v w : Knows) (leaf : ℕ) (l : Literal) (o : Option ℕ) (half : ℕ) → HoldsHalf v w leaf l (Ok o) → o ≡ Some half → Holds w half
+half-some v w leaf l o half h e = (subst (λ (x : Option ℕ). HoldsHalf v w leaf l (Ok x)) e h).0

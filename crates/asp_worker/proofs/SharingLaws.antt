@@ -61,13 +61,15 @@ entered-goes m v s t u q g e =
 pub refreshed-goes : (m : Mode) (v w : Knows) (s t : Searching) (u : Units) (pages : ShelfSeat) (from : ℕ) → GoesOn m v s u → Idles v w → TakesOver m (seen_board w) pages from s t → GoesOn m w t u
 refreshed-goes m v w s t u pages from g i e =
     let same : t ≡ record e.between { slots = t.slots } = slots-only e.imported.entries e.between t e.imported.imported in
-    goes-same m w e.between t u (ap (λ (x : Searching). x.program) same) (ap (λ (x : Searching). x.mode) same) (ap (λ (x : Searching). x.known) same) (ap (λ (x : Searching). x.bound) same) (best-goes m w s e.between u (goes-on m v w s u g (idles-passes v w i)) e.best)
+    goes-same m w e.between t u (ap (λ (x : Searching). x.program) same) (ap (λ (x : Searching). x.mode) same) (ap (λ (x : Searching). x.known) same)
+    (ap (λ (x : Searching). x.bound) same) (best-goes m w s e.between u (goes-on m v w s u g (idles-passes v w i)) e.best)
 
 pub refreshed-cube : (m : Mode) (w : Knows) (s t : Searching) (pages : ShelfSeat) (from : ℕ) → TakesOver m (seen_board w) pages from s t → t.cube ≡ s.cube
 refreshed-cube m w s t pages from e = ap (λ (x : Searching). x.cube) (slots-only e.imported.entries e.between t e.imported.imported) ∙ best-cube m (seen_board w) s e.between e.best
 
 -- the path of a leaf that is held, after it was entered at x and what others found was taken over at w
-pub begun-on : (m : Mode) (v x w : Knows) (s t r : Searching) (u : Units) (leaf : ℕ) (pages : ShelfSeat) (from : ℕ) → GoesOn m v s u → Holds v leaf → Idles v x → Enters s t (cube_of (seen_board x).nodes leaf) → Idles x w → TakesOver m (seen_board w) pages from t r → IsOn m w r u leaf
+pub begun-on : (m : Mode) (v x w : Knows) (s t r : Searching) (u : Units) (leaf : ℕ) (pages : ShelfSeat) (from : ℕ) → GoesOn m v s u → Holds v leaf →
+    Idles v x → Enters s t (cube_of (seen_board x).nodes leaf) → Idles x w → TakesOver m (seen_board w) pages from t r → IsOn m w r u leaf
 begun-on m v x w s t r u leaf pages from g held i enters j e =
     let held-x : Holds x leaf = holds-idles v x leaf held i in
     record {

@@ -5,13 +5,15 @@ use Rattle.asp_checkrun.proofs.words.walk.Goals as goal
 
 pub loop-word-preserved : goal.loop-word-preserved
 loop-word-preserved c =
-    walked_more c.loop-word.state c.in_ok-state.state c.args.words.now c.loop-word.word-index c.word-item.result c.as_str.result.now (omega arith) c.word-item.is c.as_str.ensures.value c.in_ok-state.ensures
+    walked_more c.loop-word.state c.in_ok-state.state c.args.words.now c.loop-word.word-index c.word-item.result c.as_str.result.now (omega arith)
+    c.word-item.is c.as_str.ensures.value c.in_ok-state.ensures
     ∙ c.loop-word.invariant
 
 pub returns-in_err-state : goal.returns-in_err-state
 returns-in_err-state c =
     let p = err_from_is_err_and c.from_residual.result c.from_residual.ensures.1 in
-    rw (p.1, p.2) (walked_fails c.loop-word.state _ c.args.words.now c.loop-word.word-index c.word-item.result c.as_str.result.now (omega arith) c.word-item.is c.as_str.ensures.value c.in_err-state.ensures
+    rw (p.1, p.2) (walked_fails c.loop-word.state _ c.args.words.now c.loop-word.word-index c.word-item.result c.as_str.result.now (omega arith)
+    c.word-item.is c.as_str.ensures.value c.in_err-state.ensures
     ∙ c.loop-word.invariant)
 
 pub returns : goal.returns

@@ -25,7 +25,7 @@ joined-requires-clause-back g c =
     let some : 0 < vec_len v = omega (arith, c.pop.ensures.len, ap (λ o. length (option_to_list o)) c.in-Some.is) in
     let first : MayJoin c.args.compiled.now c.args.shared.now (view c.args.lead.seat).about c.in-Some.worker =
     popped (MayJoin c.args.compiled.now c.args.shared.now (view c.args.lead.seat).about) v.items (vec_len v) c.pop.result c.in-Some.worker
-        c.requires.workers (omega (arith, v.ok.0)) some c.pop.ensures.value c.in-Some.is in
+    c.requires.workers (omega (arith, v.ok.0)) some c.pop.ensures.value c.in-Some.is in
     subst (λ about. IsBack c.args.shared.now about c.beside.new.worker) (sym c.all_joined-lead.ensures.joins.about)
     (back-worked (g.H.Halt.never c.args.halt.now → ⊥) c.args.shared.now c.args.compiled.now (view c.args.lead.seat).about c.in-Some.worker c.beside.new.worker first c.beside.ensures.worker)
 
@@ -43,4 +43,4 @@ returns-in-Some-clause-came g c =
     all-pushed (CameHome (g.H.Halt.never c.args.halt.now → ⊥) c.joined.result) c.args.workers.items hs c.pop.result c.in-Some.worker c.pop.ensures.items c.in-Some.is
     (λ k d lt. came-on (g.H.Halt.never c.args.halt.now → ⊥) l c.joined.result _ c.joined.ensures.stay (came k d lt))
     (came-worked (g.H.Halt.never c.args.halt.now → ⊥) c.args.shared.now c.in-Some.worker c.beside.new.worker c.joined.result c.beside.ensures.worker
-            c.joined.ensures.came.home c.joined.ensures.came.gone)
+    c.joined.ensures.came.home c.joined.ensures.came.gone)

@@ -10,8 +10,8 @@ pub returns-clause-lead : goal.returns-clause-lead
 returns-clause-lead c =
     let v : Knows = view c.args.lead.seat in let u : Knows = view c.args.worker.seat in let w : Knows = view c.join.new.seat in
     let lawful : IsJournalOf (task_of w) w.seen =
-        joined-lawful v u w c.requires.back.about_is c.join.ensures.view c.join.ensures.begins c.join.ensures.guests c.requires.lead.lawful
-        c.requires.back.idle.settled.seated.lawful in
+    joined-lawful v u w c.requires.back.about_is c.join.ensures.view c.join.ensures.begins c.join.ensures.guests c.requires.lead.lawful
+    c.requires.back.idle.settled.seated.lawful in
     lead-joined c.args.shared.now c.args.lead _ u c.requires.lead c.join.ensures.of c.join-2.ensures.at c.join-2.ensures.first c.join.ensures.view lawful
 
 pub returns-clause-joins : goal.returns-clause-joins

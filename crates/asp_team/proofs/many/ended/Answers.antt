@@ -26,7 +26,7 @@ work_off-requires-clause-of g c =
 pub work_off-requires-clause-fits : goal.work_off-requires-clause-fits
 work_off-requires-clause-fits g c =
     let e = book-task c.args.compiled.now c.args.plan.ask c.args.plan.budget c.dismissed-book.result.0 (view c.args.lead.seat) (view c.args.lead.seat)
-        c.dismissed-book.ensures.task refl c.requires.about in
+    c.dismissed-book.ensures.task refl c.requires.about in
     subst (λ (t : Task). t.budget < 2 ^ 64) (ap (λ (o : Option Task). unwrap_or o no_task) c.requires.about ∙ sym e) c.requires.idle.settled.run.budget
 
 pub reported-requires-clause-task : goal.reported-requires-clause-task
@@ -50,7 +50,7 @@ returns-in-Ok-reported-clause-shared g c = λ never begun left.
     let adds = c.in-Ok.ensures.finishes.adds in
     report-shared c.args.compiled.now c.args.plan.ask c.args.plan.budget c.in-Ok-reported.report
     (report-is c.args.compiled.now c.args.plan.ask c.args.plan.budget w.task c.in-Ok-reported.report (c.in-Ok.ensures.finishes.task ∙ e)
-            c.in-Ok-reported.ensures.report) c.in-Ok-reported.ensures.second
+    c.in-Ok-reported.ensures.report) c.in-Ok-reported.ensures.second
     (view c.args.lead.seat).splits c.args.lead.short never begun crew.0 adds.more c.requires.some
     (subst (λ (t : Task). IsCrewGone t (view c.args.lead.seat).splits c.args.lead.short never begun crew.0) e crew.2)
     (c.in-Ok-reported.ensures.journal ∙ adds.journal ∙ ap (λ (l : List Event). l ++ adds.more) crew.1) adds.main c.in-Ok-reported.ensures.short

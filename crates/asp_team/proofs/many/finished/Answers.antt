@@ -31,8 +31,8 @@ pub returns-else-plan-clause-report : goal.returns-else-plan-clause-report
 returns-else-plan-clause-report g c =
     let first : Report = c.in_ok-report.report in
     IfOk-weaker c.with_ties.result (λ (r : Report). (units : ℕ) →
-            IsReport c.args.compiled.now (asks c.args.plan.ask.mode c.args.plan.ask.models c.args.plan.ask.by_name) units first →
-            IsReport c.args.compiled.now c.args.plan.ask units r) (IsReport c.args.compiled.now c.args.plan.ask c.args.plan.budget)
+    IsReport c.args.compiled.now (asks c.args.plan.ask.mode c.args.plan.ask.models c.args.plan.ask.by_name) units first →
+    IsReport c.args.compiled.now c.args.plan.ask units r) (IsReport c.args.compiled.now c.args.plan.ask c.args.plan.budget)
     (λ r is. is c.args.plan.budget c.in_ok-report.ensures.report) c.with_ties.ensures.report
 
 pub returns-else-plan-clause-proof : goal.returns-else-plan-clause-proof
@@ -44,22 +44,22 @@ pub returns-then-plan-clause-shared : goal.returns-then-plan-clause-shared
 returns-then-plan-clause-shared g c =
     let first : Report = c.in_ok-report.report in
     IfOk-weaker c.with_proof.result (λ (r : Report). r ≡ record first { proof = r.proof })
-        (λ (r : Report). (never : Bool) (begun : List Event) → HaveLeft c.args.lead never begun →
-            IsShared (task_of c.args.compiled.now c.args.plan.ask c.args.plan.budget) r.short never r.journal)
+    (λ (r : Report). (never : Bool) (begun : List Event) → HaveLeft c.args.lead never begun →
+    IsShared (task_of c.args.compiled.now c.args.plan.ask c.args.plan.budget) r.short never r.journal)
     (λ r same never begun left. subst
-            (λ (x : Report). IsShared (task_of c.args.compiled.now c.args.plan.ask c.args.plan.budget) x.short never x.journal) (sym same)
-            (c.in_ok-report.ensures.shared never begun left)) c.with_proof.ensures.same
+    (λ (x : Report). IsShared (task_of c.args.compiled.now c.args.plan.ask c.args.plan.budget) x.short never x.journal) (sym same)
+    (c.in_ok-report.ensures.shared never begun left)) c.with_proof.ensures.same
 
 pub returns-else-plan-clause-shared : goal.returns-else-plan-clause-shared
 returns-else-plan-clause-shared g c =
     let first : Report = c.in_ok-report.report in
     IfOk-weaker c.with_ties.result (λ (r : Report). (r.journal ≡ first.journal) × (r.short ≡ first.short))
-        (λ (r : Report). (never : Bool) (begun : List Event) → HaveLeft c.args.lead never begun →
-            IsShared (task_of c.args.compiled.now c.args.plan.ask c.args.plan.budget) r.short never r.journal)
+    (λ (r : Report). (never : Bool) (begun : List Event) → HaveLeft c.args.lead never begun →
+    IsShared (task_of c.args.compiled.now c.args.plan.ask c.args.plan.budget) r.short never r.journal)
     (λ r same never begun left.
     subst (λ (s : Bool). IsShared (task_of c.args.compiled.now c.args.plan.ask c.args.plan.budget) s never r.journal) (sym same.1)
-        (subst (IsShared (task_of c.args.compiled.now c.args.plan.ask c.args.plan.budget) first.short never) (sym same.0)
-            (c.in_ok-report.ensures.shared never begun left))) c.with_ties.ensures.same
+    (subst (IsShared (task_of c.args.compiled.now c.args.plan.ask c.args.plan.budget) first.short never) (sym same.0)
+    (c.in_ok-report.ensures.shared never begun left))) c.with_ties.ensures.same
 
 pub returns-then-plan-clause-core : goal.returns-then-plan-clause-core
 returns-then-plan-clause-core g c =
@@ -71,4 +71,4 @@ pub returns-else-plan-clause-core : goal.returns-else-plan-clause-core
 returns-else-plan-clause-core g c =
     let first : Report = c.in_ok-report.report in
     IfOk-weaker c.with_ties.result (λ (r : Report). HasCore c.args.compiled.now first → HasCore c.args.compiled.now r) (HasCore c.args.compiled.now)
-        (λ r h. h c.in_ok-report.ensures.core) c.with_ties.ensures.core
+    (λ r h. h c.in_ok-report.ensures.core) c.with_ties.ensures.core

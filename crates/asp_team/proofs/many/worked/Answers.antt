@@ -23,7 +23,7 @@ pub finished-report-requires-clause-idle : goal.finished-report-requires-clause-
 finished-report-requires-clause-idle g c =
     let l = c.requires.team.lead in let k = c.crew-lead.ensures.lead in
     still-idle (view c.args.team.lead.seat) (view c.crew-lead.result.seat) _ c.requires.team.idle c.crew-lead.ensures.joins (k.first ∙ sym l.first)
-        k.rests k.lawful c.args.team.lead.seat.own_seen c.crew-lead.result.seat.own_seen
+    k.rests k.lawful c.args.team.lead.seat.own_seen c.crew-lead.result.seat.own_seen
 
 pub finished-report-requires-clause-home : goal.finished-report-requires-clause-home
 finished-report-requires-clause-home g c =
@@ -44,5 +44,5 @@ returns-clause-shared g c =
     IfOk-weaker c.finished-report.result _ _
     (λ r shared never h. shared never (view c.args.team.lead.seat).seen
     (have-left (g.H.Halt.never c.args.halt.now → ⊥) never (λ e s. s (h e)) c.args.team.shared c.args.team.lead c.crew-lead.result
-            c.args.team.workers.items c.requires.team.forks c.requires.team.ready c.crew-lead.ensures.joins
+    c.args.team.workers.items c.requires.team.forks c.requires.team.ready c.crew-lead.ensures.joins
     c.requires.team.lead.first c.crew-lead.ensures.lead.first c.args.team.lead.seat.own_seen c.crew-lead.result.seat.own_seen c.crew-lead.ensures.came)) c.finished-report.ensures.shared

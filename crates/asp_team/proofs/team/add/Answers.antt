@@ -16,7 +16,7 @@ returns-in_err-push-in-Some-clause-passes c = popped-rest (IsOfPool c.args.share
 pub returns-clause-ready : goal.returns-clause-ready
 returns-clause-ready c =
     ready-more c.args.shared.now c.args.lead.now c.next.new.lead c.args.workers.now.items c.push.new.self.items c.next.result c.requires.ready
-        c.next.ensures.seat c.next.ensures.pages c.next.ensures.may c.next.ensures.number c.next.ensures.began
+    c.next.ensures.seat c.next.ensures.pages c.next.ensures.may c.next.ensures.number c.next.ensures.began
     c.in_ok-push-in-Some.ensures.items
 
 pub returns-clause-passes : goal.returns-clause-passes

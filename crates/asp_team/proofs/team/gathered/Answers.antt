@@ -9,9 +9,11 @@ workers-requires-clause-host c = host-begun c.args.compiled.now c.args.ask c.arg
     c.in_ok-log.ensures.program c.in_ok-log.ensures.first.0
 
 pub workers-requires-clause-none_out : goal.workers-requires-clause-none_out
-workers-requires-clause-none_out c =
-    ((opened-begun c.args.compiled.now c.args.ask c.args.budget (view c.in_ok-book.seat) (omega (arith, c.ranges.budget))
-            c.in_ok-book.ensures.view).out, c.in_ok-log.ensures.first.1)
+workers-requires-clause-none_out c = (
+  (opened-begun c.args.compiled.now c.args.ask c.args.budget (view c.in_ok-book.seat) (omega (arith, c.ranges.budget))
+      c.in_ok-book.ensures.view).out,
+  c.in_ok-log.ensures.first.1,
+)
 
 pub workers-requires-clause-few : goal.workers-requires-clause-few
 workers-requires-clause-few c = omega (arith, c.in_ok-pool.ensures.lanes.0, c.requires.1)

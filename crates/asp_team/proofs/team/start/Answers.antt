@@ -17,4 +17,4 @@ pub returns-clause-view : goal.returns-clause-view
 returns-clause-view c =
     subst (λ (x : Booked). IfOk c.make.result (λ r. view r.1 ≡ opened x.task x.journal))
     (begun c.args.compiled.now c.args.ask c.args.budget c.of.result c.limit.result c.as_slice.result.now c.in_ok-state.state c.in_ok-book.book
-            c.of.ensures c.limit.ensures c.as_slice.ensures c.in_ok-state.ensures c.in_ok-book.ensures) c.make.ensures.view
+    c.of.ensures c.limit.ensures c.as_slice.ensures c.in_ok-state.ensures c.in_ok-book.ensures) c.make.ensures.view

@@ -36,7 +36,8 @@ pub returns-in-None-clause-passes : goal.returns-in-None-clause-passes
 returns-in-None-clause-passes g c =
     let v : Knows = view c.args.seat.now in let w : Knows = view c.count_paths-open.new.seat in let x : Knows = view c.take.new.seat in
     let k = c.in_ok-take.ensures.ok in
-    passes-trans v w x (idles-passes v w c.count_paths-open.ensures.idles) (reply-taken w x c.take.ensures.stays (free-idles v w c.requires.free c.count_paths-open.ensures.idles) k.0 c.in_ok-take.field-0 k.2).0
+    passes-trans v w x (idles-passes v w c.count_paths-open.ensures.idles)
+    (reply-taken w x c.take.ensures.stays (free-idles v w c.requires.free c.count_paths-open.ensures.idles) k.0 c.in_ok-take.field-0 k.2).0
 
 pub returns-in-None-clause-sees : goal.returns-in-None-clause-sees
 returns-in-None-clause-sees g c =
@@ -48,10 +49,13 @@ pub returns-in-Some-clause-passes : goal.returns-in-Some-clause-passes
 returns-in-Some-clause-passes g c =
     let v : Knows = view c.args.seat.now in let w : Knows = view c.count_paths-open.new.seat in let x : Knows = view c.take.new.seat in
     let k = c.in_ok-take.ensures.ok in
-    passes-trans v w x (idles-passes v w c.count_paths-open.ensures.idles) (reply-taken w x c.take.ensures.stays (free-idles v w c.requires.free c.count_paths-open.ensures.idles) k.0 c.in_ok-take.field-0 k.2).0
+    passes-trans v w x (idles-passes v w c.count_paths-open.ensures.idles)
+    (reply-taken w x c.take.ensures.stays (free-idles v w c.requires.free c.count_paths-open.ensures.idles) k.0 c.in_ok-take.field-0 k.2).0
 
 pub returns-in-Some-clause-sees : goal.returns-in-Some-clause-sees
 returns-in-Some-clause-sees g c =
     let v : Knows = view c.args.seat.now in let w : Knows = view c.count_paths-open.new.seat in let x : Knows = view c.take.new.seat in
     let k = c.in_ok-take.ensures.ok in
-    takes-some x c.in_ok-take.field-0 c.in-Some.leaf (reply-taken w x c.take.ensures.stays (free-idles v w c.requires.free c.count_paths-open.ensures.idles) k.0 c.in_ok-take.field-0 k.2).1 c.in-Some.is
+    takes-some x c.in_ok-take.field-0 c.in-Some.leaf
+    (reply-taken w x c.take.ensures.stays (free-idles v w c.requires.free c.count_paths-open.ensures.idles) k.0 c.in_ok-take.field-0 k.2).1
+    c.in-Some.is

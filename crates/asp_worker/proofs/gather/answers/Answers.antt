@@ -24,7 +24,8 @@ list_all-requires-clause-found g c =
     let f = c.requires.found in
     let k = c.in_ok-keep.ensures in
     let G = c.in_ok-pause.ensures.gathers f.0 (cube_of (seen_board v).nodes c.args.leaf)
-    (gathers-begun c.args.shared.now.mode v f.0 c.args.engine.now.search c.args.engine.now.fuel c.args.leaf c.args.set k.0 c.new-found.result.items c.keep.new.found.items c.requires.listing f.1 k.1 c.new-found.ensures.items k.2) in
+    (gathers-begun c.args.shared.now.mode v f.0 c.args.engine.now.search c.args.engine.now.fuel c.args.leaf c.args.set k.0 c.new-found.result.items
+    c.keep.new.found.items c.requires.listing f.1 k.1 c.new-found.ensures.items k.2) in
     (f.0, c.gather.new.engine.search, c.args.engine.now.fuel, c.args.leaf, f.1.on, G)
 
 pub refresh-requires-clause-going : goal.refresh-requires-clause-going
@@ -33,11 +34,13 @@ refresh-requires-clause-going g c =
     let f = c.requires.found in
     let k = c.in_ok-keep.ensures in
     let G = c.in_ok-pause.ensures.gathers f.0 (cube_of (seen_board v).nodes c.args.leaf)
-    (gathers-begun c.args.shared.now.mode v f.0 c.args.engine.now.search c.args.engine.now.fuel c.args.leaf c.args.set k.0 c.new-found.result.items c.keep.new.found.items c.requires.listing f.1 k.1 c.new-found.ensures.items k.2) in
+    (gathers-begun c.args.shared.now.mode v f.0 c.args.engine.now.search c.args.engine.now.fuel c.args.leaf c.args.set k.0 c.new-found.result.items
+    c.keep.new.found.items c.requires.listing f.1 k.1 c.new-found.ensures.items k.2) in
     let w : Knows = view c.list_all.new.seat in
     let l = c.in_ok-list_all.ensures.ok in
     let on : IsOn c.args.shared.now.mode w c.gather.new.engine.search c.gather.new.engine.fuel c.args.leaf =
-    gathered-on v w l.0 c.list_all.ensures.idles.stays c.gather.new.found.items l.1 c.args.shared.now.mode f.0 c.gather.new.engine.search c.args.engine.now.fuel c.args.leaf f.1.on G c.gather.new.engine.fuel c.gather.ensures.engine.0 in
+    gathered-on v w l.0 c.list_all.ensures.idles.stays c.gather.new.found.items l.1 c.args.shared.now.mode f.0 c.gather.new.engine.search
+    c.args.engine.now.fuel c.args.leaf f.1.on G c.gather.new.engine.fuel c.gather.ensures.engine.0 in
     on.going
 
 pub returns-in-Due-clause-ok : goal.returns-in-Due-clause-ok
@@ -46,11 +49,13 @@ returns-in-Due-clause-ok g c =
     let f = c.requires.found in
     let k = c.in_ok-keep.ensures in
     let G = c.in_ok-pause.ensures.gathers f.0 (cube_of (seen_board v).nodes c.args.leaf)
-    (gathers-begun c.args.shared.now.mode v f.0 c.args.engine.now.search c.args.engine.now.fuel c.args.leaf c.args.set k.0 c.new-found.result.items c.keep.new.found.items c.requires.listing f.1 k.1 c.new-found.ensures.items k.2) in
+    (gathers-begun c.args.shared.now.mode v f.0 c.args.engine.now.search c.args.engine.now.fuel c.args.leaf c.args.set k.0 c.new-found.result.items
+    c.keep.new.found.items c.requires.listing f.1 k.1 c.new-found.ensures.items k.2) in
     let w : Knows = view c.list_all.new.seat in
     let l = c.in_ok-list_all.ensures.ok in
     let on : IsOn c.args.shared.now.mode w c.gather.new.engine.search c.gather.new.engine.fuel c.args.leaf =
-    gathered-on v w l.0 c.list_all.ensures.idles.stays c.gather.new.found.items l.1 c.args.shared.now.mode f.0 c.gather.new.engine.search c.args.engine.now.fuel c.args.leaf f.1.on G c.gather.new.engine.fuel c.gather.ensures.engine.0 in
+    gathered-on v w l.0 c.list_all.ensures.idles.stays c.gather.new.found.items l.1 c.args.shared.now.mode f.0 c.gather.new.engine.search
+    c.args.engine.now.fuel c.args.leaf f.1.on G c.gather.new.engine.fuel c.gather.ensures.engine.0 in
     on
 
 pub returns-in-Closed-clause-ok : goal.returns-in-Closed-clause-ok
@@ -59,11 +64,13 @@ returns-in-Closed-clause-ok g c =
     let f = c.requires.found in
     let k = c.in_ok-keep.ensures in
     let G = c.in_ok-pause.ensures.gathers f.0 (cube_of (seen_board v).nodes c.args.leaf)
-    (gathers-begun c.args.shared.now.mode v f.0 c.args.engine.now.search c.args.engine.now.fuel c.args.leaf c.args.set k.0 c.new-found.result.items c.keep.new.found.items c.requires.listing f.1 k.1 c.new-found.ensures.items k.2) in
+    (gathers-begun c.args.shared.now.mode v f.0 c.args.engine.now.search c.args.engine.now.fuel c.args.leaf c.args.set k.0 c.new-found.result.items
+    c.keep.new.found.items c.requires.listing f.1 k.1 c.new-found.ensures.items k.2) in
     let w : Knows = view c.list_all.new.seat in
     let l = c.in_ok-list_all.ensures.ok in
     let on : IsOn c.args.shared.now.mode w c.gather.new.engine.search c.gather.new.engine.fuel c.args.leaf =
-    gathered-on v w l.0 c.list_all.ensures.idles.stays c.gather.new.found.items l.1 c.args.shared.now.mode f.0 c.gather.new.engine.search c.args.engine.now.fuel c.args.leaf f.1.on G c.gather.new.engine.fuel c.gather.ensures.engine.0 in
+    gathered-on v w l.0 c.list_all.ensures.idles.stays c.gather.new.found.items l.1 c.args.shared.now.mode f.0 c.gather.new.engine.search
+    c.args.engine.now.fuel c.args.leaf f.1.on G c.gather.new.engine.fuel c.gather.ensures.engine.0 in
     on
 
 pub returns-in-Closed-clause-course : goal.returns-in-Closed-clause-course
@@ -72,11 +79,13 @@ returns-in-Closed-clause-course g c =
     let f = c.requires.found in
     let k = c.in_ok-keep.ensures in
     let G = c.in_ok-pause.ensures.gathers f.0 (cube_of (seen_board v).nodes c.args.leaf)
-    (gathers-begun c.args.shared.now.mode v f.0 c.args.engine.now.search c.args.engine.now.fuel c.args.leaf c.args.set k.0 c.new-found.result.items c.keep.new.found.items c.requires.listing f.1 k.1 c.new-found.ensures.items k.2) in
+    (gathers-begun c.args.shared.now.mode v f.0 c.args.engine.now.search c.args.engine.now.fuel c.args.leaf c.args.set k.0 c.new-found.result.items
+    c.keep.new.found.items c.requires.listing f.1 k.1 c.new-found.ensures.items k.2) in
     let w : Knows = view c.list_all.new.seat in
     let l = c.in_ok-list_all.ensures.ok in
     let on : IsOn c.args.shared.now.mode w c.gather.new.engine.search c.gather.new.engine.fuel c.args.leaf =
-    gathered-on v w l.0 c.list_all.ensures.idles.stays c.gather.new.found.items l.1 c.args.shared.now.mode f.0 c.gather.new.engine.search c.args.engine.now.fuel c.args.leaf f.1.on G c.gather.new.engine.fuel c.gather.ensures.engine.0 in
+    gathered-on v w l.0 c.list_all.ensures.idles.stays c.gather.new.found.items l.1 c.args.shared.now.mode f.0 c.gather.new.engine.search
+    c.args.engine.now.fuel c.args.leaf f.1.on G c.gather.new.engine.fuel c.gather.ensures.engine.0 in
     subst (λ (x : Pause). IsPause c.gather.new.engine.search x) c.in-Closed.is c.in_ok-pause.ensures.pause (cube_of (seen_board w).nodes c.args.leaf) on.works.entered
 
 pub returns-in_ok-refresh-in-Restarted-clause-ok : goal.returns-in_ok-refresh-in-Restarted-clause-ok
@@ -85,14 +94,17 @@ returns-in_ok-refresh-in-Restarted-clause-ok g c =
     let f = c.requires.found in
     let k = c.in_ok-keep.ensures in
     let G = c.in_ok-pause.ensures.gathers f.0 (cube_of (seen_board v).nodes c.args.leaf)
-    (gathers-begun c.args.shared.now.mode v f.0 c.args.engine.now.search c.args.engine.now.fuel c.args.leaf c.args.set k.0 c.new-found.result.items c.keep.new.found.items c.requires.listing f.1 k.1 c.new-found.ensures.items k.2) in
+    (gathers-begun c.args.shared.now.mode v f.0 c.args.engine.now.search c.args.engine.now.fuel c.args.leaf c.args.set k.0 c.new-found.result.items
+    c.keep.new.found.items c.requires.listing f.1 k.1 c.new-found.ensures.items k.2) in
     let w : Knows = view c.list_all.new.seat in
     let l = c.in_ok-list_all.ensures.ok in
     let on : IsOn c.args.shared.now.mode w c.gather.new.engine.search c.gather.new.engine.fuel c.args.leaf =
-    gathered-on v w l.0 c.list_all.ensures.idles.stays c.gather.new.found.items l.1 c.args.shared.now.mode f.0 c.gather.new.engine.search c.args.engine.now.fuel c.args.leaf f.1.on G c.gather.new.engine.fuel c.gather.ensures.engine.0 in
+    gathered-on v w l.0 c.list_all.ensures.idles.stays c.gather.new.found.items l.1 c.args.shared.now.mode f.0 c.gather.new.engine.search
+    c.args.engine.now.fuel c.args.leaf f.1.on G c.gather.new.engine.fuel c.gather.ensures.engine.0 in
     let x : Knows = view c.refresh.new.worker.seat in
     subst (λ (u : Units). IsOn c.args.shared.now.mode x c.refresh.new.engine.search u c.args.leaf) (sym c.refresh.ensures.fuel)
-    (refreshed-on c.args.shared.now.mode w x c.gather.new.engine.search c.refresh.new.engine.search c.gather.new.engine.fuel c.args.leaf c.refresh.new.worker.pages c.gather.new.engine.read on c.refresh.ensures.idles c.in_ok-refresh-in-Restarted.ensures.ok)
+    (refreshed-on c.args.shared.now.mode w x c.gather.new.engine.search c.refresh.new.engine.search c.gather.new.engine.fuel c.args.leaf
+    c.refresh.new.worker.pages c.gather.new.engine.read on c.refresh.ensures.idles c.in_ok-refresh-in-Restarted.ensures.ok)
 
 pub returns-in_err-keep-clause-keeps : goal.returns-in_err-keep-clause-keeps
 returns-in_err-keep-clause-keeps g c = keeps-self c.args.shared.now c.args.worker.now c.requires.ready
@@ -114,7 +126,9 @@ returns-in_err-list_all-clause-keeps g c =
 pub returns-in_err-list_all-clause-ready : goal.returns-in_err-list_all-clause-ready
 returns-in_err-list_all-clause-ready g c =
     let h : Worker = c.args.worker.now in let k : Worker = record h { seat = c.list_all.new.seat } in
-    ready-seat c.args.shared.now h k c.requires.ready (keeps-seat c.args.shared.now h k c.requires.ready c.list_all.ensures.of c.list_all.ensures.idles.stays refl) c.requires.ready.pool c.list_all.ensures.idles.lawful
+    ready-seat c.args.shared.now h k c.requires.ready
+    (keeps-seat c.args.shared.now h k c.requires.ready c.list_all.ensures.of c.list_all.ensures.idles.stays refl) c.requires.ready.pool
+    c.list_all.ensures.idles.lawful
 
 pub returns-in-Due-clause-keeps : goal.returns-in-Due-clause-keeps
 returns-in-Due-clause-keeps g c =
@@ -124,7 +138,9 @@ returns-in-Due-clause-keeps g c =
 pub returns-in-Due-clause-ready : goal.returns-in-Due-clause-ready
 returns-in-Due-clause-ready g c =
     let h : Worker = c.args.worker.now in let k : Worker = record h { seat = c.list_all.new.seat } in
-    ready-seat c.args.shared.now h k c.requires.ready (keeps-seat c.args.shared.now h k c.requires.ready c.list_all.ensures.of c.list_all.ensures.idles.stays refl) c.requires.ready.pool c.list_all.ensures.idles.lawful
+    ready-seat c.args.shared.now h k c.requires.ready
+    (keeps-seat c.args.shared.now h k c.requires.ready c.list_all.ensures.of c.list_all.ensures.idles.stays refl) c.requires.ready.pool
+    c.list_all.ensures.idles.lawful
 
 pub returns-in-Closed-clause-keeps : goal.returns-in-Closed-clause-keeps
 returns-in-Closed-clause-keeps g c =
@@ -134,12 +150,16 @@ returns-in-Closed-clause-keeps g c =
 pub returns-in-Closed-clause-ready : goal.returns-in-Closed-clause-ready
 returns-in-Closed-clause-ready g c =
     let h : Worker = c.args.worker.now in let k : Worker = record h { seat = c.list_all.new.seat } in
-    ready-seat c.args.shared.now h k c.requires.ready (keeps-seat c.args.shared.now h k c.requires.ready c.list_all.ensures.of c.list_all.ensures.idles.stays refl) c.requires.ready.pool c.list_all.ensures.idles.lawful
+    ready-seat c.args.shared.now h k c.requires.ready
+    (keeps-seat c.args.shared.now h k c.requires.ready c.list_all.ensures.of c.list_all.ensures.idles.stays refl) c.requires.ready.pool
+    c.list_all.ensures.idles.lawful
 
 pub refresh-requires-clause-ready : goal.refresh-requires-clause-ready
 refresh-requires-clause-ready g c =
     let h : Worker = c.args.worker.now in let k : Worker = record h { seat = c.list_all.new.seat } in
-    ready-seat c.args.shared.now h k c.requires.ready (keeps-seat c.args.shared.now h k c.requires.ready c.list_all.ensures.of c.list_all.ensures.idles.stays refl) c.requires.ready.pool c.list_all.ensures.idles.lawful
+    ready-seat c.args.shared.now h k c.requires.ready
+    (keeps-seat c.args.shared.now h k c.requires.ready c.list_all.ensures.of c.list_all.ensures.idles.stays refl) c.requires.ready.pool
+    c.list_all.ensures.idles.lawful
 
 pub refresh-requires-clause-read : goal.refresh-requires-clause-read
 refresh-requires-clause-read g c = subst (λ n. n ≤ seen_count c.args.worker.now.pages) (sym c.gather.ensures.engine.1) c.requires.read

@@ -16,7 +16,11 @@ returns-then-is_enough-clause-read g c = still-seen c.args.engine.now.read c.arg
 pub returns-then-is_enough-clause-err : goal.returns-then-is_enough-clause-err
 returns-then-is_enough-clause-err g c =
     let v : Knows = view c.args.worker.now.seat in let w : Knows = view c.is_enough.new.worker.seat in
-    record { held = holds-idles v w c.args.leaf.now c.requires.held c.is_enough.ensures.idles; units = owes-on v w c.args.engine.now.fuel (owes-of c.requires.going) (idles-passes v w c.is_enough.ensures.idles) }
+    record {
+      held = holds-idles v w c.args.leaf.now c.requires.held c.is_enough.ensures.idles;
+      units =
+          owes-on v w c.args.engine.now.fuel (owes-of c.requires.going) (idles-passes v w c.is_enough.ensures.idles);
+    }
 
 pub begin-requires-clause-held : goal.begin-requires-clause-held
 begin-requires-clause-held g c = holds-idles (view c.args.worker.now.seat) (view c.is_enough.new.worker.seat) c.args.leaf.now c.requires.held c.is_enough.ensures.idles
@@ -34,7 +38,9 @@ search_path-requires-clause-number g c = subst (λ n. 0 < n) (sym (c.begin.ensur
 
 pub returns-clause-keeps : goal.returns-clause-keeps
 returns-clause-keeps g c =
-    keeps-trans c.args.worker.now c.begin.new.worker c.search_path.new.worker (keeps-trans c.args.worker.now c.is_enough.new.worker c.begin.new.worker c.is_enough.ensures.keeps c.begin.ensures.keeps) c.search_path.ensures.keeps
+    keeps-trans c.args.worker.now c.begin.new.worker c.search_path.new.worker
+    (keeps-trans c.args.worker.now c.is_enough.new.worker c.begin.new.worker c.is_enough.ensures.keeps c.begin.ensures.keeps)
+    c.search_path.ensures.keeps
 
 pub returns-in_err-begin-clause-keeps : goal.returns-in_err-begin-clause-keeps
 returns-in_err-begin-clause-keeps g c = keeps-trans c.args.worker.now c.is_enough.new.worker c.begin.new.worker c.is_enough.ensures.keeps c.begin.ensures.keeps

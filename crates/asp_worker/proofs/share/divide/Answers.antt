@@ -15,24 +15,35 @@ returns-in_err-split-clause-keeps g c =
     keeps-seat c.args.shared.now h k c.requires.ready c.split.ensures.of c.split.ensures.stays refl
 
 pub returns-in_err-split-clause-passes : goal.returns-in_err-split-clause-passes
-returns-in_err-split-clause-passes g c = idles-passes (view c.args.worker.now.seat) (view c.split.new.seat) (none-idles (view c.args.worker.now.seat) (view c.split.new.seat) c.split.ensures.stays c.in_err-split.ensures.err)
+returns-in_err-split-clause-passes g c =
+    idles-passes (view c.args.worker.now.seat) (view c.split.new.seat)
+    (none-idles (view c.args.worker.now.seat) (view c.split.new.seat) c.split.ensures.stays c.in_err-split.ensures.err)
 
 pub returns-in_err-split-clause-half : goal.returns-in_err-split-clause-half
 returns-in_err-split-clause-half g c =
     half-err (view c.args.worker.now.seat) (view c.split.new.seat) c.args.leaf c.args.lit c.from_residual.result c.from_residual.ensures.0
-    (holds-idles (view c.args.worker.now.seat) (view c.split.new.seat) c.args.leaf c.requires.held (none-idles (view c.args.worker.now.seat) (view c.split.new.seat) c.split.ensures.stays c.in_err-split.ensures.err))
+    (holds-idles (view c.args.worker.now.seat) (view c.split.new.seat) c.args.leaf c.requires.held
+    (none-idles (view c.args.worker.now.seat) (view c.split.new.seat) c.split.ensures.stays c.in_err-split.ensures.err))
 
 pub returns-in-None-clause-passes : goal.returns-in-None-clause-passes
-returns-in-None-clause-passes g c = let k = c.in_ok-split.ensures.ok in divided-passes (view c.args.worker.now.seat) (view c.split.new.seat) c.split.ensures.stays c.args.leaf c.args.lit c.requires.held k.0 c.in_ok-split.field-0 k.2
+returns-in-None-clause-passes g c = let k = c.in_ok-split.ensures.ok in
+    divided-passes (view c.args.worker.now.seat) (view c.split.new.seat) c.split.ensures.stays c.args.leaf c.args.lit c.requires.held k.0
+    c.in_ok-split.field-0 k.2
 
 pub returns-in-None-clause-half : goal.returns-in-None-clause-half
-returns-in-None-clause-half g c = let k = c.in_ok-split.ensures.ok in divided-none (view c.args.worker.now.seat) (view c.split.new.seat) c.split.ensures.stays c.args.leaf c.args.lit c.requires.held k.0 c.in_ok-split.field-0 c.in-None.is k.2
+returns-in-None-clause-half g c = let k = c.in_ok-split.ensures.ok in
+    divided-none (view c.args.worker.now.seat) (view c.split.new.seat) c.split.ensures.stays c.args.leaf c.args.lit c.requires.held k.0
+    c.in_ok-split.field-0 c.in-None.is k.2
 
 pub returns-in-Some-clause-passes : goal.returns-in-Some-clause-passes
-returns-in-Some-clause-passes g c = let k = c.in_ok-split.ensures.ok in divided-passes (view c.args.worker.now.seat) (view c.split.new.seat) c.split.ensures.stays c.args.leaf c.args.lit c.requires.held k.0 c.in_ok-split.field-0 k.2
+returns-in-Some-clause-passes g c = let k = c.in_ok-split.ensures.ok in
+    divided-passes (view c.args.worker.now.seat) (view c.split.new.seat) c.split.ensures.stays c.args.leaf c.args.lit c.requires.held k.0
+    c.in_ok-split.field-0 k.2
 
 pub returns-in-Some-clause-half : goal.returns-in-Some-clause-half
-returns-in-Some-clause-half g c = let k = c.in_ok-split.ensures.ok in divided-some (view c.args.worker.now.seat) (view c.split.new.seat) c.split.ensures.stays c.args.leaf c.args.lit c.requires.held k.0 c.in_ok-split.field-0 c.in-Some.mine c.in-Some.half c.in-Some.is k.1.leaves k.2
+returns-in-Some-clause-half g c = let k = c.in_ok-split.ensures.ok in
+    divided-some (view c.args.worker.now.seat) (view c.split.new.seat) c.split.ensures.stays c.args.leaf c.args.lit c.requires.held k.0
+    c.in_ok-split.field-0 c.in-Some.mine c.in-Some.half c.in-Some.is k.1.leaves k.2
 
 pub returns-in_err-split-clause-ready : goal.returns-in_err-split-clause-ready
 returns-in_err-split-clause-ready g c =

@@ -18,7 +18,8 @@ use Rattle.asp_worker.proofs.share.enter.Goals as goal
 pub enter-requires : goal.enter-requires
 enter-requires g c =
     subst (λ (q : List Literal). All (λ (l : Literal). IsVar (var_count c.args.search.now.program) l.var) q) (sym (c.as_slice.ensures.value ∙ c.in_ok-cube.ensures.ok))
-    (subst (λ (p : Program). All (λ (l : Literal). IsVar (var_count p) l.var) (cube_of (seen_board (view c.args.seat.now)).nodes c.args.leaf)) (sym c.requires.program) (cube-vars (view c.args.seat.now) c.args.leaf c.requires.settled c.requires.held))
+    (subst (λ (p : Program). All (λ (l : Literal). IsVar (var_count p) l.var) (cube_of (seen_board (view c.args.seat.now)).nodes c.args.leaf))
+    (sym c.requires.program) (cube-vars (view c.args.seat.now) c.args.leaf c.requires.settled c.requires.held))
 
 pub returns-in_err-cube-clause-idles : goal.returns-in_err-cube-clause-idles
 returns-in_err-cube-clause-idles g c = idles-call (view c.args.seat.now) (view c.cube.new.seat) c.cube.ensures.call.0 c.cube.ensures.stays c.cube.ensures.call.1
@@ -30,7 +31,8 @@ pub returns-clause-ok : goal.returns-clause-ok
 returns-clause-ok g c =
     let v : Knows = view c.args.seat.now in let w : Knows = view c.cube.new.seat in
     let i : Idles v w = idles-call v w c.cube.ensures.call.0 c.cube.ensures.stays c.cube.ensures.call.1 in
-    subst (λ (q : List Literal). OnOk c.enter.result (Enters c.args.search.now c.enter.new.self q)) (c.as_slice.ensures.value ∙ c.in_ok-cube.ensures.ok ∙ sym (cube-idles v w c.args.leaf c.requires.held i)) c.enter.ensures.ok
+    subst (λ (q : List Literal). OnOk c.enter.result (Enters c.args.search.now c.enter.new.self q))
+    (c.as_slice.ensures.value ∙ c.in_ok-cube.ensures.ok ∙ sym (cube-idles v w c.args.leaf c.requires.held i)) c.enter.ensures.ok
 
 pub returns-clause-err : goal.returns-clause-err
 returns-clause-err g c = on-err c.enter.result (λ e. ap (λ (x : Searching). x.program) e) c.enter.ensures.err

@@ -23,7 +23,8 @@ returns-then-is_enough-clause-err g c =
 
 pub offer_half-requires-clause-on : goal.offer_half-requires-clause-on
 offer_half-requires-clause-on g c =
-    on-on c.args.shared.now.mode (view c.args.worker.now.seat) (view c.is_enough.new.worker.seat) c.args.engine.now.search c.args.engine.now.fuel c.args.leaf.now c.requires.on c.is_enough.ensures.idles
+    on-on c.args.shared.now.mode (view c.args.worker.now.seat) (view c.is_enough.new.worker.seat) c.args.engine.now.search c.args.engine.now.fuel
+    c.args.leaf.now c.requires.on c.is_enough.ensures.idles
 
 pub offer_half-requires-clause-read : goal.offer_half-requires-clause-read
 offer_half-requires-clause-read g c = still-seen c.args.engine.now.read c.args.worker.now.pages c.is_enough.new.worker.pages c.is_enough.ensures.keeps.pages c.requires.read
@@ -35,7 +36,9 @@ pub returns-in_err-offer_half-clause-keeps : goal.returns-in_err-offer_half-clau
 returns-in_err-offer_half-clause-keeps g c = keeps-trans c.args.worker.now c.is_enough.new.worker c.offer_half.new.worker c.is_enough.ensures.keeps c.offer_half.ensures.keeps
 
 pub returns-in_err-offer_half-clause-err : goal.returns-in_err-offer_half-clause-err
-returns-in_err-offer_half-clause-err g c = always-err c.from_residual.result (IsOff (view c.offer_half.new.worker.seat) c.offer_half.new.engine.fuel c.offer_half.new.leaf) c.in_err-offer_half.ensures.err
+returns-in_err-offer_half-clause-err g c =
+    always-err c.from_residual.result (IsOff (view c.offer_half.new.worker.seat) c.offer_half.new.engine.fuel c.offer_half.new.leaf)
+    c.in_err-offer_half.ensures.err
 
 pub returns-then-is_enough-clause-stop : goal.returns-then-is_enough-clause-stop
 returns-then-is_enough-clause-stop g c = was-now (λ b. is_enough b ≡ true) (view c.is_enough.new.worker.seat) (c.is_enough.ensures.enough c.if-is_enough.true)
@@ -45,4 +48,5 @@ returns-in_err-offer_half-clause-stop g c = memory-stop (view c.offer_half.new.w
 
 pub returns-then-not-is_ripe-clause-ok : goal.returns-then-not-is_ripe-clause-ok
 returns-then-not-is_ripe-clause-ok g c =
-    on-on c.args.shared.now.mode (view c.args.worker.now.seat) (view c.is_enough.new.worker.seat) c.args.engine.now.search c.args.engine.now.fuel c.args.leaf.now c.requires.on c.is_enough.ensures.idles
+    on-on c.args.shared.now.mode (view c.args.worker.now.seat) (view c.is_enough.new.worker.seat) c.args.engine.now.search c.args.engine.now.fuel
+    c.args.leaf.now c.requires.on c.is_enough.ensures.idles

@@ -26,7 +26,8 @@ returns-then-not-wanted-clause-ready g c =
 pub returns-then-not-wanted-clause-ok : goal.returns-then-not-wanted-clause-ok
 returns-then-not-wanted-clause-ok g c =
     let v : Knows = view c.args.worker.now.seat in let m : Knows = view c.wanted.new.seat in
-    on-on c.args.shared.now.mode v m c.args.engine.now.search c.args.engine.now.fuel c.args.leaf.now c.requires.on (idles-call v m c.wanted.ensures.call.0 c.wanted.ensures.stays c.wanted.ensures.call.2)
+    on-on c.args.shared.now.mode v m c.args.engine.now.search c.args.engine.now.fuel c.args.leaf.now c.requires.on
+    (idles-call v m c.wanted.ensures.call.0 c.wanted.ensures.stays c.wanted.ensures.call.2)
 
 pub split_on-requires-clause-ready : goal.split_on-requires-clause-ready
 split_on-requires-clause-ready g c =
@@ -37,7 +38,8 @@ split_on-requires-clause-ready g c =
 pub split_on-requires-clause-on : goal.split_on-requires-clause-on
 split_on-requires-clause-on g c =
     let v : Knows = view c.args.worker.now.seat in let m : Knows = view c.wanted.new.seat in
-    on-on c.args.shared.now.mode v m c.args.engine.now.search c.args.engine.now.fuel c.args.leaf.now c.requires.on (idles-call v m c.wanted.ensures.call.0 c.wanted.ensures.stays c.wanted.ensures.call.2)
+    on-on c.args.shared.now.mode v m c.args.engine.now.search c.args.engine.now.fuel c.args.leaf.now c.requires.on
+    (idles-call v m c.wanted.ensures.call.0 c.wanted.ensures.stays c.wanted.ensures.call.2)
 
 pub split_on-requires-clause-open : goal.split_on-requires-clause-open
 split_on-requires-clause-open g c = λ q e. subst (λ (x : Option Literal). IfSome x (IsOpen c.args.engine.now.search.program q)) c.in-Some.is (c.divider.ensures q e)

@@ -14,14 +14,16 @@ pub import-requires-clause-vars : goal.import-requires-clause-vars
 import-requires-clause-vars g c =
     let lt : c.loop-i.i < length (listed c.args.entries.now) = omega (arith, c.loop-i-test.true, c.len-i-end.ensures) in
     let same = slots-only (take c.loop-i.i (listed c.args.entries.now)) c.args.search.now c.loop-i.search c.loop-i.invariant in
-    let e = subst (λ (p : Program). IsEntry p c.entry.result.now) (sym (ap (λ (x : Searching). x.program) same)) (all-at (IsEntry c.args.search.now.program) (listed c.args.entries.now) c.loop-i.i c.entry.result.now c.requires.good lt c.entry.ensures) in
+    let e = subst (λ (p : Program). IsEntry p c.entry.result.now) (sym (ap (λ (x : Searching). x.program) same))
+    (all-at (IsEntry c.args.search.now.program) (listed c.args.entries.now) c.loop-i.i c.entry.result.now c.requires.good lt c.entry.ensures) in
     e.variables
 
 pub import-requires-clause-good : goal.import-requires-clause-good
 import-requires-clause-good g c =
     let lt : c.loop-i.i < length (listed c.args.entries.now) = omega (arith, c.loop-i-test.true, c.len-i-end.ensures) in
     let same = slots-only (take c.loop-i.i (listed c.args.entries.now)) c.args.search.now c.loop-i.search c.loop-i.invariant in
-    let e = subst (λ (p : Program). IsEntry p c.entry.result.now) (sym (ap (λ (x : Searching). x.program) same)) (all-at (IsEntry c.args.search.now.program) (listed c.args.entries.now) c.loop-i.i c.entry.result.now c.requires.good lt c.entry.ensures) in
+    let e = subst (λ (p : Program). IsEntry p c.entry.result.now) (sym (ap (λ (x : Searching). x.program) same))
+    (all-at (IsEntry c.args.search.now.program) (listed c.args.entries.now) c.loop-i.i c.entry.result.now c.requires.good lt c.entry.ensures) in
     λ _. e.shared
 
 pub loop-i-init : goal.loop-i-init
@@ -37,7 +39,8 @@ loop-i-preserved g c =
 pub returns-in_err-_used-clause-err : goal.returns-in_err-_used-clause-err
 returns-in_err-_used-clause-err g c =
     always-err c.from_residual.result (Remembers c.args.search.now c.import.new.self)
-    (forgotten-after (take c.loop-i.i (listed c.args.entries.now)) c.args.search.now c.loop-i.search c.import.new.self c.loop-i.invariant (forgotten-leaves c.loop-i.search c.import.new.self c.in_err-_used.ensures.err))
+    (forgotten-after (take c.loop-i.i (listed c.args.entries.now)) c.args.search.now c.loop-i.search c.import.new.self c.loop-i.invariant
+    (forgotten-leaves c.loop-i.search c.import.new.self c.in_err-_used.ensures.err))
 
 pub returns-clause-ok : goal.returns-clause-ok
 returns-clause-ok g c =

@@ -40,7 +40,9 @@ pub import_all-requires-clause-few : goal.import_all-requires-clause-few
 import_all-requires-clause-few g c = omega (arith, c.in_ok-entries.ensures.ok.count, c.read.ensures.few)
 
 pub import_all-requires-clause-good : goal.import_all-requires-clause-good
-import_all-requires-clause-good g c = (read-for c.args.shared.now.log c.args.search.now.program c.read.new.seat c.args.read.now (listed c.in_ok-entries.entries) c.requires.program c.in_ok-entries.ensures.ok).good
+import_all-requires-clause-good g c =
+    (read-for c.args.shared.now.log c.args.search.now.program c.read.new.seat c.args.read.now (listed c.in_ok-entries.entries) c.requires.program
+    c.in_ok-entries.ensures.ok).good
 
 pub returns-in_err-import_all-clause-reads : goal.returns-in_err-import_all-clause-reads
 returns-in_err-import_all-clause-reads g c = reads-trans c.args.pages.now c.count.new.seat c.read.new.seat c.count.ensures.reads c.read.ensures.reads

@@ -43,7 +43,9 @@ pub returns-in-Some-clause-ok : goal.returns-in-Some-clause-ok
 returns-in-Some-clause-ok g c =
     let f = c.requires.found in let k = c.in_ok-improve.ensures.ok in let w = view c.improve.new.seat in let t = c.args.engine.now.search in let u = c.args.engine.now.fuel in
     let goes = unimproved-by (view c.args.seat.now) w k.0 c.improve.ensures.stays f.0 t u f.1 c.args.set f.2 c.in_ok-improve.field-0 c.in-Some.best c.in-Some.is k.1 k.2 in
-    on-ok c.lower_bound.result (λ (e : c.lower_bound.new.search ≡ _). (subst (λ (x : Searching). GoesOn Opt w x u) (sym e) goes, ap (λ (x : Searching). x.cube) e ∙ (lowered-same t c.in-Some.best).3)) c.lower_bound.ensures.ok
+    on-ok c.lower_bound.result (λ (e : c.lower_bound.new.search ≡ _).
+    (subst (λ (x : Searching). GoesOn Opt w x u) (sym e) goes, ap (λ (x : Searching). x.cube) e ∙ (lowered-same t c.in-Some.best).3))
+    c.lower_bound.ensures.ok
 
 pub returns-in-Some-clause-err : goal.returns-in-Some-clause-err
 returns-in-Some-clause-err g c = on-err c.lower_bound.result (λ e. ap (λ (x : Searching). x.program) e) c.lower_bound.ensures.err

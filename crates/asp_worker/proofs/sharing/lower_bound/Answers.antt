@@ -13,4 +13,6 @@ returns-then-not-beats-clause-ok g c = lowered-else c.args.search.now c.args.cos
 
 pub returns-clause-ok : goal.returns-clause-ok
 returns-clause-ok g c =
-    subst (λ (x : Searching). OnOk c.set_bound.result (c.set_bound.new.self ≡ x)) (lowered-then c.args.search.now c.args.cost c.beats.result (c.beats.ensures ∙ ap (is_smaller c.args.cost) c.bound.ensures) c.if-not-beats.false) c.set_bound.ensures.ok
+    subst (λ (x : Searching). OnOk c.set_bound.result (c.set_bound.new.self ≡ x))
+    (lowered-then c.args.search.now c.args.cost c.beats.result (c.beats.ensures ∙ ap (is_smaller c.args.cost) c.bound.ensures)
+    c.if-not-beats.false) c.set_bound.ensures.ok

@@ -22,7 +22,9 @@ returns-in_err-take_best-clause-keeps g c =
 pub returns-in_err-take_best-clause-ready : goal.returns-in_err-take_best-clause-ready
 returns-in_err-take_best-clause-ready g c =
     let h : Worker = c.args.worker.now in let k : Worker = record h { seat = c.take_best.new.seat } in
-    ready-seat c.args.shared.now h k c.requires.ready (keeps-seat c.args.shared.now h k c.requires.ready c.take_best.ensures.of c.take_best.ensures.idles.stays refl) c.requires.ready.pool c.take_best.ensures.idles.lawful
+    ready-seat c.args.shared.now h k c.requires.ready
+    (keeps-seat c.args.shared.now h k c.requires.ready c.take_best.ensures.of c.take_best.ensures.idles.stays refl) c.requires.ready.pool
+    c.take_best.ensures.idles.lawful
 
 pub returns-in_err-take_best-clause-err : goal.returns-in_err-take_best-clause-err
 returns-in_err-take_best-clause-err g c = always-err c.from_residual.result _ (inl c.in_err-take_best.ensures.err)
@@ -40,7 +42,9 @@ returns-clause-keeps g c = record { book = c.take_best.ensures.of; seat = c.take
 pub returns-clause-ready : goal.returns-clause-ready
 returns-clause-ready g c =
     let h : Worker = c.args.worker.now in let k : Worker = record h { seat = c.take_best.new.seat; pages = c.import_new.new.pages } in
-    ready-seat c.args.shared.now h k c.requires.ready (record { book = c.take_best.ensures.of; seat = c.take_best.ensures.idles.stays; pages = c.import_new.ensures.reads }) c.requires.ready.pool c.take_best.ensures.idles.lawful
+    ready-seat c.args.shared.now h k c.requires.ready
+    (record { book = c.take_best.ensures.of; seat = c.take_best.ensures.idles.stays; pages = c.import_new.ensures.reads }) c.requires.ready.pool
+    c.take_best.ensures.idles.lawful
 
 pub returns-clause-ok : goal.returns-clause-ok
 returns-clause-ok g c = on-ok c.import_new.result (λ e. record { between = c.take_best.new.search; best = c.in_ok-take_best.ensures.ok; imported = e }) c.import_new.ensures.ok

@@ -24,7 +24,8 @@ returns-in-None-clause-idles g c = let k = c.in_ok-best-in-Opt.ensures.ok in idl
 pub returns-in-None-clause-ok : goal.returns-in-None-clause-ok
 returns-in-None-clause-ok g c =
     let k = c.in_ok-best-in-Opt.ensures.ok in let w = view c.best.new.seat in
-    best-then c.args.shared.now.mode (seen_board w) c.args.search.now c.args.search.now c.in_ok-best-in-Opt.field-0 None c.in-Opt.is (best-seen (view c.args.seat.now) w k.0 c.best.ensures.stays k.2 c.in_ok-best-in-Opt.field-0 k.1) c.in-None.is refl
+    best-then c.args.shared.now.mode (seen_board w) c.args.search.now c.args.search.now c.in_ok-best-in-Opt.field-0 None c.in-Opt.is
+    (best-seen (view c.args.seat.now) w k.0 c.best.ensures.stays k.2 c.in_ok-best-in-Opt.field-0 k.1) c.in-None.is refl
 
 pub returns-in-Some-clause-idles : goal.returns-in-Some-clause-idles
 returns-in-Some-clause-idles g c = let k = c.in_ok-best-in-Opt.ensures.ok in idles-call (view c.args.seat.now) (view c.best.new.seat) k.0 c.best.ensures.stays k.2
@@ -32,7 +33,8 @@ returns-in-Some-clause-idles g c = let k = c.in_ok-best-in-Opt.ensures.ok in idl
 pub returns-in-Some-clause-ok : goal.returns-in-Some-clause-ok
 returns-in-Some-clause-ok g c =
     let k = c.in_ok-best-in-Opt.ensures.ok in let w = view c.best.new.seat in
-    on-ok c.lower_bound.result (λ (e : c.lower_bound.new.search ≡ _). best-then c.args.shared.now.mode (seen_board w) c.args.search.now c.lower_bound.new.search c.in_ok-best-in-Opt.field-0 (Some c.in-Some.best) c.in-Opt.is
+    on-ok c.lower_bound.result (λ (e : c.lower_bound.new.search ≡ _). best-then c.args.shared.now.mode (seen_board w) c.args.search.now
+    c.lower_bound.new.search c.in_ok-best-in-Opt.field-0 (Some c.in-Some.best) c.in-Opt.is
     (best-seen (view c.args.seat.now) w k.0 c.best.ensures.stays k.2 c.in_ok-best-in-Opt.field-0 k.1) c.in-Some.is e) c.lower_bound.ensures.ok
 
 pub returns-in-Some-clause-err : goal.returns-in-Some-clause-err
@@ -44,12 +46,14 @@ returns-in_err-best-in-Opt-clause-err g c = always-err c.from_residual.result (R
 pub take_known-requires-clause-program : goal.take_known-requires-clause-program
 take_known-requires-clause-program g c =
     let k = c.in_ok-known-in-Consequences.ensures.ok in let v = view c.args.seat.now in let w = view c.known.new.seat in
-    (taken-over c.args.shared.now.mode v w k.0 c.known.ensures.stays k.2 c.args.search.now c.requires.going.0 c.in_ok-known-in-Consequences.field-0 c.in-Some-2.known c.requires.going.1 k.1 c.in-Some-2.is).program
+    (taken-over c.args.shared.now.mode v w k.0 c.known.ensures.stays k.2 c.args.search.now c.requires.going.0 c.in_ok-known-in-Consequences.field-0
+    c.in-Some-2.known c.requires.going.1 k.1 c.in-Some-2.is).program
 
 pub take_known-requires-clause-all : goal.take_known-requires-clause-all
 take_known-requires-clause-all g c =
     let k = c.in_ok-known-in-Consequences.ensures.ok in let v = view c.args.seat.now in let w = view c.known.new.seat in
-    (taken-over c.args.shared.now.mode v w k.0 c.known.ensures.stays k.2 c.args.search.now c.requires.going.0 c.in_ok-known-in-Consequences.field-0 c.in-Some-2.known c.requires.going.1 k.1 c.in-Some-2.is).all
+    (taken-over c.args.shared.now.mode v w k.0 c.known.ensures.stays k.2 c.args.search.now c.requires.going.0 c.in_ok-known-in-Consequences.field-0
+    c.in-Some-2.known c.requires.going.1 k.1 c.in-Some-2.is).all
 
 pub returns-in_err-known-in-Consequences-clause-idles : goal.returns-in_err-known-in-Consequences-clause-idles
 returns-in_err-known-in-Consequences-clause-idles g c = none-idles (view c.args.seat.now) (view c.known.new.seat) c.known.ensures.stays c.in_err-known-in-Consequences.ensures.err
@@ -60,9 +64,11 @@ returns-in-Some-2-clause-idles g c = let k = c.in_ok-known-in-Consequences.ensur
 pub returns-in-Some-2-clause-ok : goal.returns-in-Some-2-clause-ok
 returns-in-Some-2-clause-ok g c =
     let k = c.in_ok-known-in-Consequences.ensures.ok in let v = view c.args.seat.now in let w = view c.known.new.seat in
-    on-ok c.take_known.result (taken-best c.args.shared.now.mode v w k.0 c.known.ensures.stays k.2 c.args.search.now c.take_known.new.search c.requires.going.0 c.in_ok-known-in-Consequences.field-0 c.in-Some-2.known c.requires.going.1 k.1 c.in-Some-2.is) c.take_known.ensures.ok
+    on-ok c.take_known.result (taken-best c.args.shared.now.mode v w k.0 c.known.ensures.stays k.2 c.args.search.now c.take_known.new.search
+    c.requires.going.0 c.in_ok-known-in-Consequences.field-0 c.in-Some-2.known c.requires.going.1 k.1 c.in-Some-2.is) c.take_known.ensures.ok
 
 pub returns-in-None-2-clause-ok : goal.returns-in-None-2-clause-ok
 returns-in-None-2-clause-ok g c =
     let k = c.in_ok-known-in-Consequences.ensures.ok in let v = view c.args.seat.now in let w = view c.known.new.seat in
-    always-known c.args.shared.now.mode c.in-Consequences.field-0 v w k.0 c.known.ensures.stays k.2 c.args.search.now c.args.search.now c.requires.going.0 c.in_ok-known-in-Consequences.field-0 c.requires.going.1 c.in-Consequences.is k.1 c.in-None-2.is
+    always-known c.args.shared.now.mode c.in-Consequences.field-0 v w k.0 c.known.ensures.stays k.2 c.args.search.now c.args.search.now
+    c.requires.going.0 c.in_ok-known-in-Consequences.field-0 c.requires.going.1 c.in-Consequences.is k.1 c.in-None-2.is

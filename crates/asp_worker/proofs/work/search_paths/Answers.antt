@@ -12,7 +12,14 @@ use Rattle.asp_worker.proofs.OwnLaws.{quiet-later}
 use Rattle.asp_worker.proofs.work.search_paths.Goals as goal
 
 pub paths-init : goal.paths-init
-paths-init g c = record { keeps = keeps-self c.args.shared.now c.args.worker.now c.requires.ready; ready = c.requires.ready; held = c.requires.held; going = c.requires.going; read = c.requires.read; heard = g.met.W.Watch.begins c.args.watch.now }
+paths-init g c = record {
+  keeps = keeps-self c.args.shared.now c.args.worker.now c.requires.ready;
+  ready = c.requires.ready;
+  held = c.requires.held;
+  going = c.requires.going;
+  read = c.requires.read;
+  heard = g.met.W.Watch.begins c.args.watch.now;
+}
 
 pub try_path-requires-clause-number : goal.try_path-requires-clause-number
 try_path-requires-clause-number g c = subst (λ n. 0 < n) (sym c.paths.invariant.keeps.seat.number) c.requires.number
@@ -20,7 +27,8 @@ try_path-requires-clause-number g c = subst (λ n. 0 < n) (sym c.paths.invariant
 pub paths-preserved : goal.paths-preserved
 paths-preserved g c =
     let h : Worker = c.try_path.new.worker in let k : Worker = record h { seat = c.find.new.seat; lane = c.find.new.lane; pass = c.find.new.pass } in
-    let ended = subst (λ (x : Way). Ended (g.H.Halt.never c.args.halt.now → ⊥) c.args.shared.now.mode (view c.try_path.new.worker.seat) c.try_path.new.engine.search c.try_path.new.engine.fuel x) c.in-Closed.is c.try_path.ensures.going in
+    let ended = subst (λ (x : Way). Ended (g.H.Halt.never c.args.halt.now → ⊥) c.args.shared.now.mode (view c.try_path.new.worker.seat)
+    c.try_path.new.engine.search c.try_path.new.engine.fuel x) c.in-Closed.is c.try_path.ensures.going in
     let ready : IsReady c.args.shared.now h = placed-ready c.args.shared.now h c.try_path.ensures.placed ended.1 in
     let seat : Keeps h k = keeps-seat c.args.shared.now h k ready c.find.ensures.of c.find.ensures.passes.stays refl in
     let keeps : Keeps c.args.worker.now k = keeps-trans c.args.worker.now h k (keeps-trans c.args.worker.now c.paths.worker h c.paths.invariant.keeps c.try_path.ensures.keeps) seat in
@@ -46,7 +54,9 @@ pub returns-in-Short-clause-heard : goal.returns-in-Short-clause-heard
 returns-in-Short-clause-heard g c = g.met.W.Watch.goes_on c.args.watch.now c.paths.watch c.try_path.new.watch c.paths.invariant.heard c.try_path.ensures.heard
 
 pub returns-in-Left-clause-cause : goal.returns-in-Left-clause-cause
-returns-in-Left-clause-cause g c = inr (inr (subst (λ (x : Way). Ended (g.H.Halt.never c.args.halt.now → ⊥) c.args.shared.now.mode (view c.try_path.new.worker.seat) c.try_path.new.engine.search c.try_path.new.engine.fuel x) c.in-Left.is c.try_path.ensures.going))
+returns-in-Left-clause-cause g c = inr (inr
+    (subst (λ (x : Way). Ended (g.H.Halt.never c.args.halt.now → ⊥) c.args.shared.now.mode (view c.try_path.new.worker.seat)
+    c.try_path.new.engine.search c.try_path.new.engine.fuel x) c.in-Left.is c.try_path.ensures.going))
 
 pub returns-in-Short-clause-cause : goal.returns-in-Short-clause-cause
 returns-in-Short-clause-cause g c = inr (inl refl)
@@ -54,7 +64,8 @@ returns-in-Short-clause-cause g c = inr (inl refl)
 pub returns-in-Err-clause-keeps : goal.returns-in-Err-clause-keeps
 returns-in-Err-clause-keeps g c =
     let h : Worker = c.try_path.new.worker in let k : Worker = record h { seat = c.find.new.seat; lane = c.find.new.lane; pass = c.find.new.pass } in
-    let ended = subst (λ (x : Way). Ended (g.H.Halt.never c.args.halt.now → ⊥) c.args.shared.now.mode (view c.try_path.new.worker.seat) c.try_path.new.engine.search c.try_path.new.engine.fuel x) c.in-Closed.is c.try_path.ensures.going in
+    let ended = subst (λ (x : Way). Ended (g.H.Halt.never c.args.halt.now → ⊥) c.args.shared.now.mode (view c.try_path.new.worker.seat)
+    c.try_path.new.engine.search c.try_path.new.engine.fuel x) c.in-Closed.is c.try_path.ensures.going in
     let ready : IsReady c.args.shared.now h = placed-ready c.args.shared.now h c.try_path.ensures.placed ended.1 in
     let seat : Keeps h k = keeps-seat c.args.shared.now h k ready c.find.ensures.of c.find.ensures.passes.stays refl in
     let keeps : Keeps c.args.worker.now k = keeps-trans c.args.worker.now h k (keeps-trans c.args.worker.now c.paths.worker h c.paths.invariant.keeps c.try_path.ensures.keeps) seat in
@@ -63,7 +74,8 @@ returns-in-Err-clause-keeps g c =
 pub returns-in-Err-clause-placed : goal.returns-in-Err-clause-placed
 returns-in-Err-clause-placed g c =
     let h : Worker = c.try_path.new.worker in let k : Worker = record h { seat = c.find.new.seat; lane = c.find.new.lane; pass = c.find.new.pass } in
-    let ended = subst (λ (x : Way). Ended (g.H.Halt.never c.args.halt.now → ⊥) c.args.shared.now.mode (view c.try_path.new.worker.seat) c.try_path.new.engine.search c.try_path.new.engine.fuel x) c.in-Closed.is c.try_path.ensures.going in
+    let ended = subst (λ (x : Way). Ended (g.H.Halt.never c.args.halt.now → ⊥) c.args.shared.now.mode (view c.try_path.new.worker.seat)
+    c.try_path.new.engine.search c.try_path.new.engine.fuel x) c.in-Closed.is c.try_path.ensures.going in
     let ready : IsReady c.args.shared.now h = placed-ready c.args.shared.now h c.try_path.ensures.placed ended.1 in
     let seat : Keeps h k = keeps-seat c.args.shared.now h k ready c.find.ensures.of c.find.ensures.passes.stays refl in
     let keeps : Keeps c.args.worker.now k = keeps-trans c.args.worker.now h k (keeps-trans c.args.worker.now c.paths.worker h c.paths.invariant.keeps c.try_path.ensures.keeps) seat in
@@ -72,7 +84,8 @@ returns-in-Err-clause-placed g c =
 pub returns-in-Err-clause-owes : goal.returns-in-Err-clause-owes
 returns-in-Err-clause-owes g c =
     let h : Worker = c.try_path.new.worker in let k : Worker = record h { seat = c.find.new.seat; lane = c.find.new.lane; pass = c.find.new.pass } in
-    let ended = subst (λ (x : Way). Ended (g.H.Halt.never c.args.halt.now → ⊥) c.args.shared.now.mode (view c.try_path.new.worker.seat) c.try_path.new.engine.search c.try_path.new.engine.fuel x) c.in-Closed.is c.try_path.ensures.going in
+    let ended = subst (λ (x : Way). Ended (g.H.Halt.never c.args.halt.now → ⊥) c.args.shared.now.mode (view c.try_path.new.worker.seat)
+    c.try_path.new.engine.search c.try_path.new.engine.fuel x) c.in-Closed.is c.try_path.ensures.going in
     let ready : IsReady c.args.shared.now h = placed-ready c.args.shared.now h c.try_path.ensures.placed ended.1 in
     let seat : Keeps h k = keeps-seat c.args.shared.now h k ready c.find.ensures.of c.find.ensures.passes.stays refl in
     let keeps : Keeps c.args.worker.now k = keeps-trans c.args.worker.now h k (keeps-trans c.args.worker.now c.paths.worker h c.paths.invariant.keeps c.try_path.ensures.keeps) seat in
@@ -81,7 +94,8 @@ returns-in-Err-clause-owes g c =
 pub returns-in-Err-clause-small : goal.returns-in-Err-clause-small
 returns-in-Err-clause-small g c =
     let h : Worker = c.try_path.new.worker in let k : Worker = record h { seat = c.find.new.seat; lane = c.find.new.lane; pass = c.find.new.pass } in
-    let ended = subst (λ (x : Way). Ended (g.H.Halt.never c.args.halt.now → ⊥) c.args.shared.now.mode (view c.try_path.new.worker.seat) c.try_path.new.engine.search c.try_path.new.engine.fuel x) c.in-Closed.is c.try_path.ensures.going in
+    let ended = subst (λ (x : Way). Ended (g.H.Halt.never c.args.halt.now → ⊥) c.args.shared.now.mode (view c.try_path.new.worker.seat)
+    c.try_path.new.engine.search c.try_path.new.engine.fuel x) c.in-Closed.is c.try_path.ensures.going in
     let ready : IsReady c.args.shared.now h = placed-ready c.args.shared.now h c.try_path.ensures.placed ended.1 in
     let seat : Keeps h k = keeps-seat c.args.shared.now h k ready c.find.ensures.of c.find.ensures.passes.stays refl in
     let keeps : Keeps c.args.worker.now k = keeps-trans c.args.worker.now h k (keeps-trans c.args.worker.now c.paths.worker h c.paths.invariant.keeps c.try_path.ensures.keeps) seat in
@@ -93,7 +107,8 @@ returns-in-Err-clause-heard g c = g.met.W.Watch.goes_on c.args.watch.now c.paths
 pub returns-in-None-found-clause-keeps : goal.returns-in-None-found-clause-keeps
 returns-in-None-found-clause-keeps g c =
     let h : Worker = c.try_path.new.worker in let k : Worker = record h { seat = c.find.new.seat; lane = c.find.new.lane; pass = c.find.new.pass } in
-    let ended = subst (λ (x : Way). Ended (g.H.Halt.never c.args.halt.now → ⊥) c.args.shared.now.mode (view c.try_path.new.worker.seat) c.try_path.new.engine.search c.try_path.new.engine.fuel x) c.in-Closed.is c.try_path.ensures.going in
+    let ended = subst (λ (x : Way). Ended (g.H.Halt.never c.args.halt.now → ⊥) c.args.shared.now.mode (view c.try_path.new.worker.seat)
+    c.try_path.new.engine.search c.try_path.new.engine.fuel x) c.in-Closed.is c.try_path.ensures.going in
     let ready : IsReady c.args.shared.now h = placed-ready c.args.shared.now h c.try_path.ensures.placed ended.1 in
     let seat : Keeps h k = keeps-seat c.args.shared.now h k ready c.find.ensures.of c.find.ensures.passes.stays refl in
     let keeps : Keeps c.args.worker.now k = keeps-trans c.args.worker.now h k (keeps-trans c.args.worker.now c.paths.worker h c.paths.invariant.keeps c.try_path.ensures.keeps) seat in
@@ -102,7 +117,8 @@ returns-in-None-found-clause-keeps g c =
 pub returns-in-None-found-clause-placed : goal.returns-in-None-found-clause-placed
 returns-in-None-found-clause-placed g c =
     let h : Worker = c.try_path.new.worker in let k : Worker = record h { seat = c.find.new.seat; lane = c.find.new.lane; pass = c.find.new.pass } in
-    let ended = subst (λ (x : Way). Ended (g.H.Halt.never c.args.halt.now → ⊥) c.args.shared.now.mode (view c.try_path.new.worker.seat) c.try_path.new.engine.search c.try_path.new.engine.fuel x) c.in-Closed.is c.try_path.ensures.going in
+    let ended = subst (λ (x : Way). Ended (g.H.Halt.never c.args.halt.now → ⊥) c.args.shared.now.mode (view c.try_path.new.worker.seat)
+    c.try_path.new.engine.search c.try_path.new.engine.fuel x) c.in-Closed.is c.try_path.ensures.going in
     let ready : IsReady c.args.shared.now h = placed-ready c.args.shared.now h c.try_path.ensures.placed ended.1 in
     let seat : Keeps h k = keeps-seat c.args.shared.now h k ready c.find.ensures.of c.find.ensures.passes.stays refl in
     let keeps : Keeps c.args.worker.now k = keeps-trans c.args.worker.now h k (keeps-trans c.args.worker.now c.paths.worker h c.paths.invariant.keeps c.try_path.ensures.keeps) seat in
@@ -111,7 +127,8 @@ returns-in-None-found-clause-placed g c =
 pub returns-in-None-found-clause-owes : goal.returns-in-None-found-clause-owes
 returns-in-None-found-clause-owes g c =
     let h : Worker = c.try_path.new.worker in let k : Worker = record h { seat = c.find.new.seat; lane = c.find.new.lane; pass = c.find.new.pass } in
-    let ended = subst (λ (x : Way). Ended (g.H.Halt.never c.args.halt.now → ⊥) c.args.shared.now.mode (view c.try_path.new.worker.seat) c.try_path.new.engine.search c.try_path.new.engine.fuel x) c.in-Closed.is c.try_path.ensures.going in
+    let ended = subst (λ (x : Way). Ended (g.H.Halt.never c.args.halt.now → ⊥) c.args.shared.now.mode (view c.try_path.new.worker.seat)
+    c.try_path.new.engine.search c.try_path.new.engine.fuel x) c.in-Closed.is c.try_path.ensures.going in
     let ready : IsReady c.args.shared.now h = placed-ready c.args.shared.now h c.try_path.ensures.placed ended.1 in
     let seat : Keeps h k = keeps-seat c.args.shared.now h k ready c.find.ensures.of c.find.ensures.passes.stays refl in
     let keeps : Keeps c.args.worker.now k = keeps-trans c.args.worker.now h k (keeps-trans c.args.worker.now c.paths.worker h c.paths.invariant.keeps c.try_path.ensures.keeps) seat in
@@ -120,7 +137,8 @@ returns-in-None-found-clause-owes g c =
 pub returns-in-None-found-clause-small : goal.returns-in-None-found-clause-small
 returns-in-None-found-clause-small g c =
     let h : Worker = c.try_path.new.worker in let k : Worker = record h { seat = c.find.new.seat; lane = c.find.new.lane; pass = c.find.new.pass } in
-    let ended = subst (λ (x : Way). Ended (g.H.Halt.never c.args.halt.now → ⊥) c.args.shared.now.mode (view c.try_path.new.worker.seat) c.try_path.new.engine.search c.try_path.new.engine.fuel x) c.in-Closed.is c.try_path.ensures.going in
+    let ended = subst (λ (x : Way). Ended (g.H.Halt.never c.args.halt.now → ⊥) c.args.shared.now.mode (view c.try_path.new.worker.seat)
+    c.try_path.new.engine.search c.try_path.new.engine.fuel x) c.in-Closed.is c.try_path.ensures.going in
     let ready : IsReady c.args.shared.now h = placed-ready c.args.shared.now h c.try_path.ensures.placed ended.1 in
     let seat : Keeps h k = keeps-seat c.args.shared.now h k ready c.find.ensures.of c.find.ensures.passes.stays refl in
     let keeps : Keeps c.args.worker.now k = keeps-trans c.args.worker.now h k (keeps-trans c.args.worker.now c.paths.worker h c.paths.invariant.keeps c.try_path.ensures.keeps) seat in
@@ -141,12 +159,14 @@ returns-in-Err-clause-cause g c = inr (inl refl)
 pub returns-in-None-found-clause-cause : goal.returns-in-None-found-clause-cause
 returns-in-None-found-clause-cause g c =
     let h : Worker = c.try_path.new.worker in let k : Worker = record h { seat = c.find.new.seat; lane = c.find.new.lane; pass = c.find.new.pass } in
-    let ended = subst (λ (x : Way). Ended (g.H.Halt.never c.args.halt.now → ⊥) c.args.shared.now.mode (view c.try_path.new.worker.seat) c.try_path.new.engine.search c.try_path.new.engine.fuel x) c.in-Closed.is c.try_path.ensures.going in
+    let ended = subst (λ (x : Way). Ended (g.H.Halt.never c.args.halt.now → ⊥) c.args.shared.now.mode (view c.try_path.new.worker.seat)
+    c.try_path.new.engine.search c.try_path.new.engine.fuel x) c.in-Closed.is c.try_path.ensures.going in
     let ready : IsReady c.args.shared.now h = placed-ready c.args.shared.now h c.try_path.ensures.placed ended.1 in
     let seat : Keeps h k = keeps-seat c.args.shared.now h k ready c.find.ensures.of c.find.ensures.passes.stays refl in
     let keeps : Keeps c.args.worker.now k = keeps-trans c.args.worker.now h k (keeps-trans c.args.worker.now c.paths.worker h c.paths.invariant.keeps c.try_path.ensures.keeps) seat in
     let v : Knows = view c.args.worker.now.seat in let u : Knows = view h.seat in let w : Knows = view k.seat in
     inl (record {
-      quiet = quiet-later v.seen u.seen w (keeps-trans c.args.worker.now c.paths.worker h c.paths.invariant.keeps c.try_path.ensures.keeps).seat.seen (subst (λ (o : Option ℕ). IsQuietIf u.seen w o) c.in-None-found.is c.in-Ok.ensures.quiet);
+      quiet = quiet-later v.seen u.seen w (keeps-trans c.args.worker.now c.paths.worker h c.paths.invariant.keeps c.try_path.ensures.keeps).seat.seen
+          (subst (λ (o : Option ℕ). IsQuietIf u.seen w o) c.in-None-found.is c.in-Ok.ensures.quiet);
       tidy = (ready-seat c.args.shared.now h k ready seat c.find.ensures.pool c.find.ensures.passes.lawful).tidy;
     })

@@ -57,20 +57,29 @@ pub returns-in-None-clause-heard : goal.returns-in-None-clause-heard
 returns-in-None-clause-heard g c = g.met.W.Watch.begins c.args.watch.now
 
 pub returns-in_err-found-clause-idle : goal.returns-in_err-found-clause-idle
-returns-in_err-found-clause-idle g c = always-err c.from_residual.result (IsIdle (view c.find.new.seat)) (idle-passes (view c.args.worker.now.seat) (view c.find.new.seat) c.requires.idle c.find.ensures.passes c.in_err-found.ensures.takes)
+returns-in_err-found-clause-idle g c =
+    always-err c.from_residual.result (IsIdle (view c.find.new.seat))
+    (idle-passes (view c.args.worker.now.seat) (view c.find.new.seat) c.requires.idle c.find.ensures.passes c.in_err-found.ensures.takes)
 
 pub returns-in-None-clause-free : goal.returns-in-None-clause-free
 returns-in-None-clause-free g c = takes-none (view c.find.new.seat) c.in_ok-found.found c.in_ok-found.ensures.takes c.in-None.is
 
 pub returns-in-None-clause-owes : goal.returns-in-None-clause-owes
-returns-in-None-clause-owes g c = owes-none c.args.compiled.now c.args.shared.now.mode (view c.find.new.seat) c.of.result (run-passes c.args.compiled.now c.args.shared.now.mode (view c.args.worker.now.seat) (view c.find.new.seat) c.requires.run c.find.ensures.passes) (home-passes (view c.args.worker.now.seat) (view c.find.new.seat) c.requires.idle.home c.find.ensures.passes) c.of.ensures
+returns-in-None-clause-owes g c =
+    owes-none c.args.compiled.now c.args.shared.now.mode (view c.find.new.seat) c.of.result
+    (run-passes c.args.compiled.now c.args.shared.now.mode (view c.args.worker.now.seat) (view c.find.new.seat) c.requires.run c.find.ensures.passes)
+    (home-passes (view c.args.worker.now.seat) (view c.find.new.seat) c.requires.idle.home c.find.ensures.passes) c.of.ensures
 
 pub returns-in-None-clause-cause : goal.returns-in-None-clause-cause
 returns-in-None-clause-cause g c =
     let h : Worker = c.args.worker.now in let k : Worker = record h { seat = c.find.new.seat; lane = c.find.new.lane; pass = c.find.new.pass } in
     let ready : IsReady c.args.shared.now h = begins-ready c.args.compiled.now c.args.shared.now h c.requires in
     let seat : Keeps h k = keeps-seat c.args.shared.now h k ready c.find.ensures.of c.find.ensures.passes.stays refl in
-    inl (record { quiet = subst (λ (o : Option ℕ). IsQuietIf (view h.seat).seen (view k.seat) o) c.in-None.is c.in_ok-found.ensures.quiet; tidy = (ready-seat c.args.shared.now h k ready seat c.find.ensures.pool c.find.ensures.passes.lawful).tidy })
+    inl (record {
+      quiet = subst (λ (o : Option ℕ). IsQuietIf (view h.seat).seen (view k.seat) o) c.in-None.is c.in_ok-found.ensures.quiet;
+      tidy =
+          (ready-seat c.args.shared.now h k ready seat c.find.ensures.pool c.find.ensures.passes.lawful).tidy;
+    })
 
 pub search_from-requires-clause-ready : goal.search_from-requires-clause-ready
 search_from-requires-clause-ready g c =

@@ -32,5 +32,6 @@ returns-in-Ok-clause-work g c =
       ready = placed-seat c.args.shared.now m k p keeps p.pool idle.settled.seated.lawful;
       idle = idle;
       small = given-small (view m.seat) (view k.seat) c.back.ensures.call.0 c.back.ensures.stays c.in-Ok.fuel c.in-Ok.ensures.owes c.back.ensures.call.1 c.searched.ensures.small;
-      cause = given-cause (view m.seat) (view k.seat) c.back.ensures.call.0 c.back.ensures.stays c.in-Ok.fuel c.in-Ok.ensures.owes c.back.ensures.call.1 (g.H.Halt.never c.args.halt.now → ⊥) c.in-Ok.short (view c.args.worker.now.seat).seen c.in-Ok.ensures.cause;
+      cause = given-cause (view m.seat) (view k.seat) c.back.ensures.call.0 c.back.ensures.stays c.in-Ok.fuel c.in-Ok.ensures.owes
+          c.back.ensures.call.1 (g.H.Halt.never c.args.halt.now → ⊥) c.in-Ok.short (view c.args.worker.now.seat).seen c.in-Ok.ensures.cause;
     }
