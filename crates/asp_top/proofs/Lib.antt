@@ -1,10 +1,6 @@
-pub mod PlainLaws
-pub mod ToldLaws
 pub mod RunLaws
+pub mod DoneLaws
 pub mod WholeLaws
 pub mod WriteLaws
 pub mod TellLaws
-pub mod CoreLaws
-pub mod ShrinkLaws
-pub mod AskLaws
 pub mod SeriesLaws

@@ -1,5 +1,5 @@
 -- What each status means, from what reading, solving and writing did.
-use Rattle.std.proofs.Common.{◌≡◌, ℕ, ◌<◌, ◌≤◌, Bool, true, false, cond, ◌||◌, List, [], ◌∷◌, length, refl, sym, ap, ◌∙◌, subst, inl, inr, arith}
+use Rattle.std.proofs.Common.{◌≡◌, ℕ, ◌<◌, ◌≤◌, Bool, true, false, ◌||◌, List, [], ◌∷◌, length, refl, sym, ap, ◌∙◌, subst, inl, inr, arith}
 use Rattle.std.specs.Prelude.{ℤ, Option, None, Some, Result, Ok, Err, IfErr, IfOk, IfSome, IsErrOf, OnOk, is_some}
 use Rattle.std.proofs.lemmas.Bool.{false≢true}
 use Rattle.std.proofs.KnownBytes.{Keeps-refl}
@@ -9,15 +9,8 @@ use Rattle.asp_read.specs.declared.fault.ReadError.{ReadError}
 use Rattle.asp_read.specs.declared.fault.ReadError.TheVariants as errors
 use Rattle.asp_model.specs.declared.program.Program.{Program}
 use Rattle.asp_model.specs.declared.results.Ask.{Ask}
-use Rattle.asp_model.specs.declared.results.Mode.{Mode}
-use Rattle.asp_model.specs.declared.results.Mode.TheVariants.{Enum, Opt, Consequences}
-use Rattle.asp_model.specs.Found.{Found}
 use Rattle.asp_model.specs.declared.results.End.{End}
 use Rattle.asp_model.specs.declared.results.End.TheVariants.{Finished, Limited, Unfinished}
-use Rattle.asp_model.specs.declared.program.Minimize.{Minimize}
-use Rattle.asp_model.specs.Asked.{reasoning_of}
-use Rattle.asp_model.specs.Sets.{Atoms}
-use Rattle.asp_model.specs.Texts.{bests}
 use Rattle.asp_read.specs.Judging.{most_bytes}
 use Rattle.asp_read.specs.Stream.{ReadsText}
 use Rattle.asp_cli.specs.declared.Format.{Format}
@@ -25,21 +18,24 @@ use Rattle.asp_top.specs.Formats.{StopsFor, outcome_for}
 use Rattle.asp_make.specs.Ring.{ring}
 use Rattle.asp_make.specs.Texts.{parts_text}
 use Rattle.asp_crew_laws.specs.declared.report.Report.{Report}
-use Rattle.asp_crew_laws.specs.Reports.{asks_list, IsAsked, IsReport, Says as SaysReport}
+use Rattle.asp_crew_laws.specs.Reports.{IsReport}
 use Rattle.asp_top.specs.declared.status.Status.{Status}
 use Rattle.asp_top.specs.declared.status.Status.TheVariants.{All, NoModel, Partial, Unknown, Enough, Help, Memory, Usage, Refused, ReadFault, TooLong, Unnamed, WriteFault, Parts}
 use Rattle.asp_top.specs.declared.status.Outcome.{Outcome}
-use Rattle.asp_top.specs.Meaning.{has_model, has_model_in, is_some_of, mode_by, mode_of, status_for}
-use Rattle.asp_named.specs.Named.{has_numbers, named}
-use Rattle.asp_named.proofs.LimitLaws.{sound-named}
-use Rattle.asp_top.specs.Naming.{asked, asked_if, is_named}
+use Rattle.asp_prepare.specs.declared.prepared.Prepared.{Prepared}
+use Rattle.asp_prepare.specs.declared.prepared.Unready.{Unready}
+use Rattle.asp_prepare.specs.declared.prepared.Unready.TheVariants as unready
+use Rattle.asp_prepare.specs.Meaning.{has_model}
+use Rattle.asp_prepare.specs.Naming.{HasNumbers, WhyNot, ask_of, asked, is_named, prepared_of, searched, set_aside}
+use Rattle.asp_prepare.specs.Told.{report_text, report_with, told_with}
+use Rattle.asp_prepare.proofs.AskedLaws.{asked-sound, limited-has}
+use Rattle.asp_prepare.proofs.ToldLaws.{told-model, told-says, told-text}
+use Rattle.asp_top.specs.Meaning.{status_for}
+use Rattle.asp_named.specs.Named.{has_numbers}
 use Rattle.asp_top.specs.Notes.{is_written}
 use Rattle.asp_top.specs.Parting.{Divides, HandingMeans}
-use Rattle.asp_top.specs.Runs.{Around, DeliveryMeans, Does, DoesBy, HasNumbers, IsAnswered, IsDivided, IsExact, IsGiven, IsOver, IsReady, IsSaid, IsSentOn, IsSolved, Means, Prepares, Runs, Says, Solves, TellsClosed, WhyNot, around, ask_of, layout_of, prepared_of, report_text, report_with, searched, set_aside, status_of, told_with}
-use Rattle.asp_top.specs.declared.prepare.Prepared.{Prepared}
-use Rattle.asp_top.proofs.ToldLaws.{told-model, told-says, told-text}
+use Rattle.asp_top.specs.Runs.{Around, DeliveryMeans, Does, DoesBy, EndsUnready, IsAnswered, IsDivided, IsExact, IsGiven, IsOver, IsReady, IsSaid, IsSentOn, IsSolved, Means, Prepares, Runs, Says, Solves, TellsClosed, around, layout_of, status_of, status_unready}
 use Rattle.asp_model.specs.Sound.{IsSound}
-use Rattle.asp_cli.specs.Found.{seeks_consequences}
 use Rattle.asp_cli.specs.declared.Options.{Options}
 
 says-at : (f : Format) (a : Around) (text : List ℕ) (said : Result Program ReadError) → a.left ≡ Some text → Says f a said → outcome_for f text ≡ said
@@ -94,13 +90,15 @@ exact given a report ReadFault m quiet = record {
 }
 exact given a report TooLong m quiet = record {
   accepted = λ told r w. let t = told m.0 in absurd (ok-or-err (outcome_for given.format t.0) t.1 errors.TooLong t.3 (says-at given.format a t.0 _ t.2 m.1.says));
-  refused = λ reads text fault line is out r. let same : errors.TooLong ≡ errors.Refused fault line = one-error (outcome_for given.format text) _ _ (says-at given.format a text _ is m.1.says) out in absurd cc;
+  refused = λ reads text fault line is out r. let same : errors.TooLong ≡ errors.Refused fault line =
+      one-error (outcome_for given.format text) _ _ (says-at given.format a text _ is m.1.says) out in absurd cc;
   too_long = λ reads text is out r. inl refl;
   quiet = quiet;
 }
 exact given a report (Refused f l) m quiet = record {
   accepted = λ told r w. let t = told m.0 in absurd (ok-or-err (outcome_for given.format t.0) t.1 (errors.Refused f l) t.3 (says-at given.format a t.0 _ t.2 m.1.says));
-  refused = λ reads text fault line is out r. let same : errors.Refused f l ≡ errors.Refused fault line = one-error (outcome_for given.format text) _ _ (says-at given.format a text _ is m.1.says) out in inl cc;
+  refused = λ reads text fault line is out r. let same : errors.Refused f l ≡ errors.Refused fault line =
+      one-error (outcome_for given.format text) _ _ (says-at given.format a text _ is m.1.says) out in inl cc;
   too_long = λ reads text is out r. let same : errors.Refused f l ≡ errors.TooLong = one-error (outcome_for given.format text) _ _ (says-at given.format a text _ is m.1.says) out in absurd cc;
   quiet = quiet;
 }
@@ -139,44 +137,6 @@ runs-memory given a kept reads writes quiet =
     let means : Means given a None Memory = record { none = refl; kept = kept } in
     record { means = means; exact = exact given a None Memory means (λ isn't. quiet); later = (reads, writes) }
 
--- a run that ended at its limit has a model
-recorded-some : (best : Option (Atoms × List ℤ)) (L : List Atoms) → 0 < length L → is_some_of (bests best L) ≡ true
-recorded-some best [] h = absurd (let f : ⊥ = omega (arith, h) in f)
-recorded-some best (S ∷ L) h = refl
-
-listed-some : (L : List Atoms) → 0 < length L → is_some_of L ≡ true
-listed-some [] h = absurd (let f : ⊥ = omega (arith, h) in f)
-listed-some (S ∷ L) h = refl
-
-some-by : (mode : Mode) (r : Found) → reasoning_of mode ≡ None → 0 < length r.answers → has_model_in mode r ≡ true
-some-by Enum r e h = listed-some r.answers h
-some-by Opt r e h = recorded-some r.best r.answers h
-some-by (Consequences w) r e h = absurd (some e)
-  where
-    some : Some w ≡ None → ⊥
-    some e = cc
-
-listed-mode : (all : Bool) (mode : Mode) → asks_list all mode ≡ true → reasoning_of mode ≡ None
-listed-mode all Enum e = refl
-listed-mode all Opt e = refl
-listed-mode all (Consequences w) e = absurd (false≢true e)
-
-limited-has : (p : Program) (ask : Ask) (units : ℕ) (r : Report) → IsReport p ask units r → r.results.end ≡ Limited → has_model r.results ≡ true
-limited-has p ask units r is e =
-    let asked : IsAsked p ask r.results = subst (SaysReport p ask r) e is.says in
-    some-by r.results.mode r.results (ap reasoning_of is.mode_is ∙ listed-mode ask.all_optima ask.mode asked.listing) (omega (arith, asked.some, asked.count))
-
--- no consequences are sought beside a proof
-pub unsought : (o : Option Mode) (p : Program) → seeks_consequences (Some o) ≡ false → reasoning_of (mode_of o p) ≡ None
-unsought None p e = own p.minimize
-  where
-    own : (ms : List Minimize) → reasoning_of (mode_by ms) ≡ None
-    own [] = refl
-    own (m ∷ ms) = refl
-unsought (Some Enum) p e = refl
-unsought (Some Opt) p e = refl
-unsought (Some (Consequences r)) p e = absurd (false≢true (sym e))
-
 written : (given : Options) (a : Around) (report : Option Report) → (s : IsSolved given a report) → (end : End) (model : Bool) → s.done.results.end ≡ end → has_model s.done.results ≡ model
     → Appends a.held a.held' (report_text (asked given s.program) (report_with (set_aside given s.program) s.done) (layout_of given)) → Means given a report (status_for end model)
 written given a report s Finished true e m text = record { solved = s; end_is = e; model_is = m; text = text }
@@ -194,7 +154,14 @@ delivered given a s report solved (inl m) =
     let text = subst (Appends a.held a.held') (told-text given solved.program done (layout_of given) solved.proof) m.1 in
     subst (Means given a report) (sym is) (written given a report solved done.results.end (has_model done.results) refl refl text)
 delivered given a s report solved (inr m) =
-    subst (Means given a report) (sym m.0.1) (inl (record { solved = solved; text = subst (AppendsFront a.held a.held') (told-text given solved.program solved.done (layout_of given) solved.proof) m.1; cause = m.2 }))
+    subst (Means given a report) (sym m.0.1)
+    (inl (record {
+      solved = solved;
+      text =
+          subst (AppendsFront a.held a.held') (told-text given solved.program solved.done (layout_of given) solved.proof) m.1;
+      cause =
+          m.2;
+    }))
 
 -- the text of parts was written, or cut off
 handed : (given : Options) (a : Around) (s : Status) (report : Option Report) → (divided : IsDivided given a report)
@@ -202,19 +169,24 @@ handed : (given : Options) (a : Around) (s : Status) (report : Option Report) �
 handed given a s report divided (inl m) = subst (Means given a report) (sym m.0) (record { divided = divided; text = m.1 })
 handed given a s report divided (inr m) = subst (Means given a report) (sym m.0.1) (inr (record { divided = divided; text = m.1; cause = m.2 }))
 
--- the program whose answers are sought is within the limits
-asked-sound : (given : Options) (p : Program) → IsSound p → HasNumbers given p → IsSound (asked given p)
-asked-sound given p sound numbers = by (is_named given) refl
-  where
-    by : (b : Bool) → is_named given ≡ b → IsSound (cond b (named p) p)
-    by true e = sound-named p sound (numbers e)
-    by false e = sound
-
-runs-solved : (given : Options) (a : Around) (p : Program) (o : Outcome) → given.split ≡ None → IsGiven given.format given.make a p → IsSound p → HasNumbers given p → a.reads ≤ a.reads' → a.reads' ≡ a.reads
+runs-solved : (given : Options) (a : Around) (p : Program) (o : Outcome) → given.split ≡ None → IsGiven given.format given.make a p → IsSound p →
+    HasNumbers given p → a.reads ≤ a.reads' → a.reads' ≡ a.reads
     → Solves given p a.held a.held' a.writes a.writes' o → Runs given a o
 runs-solved given a p o whole from sound numbers reads quiet (inl m) = subst (Runs given a) (sym m.0) (runs-memory given a m.1 reads (omega (arith, m.2)) quiet)
 runs-solved given a p o whole from sound numbers reads quiet (inr s) =
-    let solved : IsSolved given a o.report = record { program = p; source = from; sound = sound; numbers = numbers; whole = whole; done = s.0; reports = s.2.reports; is = s.1.0; says = told-says given p (ask_of given p) s.0 s.0.results.end (asked-sound given p sound numbers) s.1.0.says; proof = s.1.1 } in
+    let solved : IsSolved given a o.report = record {
+      program = p;
+      source = from;
+      sound = sound;
+      numbers = numbers;
+      whole = whole;
+      done = s.0;
+      reports = s.2.reports;
+      is = s.1.0;
+      says =
+          told-says given p (ask_of given p) s.0 s.0.results.end (asked-sound given p sound numbers) s.1.0.says;
+      proof = s.1.1;
+    } in
     let means = delivered given a o.status o.report solved s.2.means in
     record { means = means; exact = exact given a o.report o.status means (λ isn't. quiet); later = (reads, s.2.later) }
 
@@ -227,7 +199,8 @@ runs-divided given a p most o asked from reads quiet (inr d) =
     record { means = means; exact = exact given a o.report o.status means (λ isn't. quiet); later = (reads, d.2.later) }
 
 -- the program of a text is there
-pub ready-read : (given : Options) (l l' : Option (List ℕ)) (r r' : ℕ) (p : Program) → given.make ≡ None → IsSound p → IfSome l (λ text. outcome_for given.format text ≡ Ok p) → IsSaid given.format (Ok p) → IsAtEnd l' → r ≤ r' → r' ≡ r
+pub ready-read : (given : Options) (l l' : Option (List ℕ)) (r r' : ℕ) (p : Program) → given.make ≡ None → IsSound p →
+    IfSome l (λ text. outcome_for given.format text ≡ Ok p) → IsSaid given.format (Ok p) → IsAtEnd l' → r ≤ r' → r' ≡ r
     → IsReady given l l' r r' p
 ready-read given l l' r r' p none sound says said end later quiet = record {
   source = λ h h' w w'. subst (λ (m : Option ℕ). IsGiven given.format m (around l l' r r' h h' w w') p) (sym none) (record { says = says; said = said; end = end });
@@ -258,7 +231,8 @@ of-err e is = cc
 
 -- no program was read
 pub over-unread : (given : Options) (l l' : Option (List ℕ)) (r r' : ℕ) (e : ReadError) (status : Status) → status ≡ status_of e → given.make ≡ None
-    → IfSome l (λ t. ReadsText (Err e) (outcome_for given.format t)) → (text : List ℕ) × ReadsText (Err e) (outcome_for given.format text) → r ≤ r' → (IsErrOf {T = Program} (Err e) errors.ReadFault → Rose r r') → StopsFor given.format most_bytes l l' (Err e)
+    → IfSome l (λ t. ReadsText (Err e) (outcome_for given.format t)) → (text : List ℕ) × ReadsText (Err e) (outcome_for given.format text) → r ≤ r' →
+    (IsErrOf {T = Program} (Err e) errors.ReadFault → Rose r r') → StopsFor given.format most_bytes l l' (Err e)
     → (¬ IsErrOf {T = Program} (Err e) errors.ReadFault → r' ≡ r) → IsOver given l l' r r' status
 over-unread given l l' r r' e status is none text some later cause stops quiet =
     subst (IsOver given l l' r r') (sym is) (λ h w. runs-unread given (around l l' r r' h h w w) e none (Keeps-refl h) (omega arith)
@@ -271,30 +245,23 @@ over-unnamed given l l' r r' p ready by_name full = λ h w.
     let means : Means given a None Unnamed = record { untouched = record { none = refl; kept = Keeps-refl h }; program = p; source = ready.source h h w w; by_name = by_name; full = full } in
     record { means = means; exact = exact given a None Unnamed means (λ isn't. ready.quiet); later = (ready.later, omega arith) }
 
-over-why : (given : Options) (l l' : Option (List ℕ)) (r r' : ℕ) (p : Program) (status : Status) → IsReady given l l' r r' p → WhyNot given p status → IsOver given l l' r r' status
-over-why given l l' r r' p Memory ready why = over-memory given l l' r r' Memory refl ready.later ready.quiet
-over-why given l l' r r' p Unnamed ready why = over-unnamed given l l' r r' p ready why.0 why.1
-over-why given l l' r r' p status ready why = absurd why
+over-why : (given : Options) (l l' : Option (List ℕ)) (r r' : ℕ) (p : Program) (why : Unready) → IsReady given l l' r r' p → WhyNot given p why → IsOver given l l' r r' (status_unready why)
+over-why given l l' r r' p unready.Memory ready is = over-memory given l l' r r' Memory refl ready.later ready.quiet
+over-why given l l' r r' p unready.Unnamed ready is = over-unnamed given l l' r r' p ready is.0 is.1
 
 -- a program that is there is compiled, unless memory or numbers are wanting
-pub prepares : (given : Options) (l l' : Option (List ℕ)) (r r' : ℕ) (p : Program) (result : Result Prepared Status) → IsReady given l l' r r' p → IfOk result (λ x. x ≡ prepared_of given p) → OnOk result (HasNumbers given p) → IfErr result (WhyNot given p)
+pub prepares : (given : Options) (l l' : Option (List ℕ)) (r r' : ℕ) (p : Program) (result : Result Prepared Status) → IsReady given l l' r r' p →
+    IfOk result (λ x. x ≡ prepared_of given p) → OnOk result (HasNumbers given p) → IfErr result (EndsUnready given p)
     → Prepares given l l' r r' result
 prepares given l l' r r' p (Ok x) ready same numbers wanting = (p, ready, numbers, same)
-prepares given l l' r r' p (Err status) ready same numbers wanting = over-why given l l' r r' p status ready wanting
-
--- which program's answers are sought
-pub asked-is : (given : Options) (p q : Program) → Some q ≡ asked_if given p → q ≡ asked given p
-asked-is given p q is = by (is_named given) (has_numbers p) is
-  where
-    by : (b n : Bool) → Some q ≡ cond b (cond n (Some (named p)) None) (Some p) → q ≡ cond b (named p) p
-    by true true e = cc
-    by true false e = absurd cc
-    by false n e = cc
+prepares given l l' r r' p (Err status) ready same numbers wanting = subst (IsOver given l l' r r') (sym wanting.2) (over-why given l l' r r' p wanting.0 ready wanting.1)
 
 -- it is solved
-pub runs-ready : (given : Options) (l l' : Option (List ℕ)) (r r' : ℕ) (h h' : Option (List ℕ)) (w w' : ℕ) (p : Program) (o : Outcome) → given.split ≡ None → IsReady given l l' r r' p → HasNumbers given p → Solves given p h h' w w' o
+pub runs-ready : (given : Options) (l l' : Option (List ℕ)) (r r' : ℕ) (h h' : Option (List ℕ)) (w w' : ℕ) (p : Program) (o : Outcome) →
+    given.split ≡ None → IsReady given l l' r r' p → HasNumbers given p → Solves given p h h' w w' o
     → Runs given (around l l' r r' h h' w w') o
-runs-ready given l l' r r' h h' w w' p o whole ready numbers solves = runs-solved given (around l l' r r' h h' w w') p o whole (ready.source h h' w w') ready.sound numbers ready.later ready.quiet solves
+runs-ready given l l' r r' h h' w w' p o whole ready numbers solves =
+    runs-solved given (around l l' r r' h h' w w') p o whole (ready.source h h' w w') ready.sound numbers ready.later ready.quiet solves
 
 -- it is divided
 runs-parted : (given : Options) (l l' : Option (List ℕ)) (r r' : ℕ) (h h' : Option (List ℕ)) (w w' : ℕ) (p : Program) (most : ℕ) (o : Outcome) → given.split ≡ Some most → IsReady given l l' r r' p
@@ -302,7 +269,8 @@ runs-parted : (given : Options) (l l' : Option (List ℕ)) (r r' : ℕ) (h h' : 
 runs-parted given l l' r r' h h' w w' p most o asked ready divides = runs-divided given (around l l' r r' h h' w w') p most o asked (ready.source h h' w w') ready.later ready.quiet divides
 
 -- it is divided or solved, as was asked
-pub runs-done : (given : Options) (l l' : Option (List ℕ)) (r r' : ℕ) (h h' : Option (List ℕ)) (w w' : ℕ) (p : Program) (o : Outcome) → IsReady given l l' r r' p → HasNumbers given p → Does given p h h' w w' o
+pub runs-done : (given : Options) (l l' : Option (List ℕ)) (r r' : ℕ) (h h' : Option (List ℕ)) (w w' : ℕ) (p : Program) (o : Outcome) →
+    IsReady given l l' r r' p → HasNumbers given p → Does given p h h' w w' o
     → Runs given (around l l' r r' h h' w w') o
 runs-done given l l' r r' h h' w w' p o ready numbers done = go given.split refl done
   where
@@ -356,7 +324,8 @@ unwritten given l l' r r' status over = by status (over (Some []) 0).means
     by (WriteFault closed) m = refl
     by Parts m = absurd (parts-have-text m.divided.cubes m.divided.parts.some (sym m.text))
 
-pub nothing-to-send : (given : Options) (l l' : Option (List ℕ)) (r r' : ℕ) (status : Status) (o : Outcome) (is_sent : Bool) → IsOver given l l' r r' status → o ≡ record { status = status; report = None } → IsSentOn o.status is_sent
+pub nothing-to-send : (given : Options) (l l' : Option (List ℕ)) (r r' : ℕ) (status : Status) (o : Outcome) (is_sent : Bool) →
+    IsOver given l l' r r' status → o ≡ record { status = status; report = None } → IsSentOn o.status is_sent
 nothing-to-send given l l' r r' status o is_sent over is =
     λ done. absurd (false≢true (sym (unwritten given l l' r r' status over) ∙ (sym (ap (λ (x : Outcome). is_written x.status) is) ∙ done)))
 
@@ -384,7 +353,8 @@ lost-nothing given l l' r r' status is_closed over = by status (over (Some []) 0
     by (WriteFault closed) (inr m) = absurd (no-rise m.cause)
     by Parts m = tt
 
-pub nothing-closed : (given : Options) (l l' : Option (List ℕ)) (r r' : ℕ) (status : Status) (o : Outcome) (is_closed : Bool) → IsOver given l l' r r' status → o ≡ record { status = status; report = None } → TellsClosed o.status is_closed
+pub nothing-closed : (given : Options) (l l' : Option (List ℕ)) (r r' : ℕ) (status : Status) (o : Outcome) (is_closed : Bool) →
+    IsOver given l l' r r' status → o ≡ record { status = status; report = None } → TellsClosed o.status is_closed
 nothing-closed given l l' r r' status o is_closed over is =
     subst (λ (x : Outcome). TellsClosed x.status is_closed) (sym is) (lost-nothing given l l' r r' status is_closed over)
 

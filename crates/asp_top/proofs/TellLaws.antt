@@ -18,7 +18,8 @@ abbrev told_of : List Line → List Told
 told_of ls = map (λ l. l.told) ls
 
 -- one line was told
-pub one_told : (on : Bool) (p q : Point) (t : Told) → on ≡ true → p.state ≡ Ok tt → IsMore p.last t.counts → q.last ≡ t.counts → Writes p.held q.held p.faults q.faults q.state (line_of t) → Tells on p q
+pub one_told : (on : Bool) (p q : Point) (t : Told) → on ≡ true → p.state ≡ Ok tt → IsMore p.last t.counts → q.last ≡ t.counts →
+    Writes p.held q.held p.faults q.faults q.state (line_of t) → Tells on p q
 one_told on p q t asked fine more last w =
     record { lines = record { told = t; after = q } ∷ []; chain = (record { asked = asked; fine = fine; more = more; last = last; writes = w }, refl) }
 
@@ -71,5 +72,6 @@ told_in_all asked on h f p q j k text a b t e =
     }
 
 -- the notes are the same at another name
-pub moved : {N : Type 0} (held : N → Option (List ℕ)) (faults : N → ℕ) (on : Bool) (h : Option (List ℕ)) (f : ℕ) (x y : N) (text : List ℕ) → x ≡ y → IsTold on h (held y) f (faults y) text → IsTold on h (held x) f (faults x) text
+pub moved : {N : Type 0} (held : N → Option (List ℕ)) (faults : N → ℕ) (on : Bool) (h : Option (List ℕ)) (f : ℕ) (x y : N) (text : List ℕ) → x ≡ y →
+    IsTold on h (held y) f (faults y) text → IsTold on h (held x) f (faults x) text
 moved {N = N} held faults on h f x y text e t = subst (λ (n : N). IsTold on h (held n) f (faults n) text) (sym e) t

@@ -39,9 +39,10 @@ use Rattle.asp_top.specs.declared.status.Outcome.{Outcome}
 use Rattle.asp_cli.specs.Found.{seeks_consequences}
 use Rattle.asp_model.specs.declared.program.Minimize.{Minimize}
 use Rattle.asp_model.specs.Texts.{shown}
-use Rattle.asp_top.specs.Meaning.{has_model_in, is_some_of, mode_by, mode_of}
-use Rattle.asp_top.specs.Naming.{asked, is_json, is_named, is_settled}
-use Rattle.asp_top.specs.Runs.{Around, HasNumbers, IsGiven, IsSentOn, IsWritten, Means, Runs, ask_of, found_with, is_brief, layout_of, report_text, report_with, set_aside, text_by, text_in, with_known, without_names}
+use Rattle.asp_prepare.specs.Meaning.{has_model_in, is_some_of, mode_by, mode_of}
+use Rattle.asp_prepare.specs.Naming.{HasNumbers, ask_of, asked, is_json, is_named, is_settled, set_aside}
+use Rattle.asp_prepare.specs.Told.{found_with, report_text, report_with, text_by, text_in, with_known, without_names}
+use Rattle.asp_top.specs.Runs.{Around, IsGiven, IsSentOn, IsWritten, Means, Runs, is_brief, layout_of}
 use Rattle.asp_top.specs.Series.{RunsBy, RunsOn}
 use Rattle.asp_json.specs.Json.{json_text, json_with}
 use Rattle.asp_cli.specs.declared.Form.{Form}
@@ -49,11 +50,12 @@ use Rattle.asp_cli.specs.declared.Form.TheVariants.{Text, Json}
 use Rattle.asp_cli.specs.declared.Format.{Format}
 use Rattle.asp_top.specs.Formats.{outcome_for}
 use Rattle.asp_top.specs.Whole.{ArePicked, InForm, IsInput, IsWhole, TellsAll, TellsEnough, TellsNone, Wrote, closing, none_text, told_line}
-use Rattle.asp_top.proofs.PlainLaws.{model-same, text-same}
-use Rattle.asp_top.proofs.ToldLaws.{no-proof}
+use Rattle.asp_prepare.proofs.PlainLaws.{model-same, text-same}
+use Rattle.asp_prepare.proofs.ToldLaws.{no-proof}
 
 -- ---- what is read
-input-told : (f : Format) (left : Option (List ℕ)) (p : Program) → IfSome left (λ t. outcome_for f t ≡ Ok p) → (text : List ℕ) × (outcome_for f text ≡ Ok p) → (text : List ℕ) × (outcome_for f text ≡ Ok p) × IfSome left (λ all. all ≡ text)
+input-told : (f : Format) (left : Option (List ℕ)) (p : Program) → IfSome left (λ t. outcome_for f t ≡ Ok p) → (text : List ℕ) ×
+    (outcome_for f text ≡ Ok p) → (text : List ℕ) × (outcome_for f text ≡ Ok p) × IfSome left (λ all. all ≡ text)
 input-told f None p says some = (some.0, some.1, tt)
 input-told f (Some text) p says some = (text, says, refl)
 
@@ -177,10 +179,13 @@ found-opt false brief p L best known is some = opt-one brief p L best known is.0
 enum-told : (form : Form) (given : Options) (p : Program) (L : List Atoms) (best : Option (Atoms × List ℤ)) (known : Option Atoms) → L ≡ answers p → is_some_of L ≡ true
     → InForm form (text_for form given p (found Enum Finished L best known) ≡ lines (is_brief given) p (answers p) ++ closing (codes "SATISFIABLE") (decimal (length (answers p))))
     (text_for form given p (found Enum Finished L best known) ≡ json_found given p (found Enum Finished (answers p) None None))
-enum-told Text given p L best known all some = enum-all (is_brief given) p L best known some ∙ ap (λ (Ss : List Atoms). lines (is_brief given) p Ss ++ closing (codes "SATISFIABLE") (decimal (length Ss))) all
+enum-told Text given p L best known all some =
+    enum-all (is_brief given) p L best known some
+    ∙ ap (λ (Ss : List Atoms). lines (is_brief given) p Ss ++ closing (codes "SATISFIABLE") (decimal (length Ss))) all
 enum-told Json given p L best known all some = ap (λ (Ss : List Atoms). json_found given p (found Enum Finished Ss None None)) all
 
-json-opt : (all : Bool) (given : Options) (p : Program) (L : List Atoms) (best : Option (Atoms × List ℤ)) (known : Option Atoms) → IsAllFound all false p Opt L best known → is_some_of (bests best L) ≡ true
+json-opt : (all : Bool) (given : Options) (p : Program) (L : List Atoms) (best : Option (Atoms × List ℤ)) (known : Option Atoms) →
+    IsAllFound all false p Opt L best known → is_some_of (bests best L) ≡ true
     → (S : Atoms) × Contains (optima p) S × (json_found given p (found Opt Finished L best known) ≡ json_found given p (found Opt Finished (cond all (optima p) []) (Some (S, cost p S)) None))
 json-opt true given p L (Some b) known is some = (
   b.0,
@@ -197,9 +202,11 @@ json-opt false given p L (Some b) known is some = (
 json-opt false given p [] None known is some = absurd (false≢true some)
 json-opt false given p (S ∷ L) None known is some = absurd (let none : S ∷ L ≡ [] = is.0 in let f : ⊥ = cc in f)
 
-opt-told : (form : Form) (given : Options) (p : Program) (L : List Atoms) (best : Option (Atoms × List ℤ)) (known : Option Atoms) → IsAllFound given.all_optima false p Opt L best known → is_some_of (bests best L) ≡ true
+opt-told : (form : Form) (given : Options) (p : Program) (L : List Atoms) (best : Option (Atoms × List ℤ)) (known : Option Atoms) →
+    IsAllFound given.all_optima false p Opt L best known → is_some_of (bests best L) ≡ true
     → (S : Atoms) × Contains (optima p) S
-    × InForm form (text_for form given p (found Opt Finished L best known) ≡ lines (is_brief given) p (cond given.all_optima (optima p) (S ∷ [])) ++ cost_line (cost p S) ++ closing (codes "OPTIMUM FOUND") (decimal (length (cond given.all_optima (optima p) (S ∷ [])))))
+    × InForm form (text_for form given p (found Opt Finished L best known) ≡ lines (is_brief given) p (cond given.all_optima (optima p) (S ∷ []))
+    ++ cost_line (cost p S) ++ closing (codes "OPTIMUM FOUND") (decimal (length (cond given.all_optima (optima p) (S ∷ [])))))
     (text_for form given p (found Opt Finished L best known) ≡ json_found given p (found Opt Finished (cond given.all_optima (optima p) []) (Some (S, cost p S)) None))
 opt-told Text given p L best known is some = found-opt given.all_optima (is_brief given) p L best known is some
 opt-told Json given p L best known is some = json-opt given.all_optima given p L best known is some
@@ -214,14 +221,16 @@ abbrev ToldOf : Form → Bool → Bool → Program → Reasoning → List ℕ �
 ToldOf form names brief p w text = InForm form (text ≡ known_line names p (Some (consequences w p (answers p))) ++ ended_line (codes "CONSEQUENCES FOUND"))
     (text ≡ json_text p (found (Consequences w) Finished [] None (Some (consequences w p (answers p)))) brief)
 
-consequences-told : (form : Form) (given : Options) (p : Program) (w : Reasoning) (L : List Atoms) (best : Option (Atoms × List ℤ)) (known : Option Atoms) → IsFound false p (Consequences w) L best known → is_some known ≡ true
+consequences-told : (form : Form) (given : Options) (p : Program) (w : Reasoning) (L : List Atoms) (best : Option (Atoms × List ℤ))
+    (known : Option Atoms) → IsFound false p (Consequences w) L best known → is_some known ≡ true
     → ¬ (answers p ≡ []) × ToldOf form given.names (is_brief given) p w (text_for form given p (found (Consequences w) Finished L best known))
 consequences-told Text given p w L best known all some =
     let told = consequences-all given.names (is_brief given) p w (answers p) best known all.2 some in
     (told.0, ap (λ (Ss : List Atoms). printed_text p (found (Consequences w) Finished Ss best known) (is_brief given) given.names) all.0 ∙ told.1)
 consequences-told Json given p w L best known all some = json-known (is_brief given) p w (answers p) L best known all.2 some
 
-tells-listed : (given : Options) (p : Program) (mode : Mode) (L : List Atoms) (best : Option (Atoms × List ℤ)) (known : Option Atoms) → reasoning_of mode ≡ None → IsAllFound given.all_optima false p mode L best known
+tells-listed : (given : Options) (p : Program) (mode : Mode) (L : List Atoms) (best : Option (Atoms × List ℤ)) (known : Option Atoms) →
+    reasoning_of mode ≡ None → IsAllFound given.all_optima false p mode L best known
     → has_model_in mode (found mode Finished L best known) ≡ true → TellsAll given p mode (text_for given.form given p (found mode Finished L best known))
 tells-listed given p Enum L best known listed is some =
     let all = (found-enum given.all_optima p L best known is).0 in
@@ -239,7 +248,9 @@ no-consequences : (p : Program) (w : Reasoning) (K : List Atoms) (known : Option
 no-consequences p w [] known is none = (refl, is)
 no-consequences p w (S ∷ K) known is none = absurd (false≢true (sym none ∙ ap is_some is))
 
-counted-none : (brief : Bool) (p : Program) → lines brief p [] ++ [] ++ (ended_line (codes "UNSATISFIABLE") ++ ended_line (codes "Models: " ++ decimal 0 ++ [])) ≡ closing (codes "UNSATISFIABLE") (decimal 0)
+counted-none : (brief : Bool) (p : Program) →
+    lines brief p [] ++ [] ++ (ended_line (codes "UNSATISFIABLE") ++ ended_line (codes "Models: " ++ decimal 0 ++ [])) ≡ closing
+    (codes "UNSATISFIABLE") (decimal 0)
 counted-none brief p =
     joined (lines brief p []) _ _ (unmarked (codes "UNSATISFIABLE") 0) ∙ ap (λ (x : List ℕ). x ++ closing (codes "UNSATISFIABLE") (decimal 0)) (no-lines brief p)
 
@@ -255,7 +266,8 @@ lines-none all brief names p Enum L best known is none =
 lines-none all brief names p Opt L best known is none =
     let empty = bests-none best L none in (
       subst (IsBest p) empty.0 (found-best all p L best known is),
-      ap (λ (Ss : List Atoms). plain_text p (found Opt Finished Ss best known) brief) empty.1 ∙ ap (λ (b : Option (Atoms × List ℤ)). plain_text p (found Opt Finished [] b known) brief) empty.0 ∙ counted-none brief p,
+      ap (λ (Ss : List Atoms). plain_text p (found Opt Finished Ss best known) brief) empty.1
+          ∙ ap (λ (b : Option (Atoms × List ℤ)). plain_text p (found Opt Finished [] b known) brief) empty.0 ∙ counted-none brief p,
     )
 lines-none all brief names p (Consequences w) L best known is none =
     let told = found-consequences all p w L best known is in
@@ -275,11 +287,13 @@ json-none given p Opt L best known is none =
     let empty = bests-none best L none in
     ap (λ (Ss : List Atoms). json_found given p (found Opt Finished Ss best None)) empty.1 ∙ ap (λ (b : Option (Atoms × List ℤ)). json_found given p (found Opt Finished [] b None)) empty.0
 json-none given p (Consequences w) L best known is none =
-    ap (λ (x : Option Atoms). json_text p (found (Consequences w) Finished L best x) (is_brief given)) (no-consequences p w (answers p) known (found-consequences given.all_optima p w L best known is).2 none).1
+    ap (λ (x : Option Atoms). json_text p (found (Consequences w) Finished L best x) (is_brief given))
+    (no-consequences p w (answers p) known (found-consequences given.all_optima p w L best known is).2 none).1
 
 none-told : (form : Form) (given : Options) (p : Program) (mode : Mode) (L : List Atoms) (best : Option (Atoms × List ℤ)) (known : Option Atoms) → IsAllFound given.all_optima false p mode L best known
     → has_model_in mode (found mode Finished L best known) ≡ false
-    → InForm form (text_for form given p (found mode Finished L best known) ≡ none_text mode) (text_for form given p (found mode Finished L best known) ≡ json_found given p (found mode Finished [] None None))
+    → InForm form (text_for form given p (found mode Finished L best known) ≡ none_text mode)
+    (text_for form given p (found mode Finished L best known) ≡ json_found given p (found mode Finished [] None None))
 none-told Text given p mode L best known is none = (lines-none given.all_optima (is_brief given) given.names p mode L best known is none).1
 none-told Json given p mode L best known is none = json-none given p mode L best known is none
 
@@ -295,8 +309,10 @@ part-enum : (all : Bool) (p : Program) (r : Found) → IsPartOf all false p Enum
 part-enum true p r is = is.0
 part-enum false p r is = is.0
 
-limited-opt : (brief : Bool) (p : Program) (n : ℕ) (L : List Atoms) (best : Option (Atoms × List ℤ)) (known : Option Atoms) → 0 < n → length L ≡ n → (chosen : Atoms → Bool) × (L ≡ filter chosen (optima p)) → IsBest p best
-    → (S : Atoms) × (Ss : List Atoms) × Contains (optima p) S × ArePicked n (optima p) Ss × (plain_text p (found Opt Limited L best known) brief ≡ lines brief p Ss ++ cost_line (cost p S) ++ last_lines n)
+limited-opt : (brief : Bool) (p : Program) (n : ℕ) (L : List Atoms) (best : Option (Atoms × List ℤ)) (known : Option Atoms) → 0 < n → length L ≡ n →
+    (chosen : Atoms → Bool) × (L ≡ filter chosen (optima p)) → IsBest p best
+    → (S : Atoms) × (Ss : List Atoms) × Contains (optima p) S × ArePicked n (optima p) Ss ×
+    (plain_text p (found Opt Limited L best known) brief ≡ lines brief p Ss ++ cost_line (cost p S) ++ last_lines n)
 limited-opt brief p n [] best known some count part is = absurd (let f : ⊥ = omega (arith, some, count) in f)
 limited-opt brief p n (T ∷ L) None known some count part is = let none : T ∷ L ≡ [] = part.1 ∙ ap (filter part.0) (no-optima p is) in absurd cc
 limited-opt brief p n (T ∷ L) (Some b) known some count part is = (
@@ -308,25 +324,31 @@ limited-opt brief p n (T ∷ L) (Some b) known some count part is = (
       ∙ ap (λ (k : ℕ). lines brief p (T ∷ L) ++ cost_line (cost p b.0) ++ last_lines k) count,
 )
 
-opt-limited : (all brief : Bool) (p : Program) (n : ℕ) (L : List Atoms) (best : Option (Atoms × List ℤ)) (known : Option Atoms) → asks_list all Opt ≡ true → 0 < n → length L ≡ n → IsPartOf all false p Opt (found Opt Limited L best known) → IsBest p best
-    → (S : Atoms) × (Ss : List Atoms) × Contains (optima p) S × ArePicked n (optima p) Ss × (plain_text p (found Opt Limited L best known) brief ≡ lines brief p Ss ++ cost_line (cost p S) ++ last_lines n)
+opt-limited : (all brief : Bool) (p : Program) (n : ℕ) (L : List Atoms) (best : Option (Atoms × List ℤ)) (known : Option Atoms) →
+    asks_list all Opt ≡ true → 0 < n → length L ≡ n → IsPartOf all false p Opt (found Opt Limited L best known) → IsBest p best
+    → (S : Atoms) × (Ss : List Atoms) × Contains (optima p) S × ArePicked n (optima p) Ss ×
+    (plain_text p (found Opt Limited L best known) brief ≡ lines brief p Ss ++ cost_line (cost p S) ++ last_lines n)
 opt-limited true brief p n L best known listing some count part is = limited-opt brief p n L best known some count part.0 is
 opt-limited false brief p n L best known listing some count part is = absurd (false≢true listing)
 
 enough-enum : (form : Form) (given : Options) (p : Program) (n : ℕ) (L : List Atoms) (best : Option (Atoms × List ℤ)) (known : Option Atoms) → length L ≡ n
-    → InForm form (text_for form given p (found Enum Limited L best known) ≡ lines (is_brief given) p L ++ last_lines n) (text_for form given p (found Enum Limited L best known) ≡ json_found given p (found Enum Limited L None None))
+    → InForm form (text_for form given p (found Enum Limited L best known) ≡ lines (is_brief given) p L ++ last_lines n)
+    (text_for form given p (found Enum Limited L best known) ≡ json_found given p (found Enum Limited L None None))
 enough-enum Text given p n L best known count = joined (lines (is_brief given) p L) _ _ (ap last_lines count)
 enough-enum Json given p n L best known count = refl
 
-enough-json : (all : Bool) (given : Options) (p : Program) (n : ℕ) (L : List Atoms) (best : Option (Atoms × List ℤ)) (known : Option Atoms) → asks_list all Opt ≡ true → 0 < n → length L ≡ n → IsPartOf all false p Opt (found Opt Limited L best known) → IsBest p best
-    → (S : Atoms) × (Ss : List Atoms) × Contains (optima p) S × ArePicked n (optima p) Ss × (json_found given p (found Opt Limited L best known) ≡ json_found given p (found Opt Limited Ss (Some (S, cost p S)) None))
+enough-json : (all : Bool) (given : Options) (p : Program) (n : ℕ) (L : List Atoms) (best : Option (Atoms × List ℤ)) (known : Option Atoms) →
+    asks_list all Opt ≡ true → 0 < n → length L ≡ n → IsPartOf all false p Opt (found Opt Limited L best known) → IsBest p best
+    → (S : Atoms) × (Ss : List Atoms) × Contains (optima p) S × ArePicked n (optima p) Ss ×
+    (json_found given p (found Opt Limited L best known) ≡ json_found given p (found Opt Limited Ss (Some (S, cost p S)) None))
 enough-json false given p n L best known listing some count part is = absurd (false≢true listing)
 enough-json true given p n [] best known listing some count part is = absurd (let f : ⊥ = omega (arith, some, count) in f)
 enough-json true given p n (T ∷ L) None known listing some count part is = let none : T ∷ L ≡ [] = part.0.1 ∙ ap (filter part.0.0) (no-optima p is) in absurd cc
 enough-json true given p n (T ∷ L) (Some b) known listing some count part is =
     (b.0, T ∷ L, an-optimum p b.0 b.1 is, (part.0, count), ap (λ (c : List ℤ). json_found given p (found Opt Limited (T ∷ L) (Some (b.0, c)) None)) is.sums)
 
-enough-opt : (form : Form) (given : Options) (p : Program) (n : ℕ) (L : List Atoms) (best : Option (Atoms × List ℤ)) (known : Option Atoms) → asks_list given.all_optima Opt ≡ true → 0 < n → length L ≡ n
+enough-opt : (form : Form) (given : Options) (p : Program) (n : ℕ) (L : List Atoms) (best : Option (Atoms × List ℤ)) (known : Option Atoms) →
+    asks_list given.all_optima Opt ≡ true → 0 < n → length L ≡ n
     → IsPartOf given.all_optima false p Opt (found Opt Limited L best known) → IsBest p best
     → (S : Atoms) × (Ss : List Atoms) × Contains (optima p) S × ArePicked n (optima p) Ss
     × InForm form (text_for form given p (found Opt Limited L best known) ≡ lines (is_brief given) p Ss ++ cost_line (cost p S) ++ last_lines n)
@@ -335,8 +357,10 @@ enough-opt Text given p n L best known listing some count part is = opt-limited 
 enough-opt Json given p n L best known listing some count part is = enough-json given.all_optima given p n L best known listing some count part is
 
 tells-enough : (given : Options) (p : Program) (mode : Mode) (L : List Atoms) (best : Option (Atoms × List ℤ)) (known : Option Atoms) → asks_list given.all_optima mode ≡ true → 0 < given.models
-    → length L ≡ given.models → IsPartOf given.all_optima false p mode (found mode Limited L best known) → HasBest p mode best → TellsEnough given p mode (text_for given.form given p (found mode Limited L best known))
-tells-enough given p Enum L best known listing some count part is = (L, (part-enum given.all_optima p (found Enum Limited L best known) part, count), enough-enum given.form given p given.models L best known count)
+    → length L ≡ given.models → IsPartOf given.all_optima false p mode (found mode Limited L best known) → HasBest p mode best →
+    TellsEnough given p mode (text_for given.form given p (found mode Limited L best known))
+tells-enough given p Enum L best known listing some count part is =
+    (L, (part-enum given.all_optima p (found Enum Limited L best known) part, count), enough-enum given.form given p given.models L best known count)
 tells-enough given p Opt L best known listing some count part is = enough-opt given.form given p given.models L best known listing some count part is
 tells-enough given p (Consequences w) L best known listing some count part is = absurd (false≢true listing)
 
@@ -407,7 +431,10 @@ sought-mode (Some (Consequences v)) p w is = refl
 
 -- where a list is sought it is the program itself
 asked-listed : (given : Options) (p : Program) (mode : Mode) → mode_of given.mode p ≡ mode → reasoning_of mode ≡ None → asked given p ≡ p
-asked-listed given p mode is listed = ap (λ (b : Bool). cond b (named p) p) (named-last (is_settled given) (seeks_consequences (Some given.mode)) (given.names || is_json given.form) (unsought-mode given.mode p mode is listed))
+asked-listed given p mode is listed =
+    ap (λ (b : Bool). cond b (named p) p)
+    (named-last (is_settled given) (seeks_consequences (Some given.mode)) (given.names || is_json given.form)
+    (unsought-mode given.mode p mode is listed))
 
 -- ---- consequences by name are those of the program
 no-answers : (p : Program) → IsSound p → has_numbers p ≡ true → answers p ≡ [] → answers (named p) ≡ []
@@ -425,7 +452,8 @@ abbrev ToldBy : Form → Bool → Bool → Program → Reasoning → List ℕ �
 ToldBy form names brief p w text = InForm form (text ≡ told_line names w p ++ ended_line (codes "CONSEQUENCES FOUND"))
     (text ≡ json_with p (found (Consequences w) Finished [] None (Some (consequences w p (answers p)))) (told_texts w p) brief)
 
-by-name : (form : Form) (names brief : Bool) (p : Program) (w : Reasoning) (text : List ℕ) → (names || is_json form) ≡ true → shown (named p) (consequences w (named p) (answers (named p))) ≡ told_texts w p
+by-name : (form : Form) (names brief : Bool) (p : Program) (w : Reasoning) (text : List ℕ) → (names || is_json form) ≡ true →
+    shown (named p) (consequences w (named p) (answers (named p))) ≡ told_texts w p
     → ToldOf form names brief (named p) w text → ToldBy form names brief p w text
 by-name Text true brief p w text named-so texts told = told ∙ ap (λ (ts : List (List ℕ)). named_line ts ++ ended_line (codes "CONSEQUENCES FOUND")) texts
 by-name Text false brief p w text named-so texts told = absurd (false≢true named-so)
@@ -444,17 +472,24 @@ by-number Text false brief p w text unnamed told = told ∙ ap (λ (t : List ℕ
 by-number Json true brief p w text unnamed told = absurd (false≢true (sym unnamed))
 by-number Json false brief p w text unnamed told = absurd (false≢true (sym unnamed))
 
-consequences-asked : (given : Options) (p : Program) (w : Reasoning) (text : List ℕ) (b : Bool) → is_settled given ≡ true → IsSound p → HasNumbers given p → mode_of given.mode p ≡ Consequences w → is_named given ≡ b
+consequences-asked : (given : Options) (p : Program) (w : Reasoning) (text : List ℕ) (b : Bool) → is_settled given ≡ true → IsSound p →
+    HasNumbers given p → mode_of given.mode p ≡ Consequences w → is_named given ≡ b
     → ¬ (answers (cond b (named p) p) ≡ []) × ToldOf given.form given.names (is_brief given) (cond b (named p) p) w text → TellsAll given p (Consequences w) text
 consequences-asked given p w text true settled sound numbers mode by told =
     let enough = numbers by in
     let some : ¬ (answers p ≡ []) = λ none. told.0 (no-answers p sound enough none) in (
       some,
-      by-name given.form given.names (is_brief given) p w text (last-named (is_settled given) (seeks_consequences (Some given.mode)) (given.names || is_json given.form) true settled (sought-mode given.mode p w mode) by)
+      by-name given.form given.names (is_brief given) p w text
+          (last-named (is_settled given) (seeks_consequences (Some given.mode)) (given.names || is_json given.form) true settled
+          (sought-mode given.mode p w mode) by)
           (told-named w (first_free p) p (split-named p sound enough) some) told.1,
     )
-consequences-asked given p w text false settled sound numbers mode by told =
-    (told.0, by-number given.form given.names (is_brief given) p w text (last-named (is_settled given) (seeks_consequences (Some given.mode)) (given.names || is_json given.form) false settled (sought-mode given.mode p w mode) by) told.1)
+consequences-asked given p w text false settled sound numbers mode by told = (
+  told.0,
+  by-number given.form given.names (is_brief given) p w text
+      (last-named (is_settled given) (seeks_consequences (Some given.mode)) (given.names || is_json given.form) false settled
+      (sought-mode given.mode p w mode) by) told.1,
+)
 
 none-asked : (given : Options) (p : Program) (b : Bool) → IsSound p → HasNumbers given p → is_named given ≡ b → answers (cond b (named p) p) ≡ [] → answers p ≡ []
 none-asked given p true sound numbers by none = no-named p sound (numbers by) none
@@ -464,18 +499,25 @@ none-asked given p false sound numbers by none = none
 settled-from : (given : Options) → given.proof ≡ false → given.split ≡ None → is_settled given ≡ true
 settled-from given plain whole = ap (λ (b : Bool). not (b || is_some given.split)) plain ∙ ap (λ (o : Option ℕ). not (is_some o)) whole
 
-all-asked : (given : Options) (p : Program) (mode : Mode) (L : List Atoms) (best : Option (Atoms × List ℤ)) (known : Option Atoms) → is_settled given ≡ true → IsSound p → HasNumbers given p → mode_of given.mode p ≡ mode
+all-asked : (given : Options) (p : Program) (mode : Mode) (L : List Atoms) (best : Option (Atoms × List ℤ)) (known : Option Atoms) →
+    is_settled given ≡ true → IsSound p → HasNumbers given p → mode_of given.mode p ≡ mode
     → IsAllFound given.all_optima false (asked given p) mode L best known → has_model_in mode (found mode Finished L best known) ≡ true
     → TellsAll given p mode (text_for given.form given (asked given p) (found mode Finished L best known))
 all-asked given p Enum L best known settled sound numbers mode is some =
-    subst (λ (q : Program). IsAllFound given.all_optima false q Enum L best known → TellsAll given p Enum (text_for given.form given q (found Enum Finished L best known))) (sym (asked-listed given p Enum mode refl)) (λ own. tells-listed given p Enum L best known refl own some) is
+    subst (λ (q : Program). IsAllFound given.all_optima false q Enum L best known →
+    TellsAll given p Enum (text_for given.form given q (found Enum Finished L best known))) (sym (asked-listed given p Enum mode refl))
+    (λ own. tells-listed given p Enum L best known refl own some) is
 all-asked given p Opt L best known settled sound numbers mode is some =
-    subst (λ (q : Program). IsAllFound given.all_optima false q Opt L best known → TellsAll given p Opt (text_for given.form given q (found Opt Finished L best known))) (sym (asked-listed given p Opt mode refl)) (λ own. tells-listed given p Opt L best known refl own some) is
+    subst (λ (q : Program). IsAllFound given.all_optima false q Opt L best known →
+    TellsAll given p Opt (text_for given.form given q (found Opt Finished L best known))) (sym (asked-listed given p Opt mode refl))
+    (λ own. tells-listed given p Opt L best known refl own some) is
 all-asked given p (Consequences w) L best known settled sound numbers mode is some =
     consequences-asked given p w (text_for given.form given (asked given p) (found (Consequences w) Finished L best known)) (is_named given) settled sound numbers mode refl
     (consequences-told given.form given (asked given p) w L best known (found-consequences given.all_optima (asked given p) w L best known is) some)
 
-none-in : (form : Form) (given : Options) (p q : Program) (w : Reasoning) (text : List ℕ) → InForm form (text ≡ none_text (Consequences w)) (text ≡ json_found given q (found (Consequences w) Finished [] None None)) → InForm form (text ≡ none_text (Consequences w)) (text ≡ json_found given p (found (Consequences w) Finished [] None None))
+none-in : (form : Form) (given : Options) (p q : Program) (w : Reasoning) (text : List ℕ) →
+    InForm form (text ≡ none_text (Consequences w)) (text ≡ json_found given q (found (Consequences w) Finished [] None None)) →
+    InForm form (text ≡ none_text (Consequences w)) (text ≡ json_found given p (found (Consequences w) Finished [] None None))
 none-in Text given p q w text told = told
 none-in Json given p q w text told = told
 
@@ -483,27 +525,38 @@ nothing-asked : (given : Options) (p : Program) (mode : Mode) (L : List Atoms) (
     → IsAllFound given.all_optima false (asked given p) mode L best known → has_model_in mode (found mode Finished L best known) ≡ false
     → TellsNone given p mode (text_for given.form given (asked given p) (found mode Finished L best known))
 nothing-asked given p Enum L best known sound numbers mode is none =
-    subst (λ (q : Program). IsAllFound given.all_optima false q Enum L best known → TellsNone given p Enum (text_for given.form given q (found Enum Finished L best known))) (sym (asked-listed given p Enum mode refl)) (λ own. tells-none given p Enum L best known own none) is
+    subst (λ (q : Program). IsAllFound given.all_optima false q Enum L best known →
+    TellsNone given p Enum (text_for given.form given q (found Enum Finished L best known))) (sym (asked-listed given p Enum mode refl))
+    (λ own. tells-none given p Enum L best known own none) is
 nothing-asked given p Opt L best known sound numbers mode is none =
-    subst (λ (q : Program). IsAllFound given.all_optima false q Opt L best known → TellsNone given p Opt (text_for given.form given q (found Opt Finished L best known))) (sym (asked-listed given p Opt mode refl)) (λ own. tells-none given p Opt L best known own none) is
+    subst (λ (q : Program). IsAllFound given.all_optima false q Opt L best known →
+    TellsNone given p Opt (text_for given.form given q (found Opt Finished L best known))) (sym (asked-listed given p Opt mode refl))
+    (λ own. tells-none given p Opt L best known own none) is
 nothing-asked given p (Consequences w) L best known sound numbers mode is none =
-    let told = tells-none given (asked given p) (Consequences w) L best known is none in
-    (none-asked given p (is_named given) sound numbers refl told.0, none-in given.form given p (asked given p) w (text_for given.form given (asked given p) (found (Consequences w) Finished L best known)) told.1)
+    let told = tells-none given (asked given p) (Consequences w) L best known is none in (
+      none-asked given p (is_named given) sound numbers refl told.0,
+      none-in given.form given p (asked given p) w (text_for given.form given (asked given p) (found (Consequences w) Finished L best known))
+          told.1,
+    )
 
-enough-asked : (given : Options) (p : Program) (mode : Mode) (L : List Atoms) (best : Option (Atoms × List ℤ)) (known : Option Atoms) → mode_of given.mode p ≡ mode → asks_list given.all_optima mode ≡ true → 0 < given.models
+enough-asked : (given : Options) (p : Program) (mode : Mode) (L : List Atoms) (best : Option (Atoms × List ℤ)) (known : Option Atoms) →
+    mode_of given.mode p ≡ mode → asks_list given.all_optima mode ≡ true → 0 < given.models
     → length L ≡ given.models → IsPartOf given.all_optima false (asked given p) mode (found mode Limited L best known) → HasBest (asked given p) mode best
     → TellsEnough given p mode (text_for given.form given (asked given p) (found mode Limited L best known))
 enough-asked given p Enum L best known mode listing some count part is =
-    subst (λ (q : Program). IsPartOf given.all_optima false q Enum (found Enum Limited L best known) → HasBest q Enum best → TellsEnough given p Enum (text_for given.form given q (found Enum Limited L best known))) (sym (asked-listed given p Enum mode refl))
+    subst (λ (q : Program). IsPartOf given.all_optima false q Enum (found Enum Limited L best known) → HasBest q Enum best →
+    TellsEnough given p Enum (text_for given.form given q (found Enum Limited L best known))) (sym (asked-listed given p Enum mode refl))
     (λ own best-own. tells-enough given p Enum L best known listing some count own best-own) part is
 enough-asked given p Opt L best known mode listing some count part is =
-    subst (λ (q : Program). IsPartOf given.all_optima false q Opt (found Opt Limited L best known) → HasBest q Opt best → TellsEnough given p Opt (text_for given.form given q (found Opt Limited L best known))) (sym (asked-listed given p Opt mode refl))
+    subst (λ (q : Program). IsPartOf given.all_optima false q Opt (found Opt Limited L best known) → HasBest q Opt best →
+    TellsEnough given p Opt (text_for given.form given q (found Opt Limited L best known))) (sym (asked-listed given p Opt mode refl))
     (λ own best-own. tells-enough given p Opt L best known listing some count own best-own) part is
 enough-asked given p (Consequences w) L best known mode listing some count part is = absurd (false≢true listing)
 
 -- ---- the theorem
 -- a text with its mode and its end
-text-of : (form : Form) (p : Program) (r : Found) (brief names : Bool) (mode : Mode) (end : End) → r.mode ≡ mode → r.end ≡ end → text_in form p r brief names ≡ text_in form p (found mode end r.answers r.best r.known) brief names
+text-of : (form : Form) (p : Program) (r : Found) (brief names : Bool) (mode : Mode) (end : End) → r.mode ≡ mode → r.end ≡ end →
+    text_in form p r brief names ≡ text_in form p (found mode end r.answers r.best r.known) brief names
 text-of form p r brief names mode end m e =
     ap (λ (x : Mode). text_in form p (found x r.end r.answers r.best r.known) brief names) m ∙ ap (λ (x : End). text_in form p (found mode x r.answers r.best r.known) brief names) e
 
@@ -513,7 +566,8 @@ Telling given end model Tells = (p : Program) (R : Report) → is_settled given 
     → has_model_in (mode_of given.mode p) (found (mode_of given.mode p) end R.results.answers R.results.best R.results.known) ≡ model
     → Tells p (mode_of given.mode p) (text_for given.form given (asked given p) (found (mode_of given.mode p) end R.results.answers R.results.best R.results.known))
 
-wrote : (given : Options) (a : Around) (report : Option Report) (end : End) (model : Bool) (Tells : Program → Mode → List ℕ → Type 0) (is_sent : Bool) → given.proof ≡ false → Telling given end model Tells → IsWritten given a report end model
+wrote : (given : Options) (a : Around) (report : Option Report) (end : End) (model : Bool) (Tells : Program → Mode → List ℕ → Type 0) (is_sent : Bool)
+    → given.proof ≡ false → Telling given end model Tells → IsWritten given a report end model
     → is_sent ≡ true → Wrote given a.left a.held a.held' is_sent Tells
 wrote given a report end model Tells is_sent plain telling w sent =
     let p = w.solved.program in
@@ -534,7 +588,9 @@ wrote given a report end model Tells is_sent plain telling w sent =
       input = input-of given.format given.make a p w.solved.source;
       text = text_for given.form given q (found mode end R.results.answers R.results.best R.results.known);
       tells = telling p R (settled-from given plain w.solved.whole) w.solved.sound w.solved.numbers (subst (SaysReport q (without_names (ask_of given p)) R) w.end_is s.says)
-          (model-same (is_named given) q mode end told.results.answers told.results.best s.known told.results.known s.same ∙ model-of mode mode end told.results ∙ ap (λ m. has_model_in m told.results) (sym w.solved.is.mode_is) ∙ model-with F done.results.mode done.results ∙ w.model_is);
+          (model-same (is_named given) q mode end told.results.answers told.results.best s.known told.results.known s.same
+          ∙ model-of mode mode end told.results ∙ ap (λ m. has_model_in m told.results) (sym w.solved.is.mode_is)
+          ∙ model-with F done.results.mode done.results ∙ w.model_is);
       written = subst (Appends a.held a.held') same w.text;
       sent = sent;
     }
@@ -553,7 +609,8 @@ whole given a o is_sent plain runs sent = by o.status runs.means sent
     by status m sent = tt
 
 -- the same where the words of a run give these options
-pub whole-on : (own given : Options) (g : Given) (a : Around) (o : Outcome) (is_sent : Bool) → options own ≡ g → RunsBy own.queries own a o → IsSentOn o.status is_sent → g ≡ options given → given.proof ≡ false → given.queries ≡ false
+pub whole-on : (own given : Options) (g : Given) (a : Around) (o : Outcome) (is_sent : Bool) → options own ≡ g → RunsBy own.queries own a o →
+    IsSentOn o.status is_sent → g ≡ options given → given.proof ≡ false → given.queries ≡ false
     → IsWhole given a.left a.held a.held' is_sent o.status
 whole-on own given g a o is_sent first runs sent second plain one =
     whole given a o is_sent plain (subst (λ (b : Bool). RunsBy b given a o) one (subst (λ (x : Given). RunsOn x a o) (first ∙ second) runs)) sent

@@ -6,11 +6,9 @@ pub mod Progress
 pub mod Telling
 pub mod Meaning
 pub mod Parting
-pub mod Naming
 pub mod Runs
 pub mod Whole
 pub mod Words
 pub mod Formats
 pub mod Loops
 pub mod Series
-pub mod Asking

@@ -1,28 +1,17 @@
 -- What each status of a run says of the words, of the bytes read and of the bytes written.
-use Rattle.std.specs.Prelude.{◌≡◌, ◌⊎◌, ℕ, ◌≤◌, ◌==◌, Bool, true, false, ◌||◌, if◌then◌else◌, List, Option, None, Some, Result, Ok, Err, IfSome, is_some, length, map, option_map, ℤ}
+use Rattle.std.specs.Prelude.{◌≡◌, ◌⊎◌, ℕ, ◌≤◌, ◌==◌, Bool, true, false, ◌||◌, if◌then◌else◌, List, Option, None, Some, Result, Ok, Err, IfSome, is_some, length, ℤ}
 use Rattle.std.specs.Io.KnownBytes.{Appends, Keeps, IsAtEnd}
 use Rattle.asp_io.specs.Causes.{Rose, AppendsFront}
 use Rattle.asp_read.specs.declared.fault.Fault.{Fault}
 use Rattle.asp_read.specs.declared.fault.ReadError.{ReadError}
 use Rattle.asp_read.specs.declared.fault.ReadError.TheVariants as errors
 use Rattle.asp_model.specs.declared.program.Program.{Program}
-use Rattle.asp_model.specs.declared.results.Ask.{Ask}
 use Rattle.asp_model.specs.declared.results.End.{End}
 use Rattle.asp_model.specs.declared.results.End.TheVariants.{Finished, Limited, Unfinished}
-use Rattle.asp_model.specs.Found.{Found}
-use Rattle.asp_model.specs.Sets.{Atoms}
 use Rattle.asp_model.specs.Sound.{IsSound}
-use Rattle.asp_model.specs.Texts.{shown}
 use Rattle.asp_equal.specs.declared.reduce.Aside.{Aside}
-use Rattle.asp_equal.specs.Reduced.{restored}
 use Rattle.asp_named.specs.Named.{has_numbers}
-use Rattle.asp_print.specs.Named.{printed_text}
-use Rattle.asp_json.specs.Json.{json_text}
-use Rattle.asp_proof.specs.declared.proof.Proof.{Proof}
-use Rattle.asp_proof.specs.Texts.{text_of}
 use Rattle.asp_read.specs.Judging.{most_bytes}
-use Rattle.asp_cli.specs.declared.Form.{Form}
-use Rattle.asp_cli.specs.declared.Form.TheVariants.{Text, Json}
 use Rattle.asp_cli.specs.declared.Format.{Format}
 use Rattle.asp_top.specs.Codes.{IsLost}
 use Rattle.asp_top.specs.Formats.{StopsFor, outcome_for}
@@ -34,17 +23,21 @@ use Rattle.asp_model.specs.Models.{atoms_of}
 use Rattle.asp_vars.specs.Numbering.{bodies_of}
 use Rattle.asp_counts.specs.Telling.{AreNumbered}
 use Rattle.asp_crew_laws.specs.declared.report.Report.{Report}
-use Rattle.asp_crew_laws.specs.Reports.{IsReport, Says as SaysReport}
+use Rattle.asp_crew_laws.specs.Reports.{IsReport}
 use Rattle.asp_crew_laws.specs.Proofs.{HasProof}
-use Rattle.asp_top.specs.declared.deliver.Layout.{Layout}
-use Rattle.asp_top.specs.declared.prepare.Prepared.{Prepared}
 use Rattle.asp_top.specs.declared.status.Status.{Status}
 use Rattle.asp_top.specs.declared.status.Status.TheVariants.{All, NoModel, Partial, Unknown, Enough, Help, Memory, Usage, Refused, ReadFault, TooLong, Unnamed, WriteFault, Parts}
 use Rattle.asp_top.specs.declared.status.Outcome.{Outcome}
 use Rattle.asp_top.specs.declared.counts.Tally.{Tally}
 use Rattle.asp_top.specs.Loops.{HasLoops}
-use Rattle.asp_top.specs.Meaning.{has_model, mode_of, status_for}
-use Rattle.asp_top.specs.Naming.{aside_for, asked, is_named, left_for}
+use Rattle.asp_prepare.specs.declared.layout.Layout.{Layout}
+use Rattle.asp_prepare.specs.declared.prepared.Prepared.{Prepared}
+use Rattle.asp_prepare.specs.declared.prepared.Unready.{Unready}
+use Rattle.asp_prepare.specs.declared.prepared.Unready.TheVariants as unready
+use Rattle.asp_prepare.specs.Meaning.{has_model}
+use Rattle.asp_prepare.specs.Naming.{HasNumbers, WhyNot, ask_of, asked, is_named, prepared_of, searched, set_aside}
+use Rattle.asp_prepare.specs.Told.{SaysOf, report_text, report_with, told_with}
+use Rattle.asp_top.specs.Meaning.{status_for}
 use Rattle.asp_top.specs.Notes.{IsNoted, is_answered, is_written, note_of, notes_of}
 use Rattle.asp_top.specs.Parting.{AreParts, Divides}
 use Rattle.asp_top.specs.Progress.{IsTold}
@@ -89,67 +82,7 @@ abbrev pub IsGiven : Format → Option ℕ → Around → Program → Type 0
 IsGiven f None a p = IsRead f a p
 IsGiven f (Some n) a p = (p ≡ ring n) × IsUnasked a
 
--- the text of results, in the form that was asked for; `names` says whether lines tell consequences by name
-abbrev pub text_in : Form → Program → Found → Bool → Bool → List ℕ
-text_in Text p r brief names = printed_text p r brief names
-text_in Json p r brief names = json_text p r brief
-
--- the text of a report: that of its proof, if it has one, and else that of its results
-abbrev pub text_by : Option Proof → Program → Found → Layout → List ℕ
-text_by (Some proof) p r layout = text_of proof
-text_by None p r layout = text_in layout.form p r layout.brief layout.names
-
-abbrev pub report_text : Program → Report → Layout → List ℕ
-report_text p r layout = text_by r.proof p r.results layout
-
--- what is asked of the program by the options
-abbrev pub ask_of : Options → Program → Ask
-ask_of given p = record { mode = mode_of given.mode p; models = given.models; all_optima = given.all_optima; by_name = is_named given }
-
 -- ---- outputs get atoms, and facts and copies are set aside, before the search
--- the program that is searched
-abbrev pub searched : Options → Program → Program
-searched given p = left_for given (asked given p)
-
--- what is set aside before
-abbrev pub set_aside : Options → Program → Aside
-set_aside given p = aside_for given (asked given p)
-
--- what was found, each set with what was set aside
-abbrev pub found_with : Aside → Found → Found
-found_with A r = record r { answers = map (restored A) r.answers; best = option_map (λ best. (restored A best.0, best.1)) r.best; known = option_map (restored A) r.known }
-
--- the report of a search for what is left, as one on the program
-abbrev pub report_with : Aside → Report → Report
-report_with A r = record r { results = found_with A r.results }
-
--- the same where no answer is listed
-abbrev pub told_with : Aside → Report → Report
-told_with A r = record r { results = record r.results { known = option_map (restored A) r.results.known } }
-
--- what is asked by name without the names: what holds in some answer, or in each, of all atoms
-abbrev pub without_names : Ask → Ask
-without_names ask = record ask { by_name = false }
-
--- the report with this set of consequences
-abbrev pub with_known : Option Atoms → Report → Report
-with_known known r = record r { results = record r.results { known = known } }
-
--- The set told shows the same texts as this one where consequences are told by name, and else it is this one.
-abbrev pub ShowsAs : Bool → Program → Option Atoms → Option Atoms → Type 0
-ShowsAs false p known told = told ≡ known
-ShowsAs true p known told = option_map (shown p) told ≡ option_map (shown p) known
-
--- The report says of the program what was asked. By name its set of consequences isn't the program's, but shows the same texts.
-pub record SaysOf (p : Program) (ask : Ask) (r : Report) (end : End) : Type 0 where
-  pub known : Option Atoms
-  pub says : SaysReport p (without_names ask) (with_known known r) end
-  pub same : ShowsAs ask.by_name p known r.results.known
-
--- There are numbers where outputs need atoms.
-abbrev pub HasNumbers : Options → Program → Type 0
-HasNumbers given p = is_named given ≡ true → has_numbers p ≡ true
-
 -- No parts are asked for. The report is that of a run on what is left of the program, with what is asked and the units that were given;
 -- with what was set aside it says of the program what was asked, and has a proof if that was asked for. Where consequences are told by name all
 -- this is about the program with atoms for its outputs, and the texts of those are what is said.
@@ -275,7 +208,8 @@ pub record IsExact (given : Options) (a : Around) (status : Status) : Type 0 whe
   -- consequences can't be told by name
   pub accepted : IsAccepted given a → ¬ Rose a.reads a.reads' → ¬ Rose a.writes a.writes' → IsAnswered status ⊎ (status ≡ Memory)
   -- a faulty text, where the source's count didn't rise, is refused
-  pub refused : Reads given → (text : List ℕ) (fault : Fault) (line : ℕ) → a.left ≡ Some text → outcome_for given.format text ≡ Err (errors.Refused fault line) → ¬ Rose a.reads a.reads' → (status ≡ Refused fault line) ⊎ (status ≡ Memory)
+  pub refused : Reads given → (text : List ℕ) (fault : Fault) (line : ℕ) → a.left ≡ Some text →
+      outcome_for given.format text ≡ Err (errors.Refused fault line) → ¬ Rose a.reads a.reads' → (status ≡ Refused fault line) ⊎ (status ≡ Memory)
   pub too_long : Reads given → (text : List ℕ) → a.left ≡ Some text → outcome_for given.format text ≡ Err errors.TooLong → ¬ Rose a.reads a.reads' → (status ≡ TooLong) ⊎ (status ≡ Memory)
   -- a fault of the source was counted only where the status says so: every failed read is told
   pub quiet : ¬ (status ≡ ReadFault) → a.reads' ≡ a.reads
@@ -314,7 +248,8 @@ Concludes layout p A r held held' writes writes' o =
 abbrev pub Solves : Options → Program → Option (List ℕ) → Option (List ℕ) → ℕ → ℕ → Outcome → Type 0
 Solves given p held held' writes writes' o =
     ((o ≡ record { status = Memory; report = None }) × Keeps held held' × (writes' ≡ writes))
-    ⊎ ((r : Report) × (IsReport (searched given p) (ask_of given p) given.budget r × HasProof given.proof r) × Delivers (layout_of given) (searched given p) (told_with (set_aside given p) r) held held' writes writes' o)
+    ⊎ ((r : Report) × (IsReport (searched given p) (ask_of given p) given.budget r × HasProof given.proof r) ×
+    Delivers (layout_of given) (searched given p) (told_with (set_aside given p) r) held held' writes writes' o)
 
 -- The program was divided where parts are asked for, and else solved.
 abbrev pub DoesBy : Option ℕ → Options → Program → Option (List ℕ) → Option (List ℕ) → ℕ → ℕ → Outcome → Type 0
@@ -343,15 +278,14 @@ abbrev pub IsOver : Options → Option (List ℕ) → Option (List ℕ) → ℕ 
 IsOver given left left' reads reads' status =
     (held : Option (List ℕ)) (writes : ℕ) → Runs given (around left left' reads reads' held held writes writes) (record { status = status; report = None })
 
--- what is searched of the program, and what is set aside
-abbrev pub prepared_of : Options → Program → Prepared
-prepared_of given p = record { compiled = searched given p; aside = set_aside given p }
+-- how a run ends of whose program nothing is searched
+abbrev pub status_unready : Unready → Status
+status_unready unready.Memory = Memory
+status_unready unready.Unnamed = Unnamed
 
--- why nothing is searched of a program that is there
-abbrev pub WhyNot : Options → Program → Status → Type 0
-WhyNot given p Memory = Unit {0}
-WhyNot given p Unnamed = (is_named given ≡ true) × (has_numbers p ≡ false)
-WhyNot given p status = ⊥
+-- A run ends so, since nothing is searched of its program.
+abbrev pub EndsUnready : Options → Program → Status → Type 0
+EndsUnready given p status = (why : Unready) × WhyNot given p why × (status ≡ status_unready why)
 
 -- The program is there, and what is searched of it.
 abbrev pub Prepares : Options → Option (List ℕ) → Option (List ℕ) → ℕ → ℕ → Result Prepared Status → Type 0

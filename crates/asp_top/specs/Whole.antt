@@ -23,7 +23,7 @@ use Rattle.asp_cli.specs.declared.Options.{Options}
 use Rattle.asp_top.specs.Formats.{outcome_for}
 use Rattle.asp_top.specs.declared.status.Status.{Status}
 use Rattle.asp_top.specs.declared.status.Status.TheVariants.{All, NoModel, Enough}
-use Rattle.asp_top.specs.Meaning.{mode_of}
+use Rattle.asp_prepare.specs.Meaning.{mode_of}
 use Rattle.asp_top.specs.Runs.{is_brief}
 
 -- ---- what is read

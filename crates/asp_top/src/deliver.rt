@@ -4,7 +4,8 @@ ghost use Rattle.asp_json.specs.Json.{json_text};
 ghost use Rattle.asp_print.specs.Named.{printed_text};
 ghost use Rattle.asp_proof.specs.Texts.{text_of};
 ghost use Rattle.asp_top.specs.Notes.{Writes};
-ghost use Rattle.asp_top.specs.Runs.{Delivers, IsSentOn, TellsClosed, TellsFaults, report_text, text_in};
+ghost use Rattle.asp_prepare.specs.Told.{report_text, text_in};
+ghost use Rattle.asp_top.specs.Runs.{Delivers, IsSentOn, TellsClosed, TellsFaults};
 
 use crate::solve::status_for;
 use crate::status::{Outcome, Status};
@@ -14,22 +15,12 @@ use asp_io::{Failed, Sink};
 use asp_json::print_json;
 use asp_model::program::Program;
 use asp_model::results::Results;
+use asp_prepare::layout::Layout;
 use asp_print::print;
 use asp_proof::proof::Proof;
 use asp_proof::write_proof;
 use asp_rows::sets::Sets;
 use std::alloc::Global;
-
-/// How the results are written.
-#[derive(Clone, Copy)]
-pub struct Layout {
-    /// Their form.
-    pub form: Form,
-    /// Whether the answers are left out.
-    pub brief: bool,
-    /// Whether lines tell consequences by name.
-    pub names: bool,
-}
 
 /// The outcome of a run without a report.
 pub fn failed(status: Status) -> Outcome

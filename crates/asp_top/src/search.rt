@@ -6,23 +6,26 @@ ghost use Rattle.asp_counts.specs.Telling.{AreNumbered};
 ghost use Rattle.asp_crew_laws.specs.Proofs.{HasProof};
 ghost use Rattle.asp_crew_laws.specs.Reports.{IsReport};
 ghost use Rattle.asp_model.specs.declared.program.Program.{Program};
-ghost use Rattle.asp_top.specs.Runs.{Concludes, IsCounted, IsSentOn, Solves, TellsClosed, TellsFaults, ask_of, layout_of, prepared_of, told_with};
+ghost use Rattle.asp_prepare.specs.Naming.{prepared_of};
+ghost use Rattle.asp_top.specs.Runs.{Concludes, IsCounted, IsSentOn, Solves, TellsClosed, TellsFaults, layout_of};
 
 use crate::counts::Tally;
-use crate::deliver::{Layout, deliver, failed};
+use crate::deliver::{deliver, failed};
 use crate::loops::loops;
-use crate::prepare::{Prepared, is_named};
-use crate::solve::mode_of;
 use crate::status::{Outcome, Status};
 use asp_cli::Options;
 use asp_counts::counts::Counts;
 use asp_counts::watch::Watch;
 use asp_crew::alone::solve_alone;
 use asp_crew::report::Report;
-use asp_equal::reduce::{Aside, restore};
+use asp_equal::reduce::Aside;
 use asp_io::Sink;
 use asp_model::program::Program;
 use asp_model::results::Ask;
+use asp_prepare::asked::ask_of;
+use asp_prepare::layout::Layout;
+use asp_prepare::prepared::Prepared;
+use asp_prepare::told::told_with;
 use asp_team::gate::Gate;
 use asp_team::many;
 use asp_team::many::{Deeds, Plan};
@@ -31,18 +34,6 @@ use std::alloc::{AllocError, Global};
 use std::mem;
 use std::sync::Wait;
 use std::thread::Threads;
-
-// What is asked of the program by the options.
-fn ask_of(options: &Options, program: &Program) -> Ask
-    ensures { result ≡ ask_of options.now program.now }
-{
-    Ask {
-        mode: mode_of(options.mode, program),
-        models: options.models,
-        all_optima: options.all_optima,
-        by_name: is_named(options),
-    }
-}
 
 // How the results are written: of a ring the closing lines alone.
 fn layout_of(options: &Options) -> Layout
@@ -53,18 +44,6 @@ fn layout_of(options: &Options) -> Layout
         brief: options.make.is_some() || options.quiet,
         names: options.names,
     }
-}
-
-// The report with what was set aside among what is known.
-fn told(alloc: Global, aside: &Aside, report: Report) -> Result<Report, AllocError>
-    ensures { IfOk result (λ whole. whole ≡ told_with aside.now report) }
-{
-    let mut report = report;
-    if let Some(known) = &report.results.known {
-        let whole = restore(alloc, aside, known)?;
-        report.results.known = Some(whole);
-    }
-    Ok(report)
 }
 
 // Writes the text of a report with what was set aside, or nothing where memory runs out.
@@ -81,7 +60,7 @@ fn conclude<K: Sink>(
     ensures sent { IsSentOn result.status (K.is_sent sink.new) }
     ensures closed { TellsClosed result.status (K.is_closed sink.new) }
 {
-    match told(alloc, aside, report) {
+    match told_with(alloc, aside, report) {
         Ok(report) => deliver(alloc, sink, layout, program, report),
         Err(_) => failed(Status::Memory),
     }

@@ -1,319 +1,33 @@
-//! A series of queries: each is a run of its own, with the units that those before it left.
-ghost use Rattle.std.specs.Prelude.{◌≡◌, ◌≤◌, IfErr, IfOk, OnOk, false, length, option_map, true, Some};
-ghost use Rattle.std.specs.Io.KnownBytes.{Keeps};
+//! A run with queries.
+ghost use Rattle.std.specs.Prelude.{◌≡◌, Some, false};
 ghost use Rattle.asp_cli.specs.Found.{seeks_consequences};
-ghost use Rattle.asp_model.specs.Sound.{IsSound};
-ghost use Rattle.asp_print.specs.Queries.{query_text};
-ghost use Rattle.asp_read.specs.Queries.{IsSoundSeries, with_query};
-ghost use Rattle.asp_top.specs.Asking.{EndMeans, GoesOn, IsAt, IsReply, StepMeans, answered_of, literals_in, minimal_in, spent_in};
-ghost use Rattle.asp_top.specs.Notes.{Writes};
 ghost use Rattle.asp_top.specs.Runs.{IsSentOn, TellsClosed, TellsFaults, around};
-ghost use Rattle.asp_top.specs.Series.{Asks, RunsSeries};
+ghost use Rattle.asp_top.specs.Series.{RunsSeries, status_at};
 
-use crate::ask::{Sought, about, seek};
-use crate::cores::{Core, core_of};
 use crate::deliver::failed;
 use crate::prepare::status_of;
-use crate::solve::has_model;
 use crate::status::{Outcome, Status};
 use asp_cli::Options;
 use asp_counts::counts::Counts;
 use asp_counts::watch::Watch;
-use asp_io::{Failed, Sink, Source};
-use asp_model::program::Program;
-use asp_model::results::End;
-use asp_print::{Query, print_query};
-use asp_read::{Series, read_queries};
-use std::alloc::{AllocError, Global};
+use asp_io::{Sink, Source};
+use asp_read::read_queries;
+use asp_series::end::SeriesEnd;
+use asp_series::series::ask_all;
+use std::alloc::Global;
 use std::mem;
 
-/// What was found of a query.
-#[derive(Drop)]
-pub struct Reply {
-    /// What was searched, and what was found.
-    pub sought: Sought,
-    /// Literals that no stable model has together, where there is no answer.
-    pub core: Option<Core>,
-    /// The units that both took.
-    pub spent: u64,
-}
-
-/// How far a series is.
-#[derive(Clone, Copy)]
-pub struct Course {
-    /// The units that are left.
-    pub left: u64,
-    /// Whether a query had a model.
-    pub any: bool,
-}
-
-fn spent_in(core: &Option<Core>) -> u64
-    ensures { result ≡ spent_in core.now }
+// The status of a run whose series ended so.
+fn status_at(end: SeriesEnd) -> Status
+    ensures { result ≡ status_at end }
 {
-    match core {
-        None => 0,
-        Some(core) => core.spent,
-    }
-}
-
-// What is found of a query, and its core where it has no answer.
-fn answer<W: Watch>(
-    alloc: Global,
-    options: &Options,
-    program: &Program,
-    query: &[i32],
-    units: u64,
-    counts: &mut Counts,
-    watch: &mut W,
-) -> Result<Reply, AllocError>
-    requires plain { seeks_consequences (Some options.now.mode) ≡ false }
-    requires itself { IsSound program.now }
-    requires sound { IsSound (with_query program.now query.now) }
-    ensures reply { IfOk result (IsReply options.now program.now query.now units) }
-    ensures heard { W.IsAfter watch.old watch.new }
-{
-    let ask = about(options, program);
-    let sought = seek(alloc, options, program, query, ask, units, counts, watch)?;
-    let left = units - sought.report.spent;
-    match core_of(
-        alloc,
-        options,
-        program,
-        query,
-        &sought.report.results,
-        left,
-        counts,
-        watch,
-    ) {
-        Ok(core) => {
-            let spent = sought.report.spent + spent_in(&core);
-            Ok(Reply {
-                sought,
-                core,
-                spent,
-            })
-        }
-        Err(error) => {
-            mem::drop(sought);
-            Err(error)
-        }
-    }
-}
-
-fn literals_of(core: &Option<Core>) -> Option<&[i32]>
-    ensures { option_map (λ literals. literals.now) result ≡ literals_in core.entry.now }
-{
-    match core {
-        None => None,
-        Some(core) => Some(core.literals.as_slice()),
-    }
-}
-
-fn is_minimal(core: &Option<Core>) -> bool
-    ensures { result ≡ minimal_in core.now }
-{
-    match core {
-        None => false,
-        Some(core) => core.minimal,
-    }
-}
-
-// Writes the text of a query's results.
-fn write_reply<K: Sink>(
-    alloc: Global,
-    options: &Options,
-    program: &Program,
-    number: u64,
-    reply: &Reply,
-    sink: &mut K,
-) -> Result<(), Failed>
-    ensures { Writes (K.held sink.old) (K.held sink.new) (K.faults sink.old) (K.faults sink.new) result
-        (query_text reply.now.sought.prepared.compiled program.now.outputs number reply.now.sought.report.results (literals_in reply.now.core) (minimal_in reply.now.core) options.now.quiet options.now.names) }
-{
-    let query = Query {
-        number,
-        core: literals_of(&reply.core),
-        minimal: is_minimal(&reply.core),
-        outputs: &program.outputs,
-    };
-    print_query(
-        alloc,
-        sink,
-        reply.sought.prepared.compiled.program(),
-        query,
-        &reply.sought.report.results,
-        options.quiet,
-        options.names,
-    )
-}
-
-// Writes the text of a query's results, and flushes the sink.
-fn tell<K: Sink>(
-    alloc: Global,
-    options: &Options,
-    program: &Program,
-    number: u64,
-    reply: &Reply,
-    sink: &mut K,
-) -> Result<(), Failed>
-    ensures writes { Writes (K.held sink.old) (K.held sink.new) (K.faults sink.old) (K.faults sink.new) result
-        (query_text reply.now.sought.prepared.compiled program.now.outputs number reply.now.sought.report.results (literals_in reply.now.core) (minimal_in reply.now.core) options.now.quiet options.now.names) }
-    ensures sent { OnOk result (K.is_sent sink.new ≡ true) }
-{
-    write_reply(alloc, options, program, number, reply, sink)?;
-    sink.flush()
-}
-
-// What follows a reply: the next query, or the end where the units are spent.
-fn go_on(course: Course, reply: &Reply) -> Result<Course, Status>
-    requires { reply.now.spent ≤ course.left }
-    ensures { GoesOn course (answered_of reply.now) result }
-{
-    let any = course.any || has_model(&reply.sought.report.results);
-    match reply.sought.report.results.end {
-        End::Finished => Ok(Course {
-            left: course.left - reply.spent,
-            any,
-        }),
-        _ => Err(if any {
-            Status::Partial
-        } else {
-            Status::Unknown
-        }),
-    }
-}
-
-// Writes what was found of a query, and says what follows.
-fn hand_over<K: Sink>(
-    alloc: Global,
-    options: &Options,
-    program: &Program,
-    query: &[i32],
-    number: u64,
-    course: Course,
-    reply: &Reply,
-    sink: &mut K,
-) -> Result<Course, Status>
-    requires plain { seeks_consequences (Some options.now.mode) ≡ false }
-    requires reply { IsReply options.now program.now query.now course.left reply.now }
-    ensures means { StepMeans options.now program.now query.now number course (K.held sink.old) (K.held sink.new) (K.faults sink.old) (K.faults sink.new) result }
-    ensures sent_on { OnOk result (K.is_sent sink.new ≡ true) }
-    ensures sent { IfErr result (λ s. IsSentOn s (K.is_sent sink.new)) }
-    ensures closed { IfErr result (λ s. TellsClosed s (K.is_closed sink.new)) }
-{
-    match tell(alloc, options, program, number, reply, sink) {
-        Ok(()) => go_on(course, reply),
-        Err(Failed) => Err(Status::WriteFault(sink.is_closed())),
-    }
-}
-
-// Asks one query. What was found is written, and sent on, before the next begins.
-fn step<K: Sink, W: Watch>(
-    alloc: Global,
-    options: &Options,
-    program: &Program,
-    query: &[i32],
-    number: u64,
-    course: Course,
-    sink: &mut K,
-    counts: &mut Counts,
-    watch: &mut W,
-) -> Result<Course, Status>
-    requires plain { seeks_consequences (Some options.now.mode) ≡ false }
-    requires itself { IsSound program.now }
-    requires sound { IsSound (with_query program.now query.now) }
-    ensures means { StepMeans options.now program.now query.now number course (K.held sink.old) (K.held sink.new) (K.faults sink.old) (K.faults sink.new) result }
-    ensures sent_on { OnOk result (K.is_sent sink.new ≡ true) }
-    ensures sent { IfErr result (λ s. IsSentOn s (K.is_sent sink.new)) }
-    ensures closed { IfErr result (λ s. TellsClosed s (K.is_closed sink.new)) }
-    ensures heard { W.IsAfter watch.old watch.new }
-{
-    match answer(alloc, options, program, query, course.left, counts, watch) {
-        Ok(reply) => {
-            let next = hand_over(alloc, options, program, query, number, course, &reply, sink);
-            mem::drop(reply);
-            next
-        }
-        Err(_) => Err(Status::Memory),
-    }
-}
-
-// Asks the queries, one after another.
-fn ask_each<K: Sink, W: Watch>(
-    alloc: Global,
-    options: &Options,
-    series: &Series,
-    sink: &mut K,
-    counts: &mut Counts,
-    watch: &mut W,
-) -> Result<Course, Status>
-    requires plain { seeks_consequences (Some options.now.mode) ≡ false }
-    requires sound { IsSoundSeries series.now }
-    ensures asked { IfOk result (IsAt options.now series.now.program series.now.queries (K.held sink.old) (K.held sink.new) (K.faults sink.old) (K.faults sink.new) (length series.now.queries)) }
-    ensures stops { IfErr result (λ s. Asks options.now series.now (K.held sink.old) (K.held sink.new) (K.faults sink.old) (K.faults sink.new) s) }
-    ensures flushed { IfErr result (λ s. TellsFaults (K.faults sink.old) (K.faults sink.new) s) }
-    ensures sent { IfErr result (λ s. IsSentOn s (K.is_sent sink.new)) }
-    ensures closed { IfErr result (λ s. TellsClosed s (K.is_closed sink.new)) }
-    ensures heard { W.IsAfter watch.old watch.new }
-{
-    let mut course = Course {
-        left: options.budget,
-        any: false,
-    };
-    let queries = series.queries.as_slice();
-    for i in 0..queries.len() {
-        match step(
-            alloc,
-            options,
-            &series.program,
-            queries[i].as_slice(),
-            i as u64 + 1,
-            course,
-            sink,
-            counts,
-            watch,
-        ) {
-            Ok(next) => course = next,
-            Err(status) => return Err(status),
-        }
-    }
-    Ok(course)
-}
-
-// The end of a series whose queries were all finished.
-fn end<K: Sink>(any: bool, sink: &mut K) -> Status
-    ensures kept { Keeps (K.held sink.old) (K.held sink.new) }
-    ensures later { K.faults sink.old ≤ K.faults sink.new }
-    ensures means { EndMeans any (K.faults sink.old) (K.faults sink.new) result }
-    ensures sent { IsSentOn result (K.is_sent sink.new) }
-    ensures closed { TellsClosed result (K.is_closed sink.new) }
-{
-    match sink.flush() {
-        Ok(()) => if any { Status::All } else { Status::NoModel },
-        Err(Failed) => Status::WriteFault(sink.is_closed()),
-    }
-}
-
-// Asks the queries of a series, and says how that ended.
-fn ask_all<K: Sink, W: Watch>(
-    alloc: Global,
-    options: &Options,
-    series: &Series,
-    sink: &mut K,
-    counts: &mut Counts,
-    watch: &mut W,
-) -> Status
-    requires plain { seeks_consequences (Some options.now.mode) ≡ false }
-    requires sound { IsSoundSeries series.now }
-    ensures asks { Asks options.now series.now (K.held sink.old) (K.held sink.new) (K.faults sink.old) (K.faults sink.new) result }
-    ensures flushed { TellsFaults (K.faults sink.old) (K.faults sink.new) result }
-    ensures sent { IsSentOn result (K.is_sent sink.new) }
-    ensures closed { TellsClosed result (K.is_closed sink.new) }
-    ensures heard { W.IsAfter watch.old watch.new }
-{
-    match ask_each(alloc, options, series, sink, counts, watch) {
-        Ok(course) => end(course.any, sink),
-        Err(status) => status,
+    match end {
+        SeriesEnd::All => Status::All,
+        SeriesEnd::NoModel => Status::NoModel,
+        SeriesEnd::Partial => Status::Partial,
+        SeriesEnd::Unknown => Status::Unknown,
+        SeriesEnd::Memory => Status::Memory,
+        SeriesEnd::WriteFault(closed) => Status::WriteFault(closed),
     }
 }
 
@@ -336,9 +50,9 @@ pub fn run_series<S: Source, K: Sink, W: Watch>(
     let mut counts = Counts::new();
     match read_queries(alloc, source) {
         Ok(series) => {
-            let status = ask_all(alloc, options, &series, sink, &mut counts, watch);
+            let end = ask_all(alloc, options, &series, sink, &mut counts, watch);
             mem::drop(series);
-            failed(status)
+            failed(status_at(end))
         }
         Err(error) => failed(status_of(error)),
     }

@@ -8,7 +8,9 @@ ready-requires g c = c.in-Ok.ensures.sound
 pub returns-in-Ok : goal.returns-in-Ok
 returns-in-Ok g c = λ none.
     let read = c.in-Ok.ensures in
-    prepares c.args.options.now _ _ _ _ c.in-Ok.program _ (ready-read c.args.options.now _ _ _ _ c.in-Ok.program none read.sound read.text read.some_text read.end read.later (read.quiet (ok-no-fault c.in-Ok.program errors.ReadFault)))
+    prepares c.args.options.now _ _ _ _ c.in-Ok.program _
+    (ready-read c.args.options.now _ _ _ _ c.in-Ok.program none read.sound read.text read.some_text read.end read.later
+    (read.quiet (ok-no-fault c.in-Ok.program errors.ReadFault)))
     c.ready.ensures.same c.ready.ensures.numbers c.ready.ensures.wanting
 
 pub returns-in-Err : goal.returns-in-Err

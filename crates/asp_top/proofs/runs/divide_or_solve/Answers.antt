@@ -2,7 +2,7 @@ use Rattle.std.proofs.Common.{◌≡◌, ℕ, List, Option, None, ap, inl, inr}
 use Rattle.asp_model.specs.declared.program.Program.{Program}
 use Rattle.asp_top.specs.declared.status.Outcome.{Outcome}
 use Rattle.asp_top.specs.Parting.{Divides}
-use Rattle.asp_top.proofs.ToldLaws.{does-divide, does-solve}
+use Rattle.asp_top.proofs.DoneLaws.{does-divide, does-solve}
 use Rattle.asp_top.proofs.runs.divide_or_solve.Goals as goal
 
 reports_nothing : (p : Program) (most : ℕ) (h h' : Option (List ℕ)) (w w' : ℕ) (o : Outcome) → Divides p most h h' w w' o → o.report ≡ None

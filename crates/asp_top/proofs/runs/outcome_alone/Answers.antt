@@ -2,7 +2,8 @@ use Rattle.asp_top.proofs.RunLaws.{nothing-closed, nothing-to-send, runs-done}
 use Rattle.asp_top.proofs.runs.outcome_alone.Goals as goal
 
 pub returns-in-Ok-clause-runs : goal.returns-in-Ok-clause-runs
-returns-in-Ok-clause-runs g c = runs-done c.args.options.now _ _ _ _ _ _ _ _ c.in-Ok.ensures.0 _ c.in-Ok.ensures.1 c.in-Ok.ensures.2 (c.divide_or_solve-outcome.ensures.does c.in-Ok.ensures.0 c.in-Ok.ensures.3)
+returns-in-Ok-clause-runs g c = runs-done c.args.options.now _ _ _ _ _ _ _ _ c.in-Ok.ensures.0 _ c.in-Ok.ensures.1 c.in-Ok.ensures.2
+    (c.divide_or_solve-outcome.ensures.does c.in-Ok.ensures.0 c.in-Ok.ensures.3)
 
 pub returns-in-Err-clause-runs : goal.returns-in-Err-clause-runs
 returns-in-Err-clause-runs g c = rw c.failed.ensures (c.in-Err.ensures _ _)

@@ -10,7 +10,9 @@ pub returns-clause-whole : goal.returns-clause-whole
 returns-clause-whole g c = λ plain one.
     let a = around (g.S.Source.left c.args.source.now) (g.S.Source.left c.outcome-outcome.new.source) (g.S.Source.faults c.args.source.now) (g.S.Source.faults c.outcome-outcome.new.source)
     (g.K.Sink.held c.args.sink.now) (g.K.Sink.held c.outcome-outcome.new.sink) (g.K.Sink.faults c.args.sink.now) (g.K.Sink.faults c.outcome-outcome.new.sink) in
-    whole c.args.options.now a c.outcome-outcome.result _ plain (subst (λ (b : Bool). RunsBy b c.args.options.now a c.outcome-outcome.result) one c.outcome-outcome.ensures.runs) c.outcome-outcome.ensures.sent
+    whole c.args.options.now a c.outcome-outcome.result _ plain
+    (subst (λ (b : Bool). RunsBy b c.args.options.now a c.outcome-outcome.result) one c.outcome-outcome.ensures.runs)
+    c.outcome-outcome.ensures.sent
 
 pub returns-clause-notes : goal.returns-clause-notes
 returns-clause-notes g c = record {

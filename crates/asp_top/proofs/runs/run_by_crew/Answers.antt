@@ -11,6 +11,7 @@ returns-clause-notes g c = record {
       (search (rules, c.outcome_by_crew-outcome.ensures.heard.0, c.new-progress.ensures.same))
       (told_in_all c.args.options.now.progress c.new-progress.result.on (g.N.Sink.held c.args.notes.now) (g.N.Sink.faults c.args.notes.now)
       (point (g.N.Sink.held c.new-progress.result.notes.now) (g.N.Sink.faults c.new-progress.result.notes.now) c.new-progress.result.state c.new-progress.result.last)
-      (point (g.N.Sink.held c.outcome_by_crew-outcome.result.1.notes.now) (g.N.Sink.faults c.outcome_by_crew-outcome.result.1.notes.now) c.outcome_by_crew-outcome.result.1.state c.outcome_by_crew-outcome.result.1.last)
+      (point (g.N.Sink.held c.outcome_by_crew-outcome.result.1.notes.now) (g.N.Sink.faults c.outcome_by_crew-outcome.result.1.notes.now)
+      c.outcome_by_crew-outcome.result.1.state c.outcome_by_crew-outcome.result.1.last)
       _ _ _ c.new-progress.ensures.on (rw (c.new-progress.ensures.now, c.new-progress.ensures.state, c.new-progress.ensures.last) refl) c.outcome_by_crew-outcome.ensures.heard.2 c.end.ensures);
 }

@@ -5,8 +5,8 @@ use Rattle.asp_model.specs.Models.{atoms_of}
 use Rattle.asp_vars.specs.Numbering.{bodies_of}
 use Rattle.asp_counts.specs.declared.tallies.WorkerCounts.{WorkerCounts}
 use Rattle.asp_crew_laws.specs.Reports.{IsReport}
-use Rattle.asp_top.proofs.RunLaws.{unsought}
-use Rattle.asp_top.proofs.ToldLaws.{counted-by, solves-by}
+use Rattle.asp_prepare.proofs.AskedLaws.{unsought}
+use Rattle.asp_top.proofs.DoneLaws.{counted-by, solves-by}
 use Rattle.asp_top.specs.Loops.{HasLoops}
 use Rattle.asp_top.proofs.search.solve.Goals as goal
 

@@ -1,0 +1,3 @@
+pub mod AskedLaws
+pub mod PlainLaws
+pub mod ToldLaws

@@ -1,0 +1,4 @@
+pub mod CoreLaws
+pub mod ShrinkLaws
+pub mod AskLaws
+pub mod SeriesLaws

@@ -1,0 +1,203 @@
+-- What the functions say that ask the queries of a series.
+use Rattle.std.specs.Prelude.{◌≡◌, ℕ, ◌-◌, ◌≤◌, Bool, true, false, ◌||◌, List, [], length, ℤ, Option, None, Some, Result, Ok, Err, IfSome, option_map}
+use Rattle.std.specs.Io.KnownBytes.{Appends, Keeps}
+use Rattle.asp_io.specs.Causes.{AppendsFront, Rose}
+use Rattle.asp_model.specs.declared.program.Program.{Program}
+use Rattle.asp_model.specs.declared.results.Ask.{Ask}
+use Rattle.asp_model.specs.declared.results.End.{End}
+use Rattle.asp_model.specs.declared.results.End.TheVariants.{Finished, Limited, Unfinished}
+use Rattle.asp_model.specs.declared.results.Mode.TheVariants.{Enum}
+use Rattle.asp_model.specs.Holding.{all_hold}
+use Rattle.asp_model.specs.Models.{is_stable}
+use Rattle.asp_model.specs.Sets.{Atoms}
+use Rattle.asp_model.specs.Sound.{IsSound}
+use Rattle.asp_read.specs.Queries.{with_query}
+use Rattle.asp_unsat.specs.Cores.{IsCore, is_listed}
+use Rattle.asp_cli.specs.declared.Options.{Options}
+use Rattle.asp_cli.specs.Found.{seeks_consequences}
+use Rattle.asp_print.specs.Queries.{query_text}
+use Rattle.asp_crew_laws.specs.Reports.{IsReport}
+use Rattle.asp_crew_laws.specs.Proofs.{HasProof}
+use Rattle.asp_series.specs.declared.ask.Sought.{Sought}
+use Rattle.asp_series.specs.declared.cores.Core.{Core}
+use Rattle.asp_series.specs.declared.cores.Shrinking.{Shrinking}
+use Rattle.asp_series.specs.declared.cores.Tried.{Tried}
+use Rattle.asp_series.specs.declared.cores.Verdict.{Verdict}
+use Rattle.asp_series.specs.declared.cores.Verdict.TheVariants.{Needless, Needed, Open}
+use Rattle.asp_prepare.specs.declared.prepared.Prepared.{Prepared}
+use Rattle.asp_series.specs.declared.series.Course.{Course}
+use Rattle.asp_series.specs.declared.series.Reply.{Reply}
+use Rattle.asp_series.specs.declared.end.SeriesEnd.{SeriesEnd}
+use Rattle.asp_series.specs.declared.end.SeriesEnd.TheVariants.{All, NoModel, Partial, Unknown, Memory, WriteFault}
+use Rattle.asp_prepare.specs.Meaning.{has_model}
+use Rattle.asp_prepare.specs.Naming.{prepared_of}
+use Rattle.asp_series.specs.Series.{Answered, AreAnswered, HasCore, IsAnsweredBy, IsMinimal, about, all_done, answered_text, any_model, is_done, series_text, without}
+
+-- ---- a search
+-- what was prepared was searched
+pub record Searches (x : Prepared) (ask : Ask) (units : ℕ) (s : Sought) : Type 0 where
+  pub prepared : s.prepared ≡ x
+  pub report : IsReport x.compiled ask units s.report
+  pub proof : HasProof false s.report
+
+-- what is left of the program was searched
+abbrev pub IsSought : Options → Program → Ask → ℕ → Sought → Type 0
+IsSought given p ask units s = Searches (prepared_of given p) ask units s
+
+-- The program may be asked with these literals: no consequences are sought, and it is within the limits.
+pub record IsAskable (given : Options) (p : Program) (literals : List ℤ) : Type 0 where
+  pub plain : seeks_consequences (Some given.mode) ≡ false
+  pub itself : IsSound p
+  pub sound : IsSound (with_query p literals)
+
+-- ---- cores
+-- the second has the literals of the first, in any order, and isn't longer
+pub record AreSame (all literals : List ℤ) : Type 0 where
+  pub same : (l : ℤ) → is_listed literals l ≡ is_listed all l
+  pub few : length literals ≤ length all
+
+-- no stable model has all of the literals
+abbrev pub Refutes : Program → List ℤ → Type 0
+Refutes p literals = (S : Atoms) → is_stable p S ≡ true → all_hold S literals ≡ false
+
+-- some stable model has them all
+abbrev pub Meets : Program → List ℤ → Type 0
+Meets p literals = (S : Atoms) × (is_stable p S ≡ true) × (all_hold S literals ≡ true)
+
+-- each literal of the one stands in the other
+abbrev pub AreAmong : List ℤ → List ℤ → Type 0
+AreAmong some all = (l : ℤ) → is_listed some l ≡ true → is_listed all l ≡ true
+
+-- The program is within the limits, also with no more literals than these, taken from them.
+pub record IsSoundWith (p : Program) (literals : List ℤ) : Type 0 where
+  pub itself : IsSound p
+  pub bare : p.assumptions ≡ []
+  pub with : (some : List ℤ) → AreAmong some literals → length some ≤ length literals → IsSound (with_query p some)
+
+-- what one model is sought for
+abbrev pub one_model : Ask
+one_model = record { mode = Enum; models = 1; all_optima = false; by_name = false }
+
+abbrev pub Judges : Program → List ℤ → ℕ → ℕ → Verdict → Type 0
+Judges p others units spent Needless = Refutes p others
+Judges p others units spent Needed = Meets p others
+Judges p others units spent Open = spent ≡ units
+
+-- what a search for one model says: it found one, or was finished without one, or neither
+abbrev pub verdict_by : Bool → End → Verdict
+verdict_by true end = Needed
+verdict_by false Finished = Needless
+verdict_by false Limited = Open
+verdict_by false Unfinished = Open
+
+-- a model was sought that has all of the others
+pub record Tries (p : Program) (others : List ℤ) (units : ℕ) (t : Tried) : Type 0 where
+  pub judges : Judges p others units t.spent t.verdict
+  pub paid : t.spent ≤ units
+
+-- It was tried to leave out a literal.
+pub record Shrinks (p : Program) (l : ℤ) (s t : Shrinking) : Type 0 where
+  pub among : AreAmong t.core s.core
+  pub few : length t.core ≤ length s.core
+  pub core : Refutes p s.core → Refutes p t.core
+  pub stays : s.is_open ≡ true → t.is_open ≡ true
+  pub tried : t.is_open ≡ false → is_listed t.core l ≡ true → Meets p (without l t.core)
+  pub paid : t.left ≤ s.left
+  pub open_at : (s.is_open ≡ true → s.left ≡ 0) → t.is_open ≡ true → t.left ≡ 0
+
+-- It was tried with these literals of all.
+pub record IsShrunk (p : Program) (all : List ℤ) (units : ℕ) (tried : List ℤ) (s : Shrinking) : Type 0 where
+  pub among : AreAmong s.core all
+  pub few : length s.core ≤ length all
+  pub core : Refutes p s.core
+  pub each : s.is_open ≡ false → (l : ℤ) → is_listed tried l ≡ true → is_listed s.core l ≡ true → Meets p (without l s.core)
+  pub paid : s.left ≤ units
+  pub open_at : s.is_open ≡ true → s.left ≡ 0
+
+-- a core of the program from these literals, as small as may be with the units
+pub record IsLeast (p : Program) (literals : List ℤ) (units : ℕ) (c : Core) : Type 0 where
+  pub core : IsCore p literals c.literals
+  pub minimal : c.minimal ≡ true → IsMinimal p c.literals
+  pub paid : c.spent ≤ units
+  pub open_at : c.minimal ≡ false → c.spent ≡ units
+
+abbrev pub literals_in : Option Core → Option (List ℤ)
+literals_in c = option_map (λ c. c.literals) c
+
+abbrev pub minimal_in : Option Core → Bool
+minimal_in None = false
+minimal_in (Some c) = c.minimal
+
+abbrev pub spent_in : Option Core → ℕ
+spent_in None = 0
+spent_in (Some c) = c.spent
+
+-- the core of a query, and what it took of the units
+pub record IsReason (least : Bool) (p : Program) (literals : List ℤ) (refuted : Bool) (units : ℕ) (c : Option Core) : Type 0 where
+  pub core : HasCore p literals refuted (literals_in c) (minimal_in c)
+  pub paid : spent_in c ≤ units
+  pub plain : least ≡ false → spent_in c ≡ 0
+  pub spends : least ≡ true → IfSome (literals_in c) (λ core. minimal_in c ≡ false → spent_in c ≡ units)
+
+-- ---- queries
+-- what a reply says
+abbrev pub answered_of : Reply → Answered
+answered_of y = record { done = y.sought.report; core = literals_in y.core; minimal = minimal_in y.core; spent = y.spent }
+
+-- the text of a reply to the query with this number
+abbrev pub reply_text : Options → Program → ℕ → Reply → List ℕ
+reply_text given p number y =
+    query_text y.sought.prepared.compiled p.outputs number y.sought.report.results (literals_in y.core) (minimal_in y.core) given.quiet given.names
+
+-- the reply to a query
+pub record IsReply (given : Options) (p : Program) (query : List ℤ) (units : ℕ) (y : Reply) : Type 0 where
+  pub sought : IsSought given (with_query p query) (about given (with_query p query)) units y.sought
+  pub answered : IsAnsweredBy given p query units (answered_of y)
+
+-- what follows a reply: the next query where it is finished, and else the end
+abbrev pub GoesOn : Course → Answered → Result Course SeriesEnd → Type 0
+GoesOn c x (Ok d) = (is_done x.done.results.end ≡ true) × (d ≡ record { left = c.left - x.spent; any = c.any || has_model x.done.results })
+GoesOn c x (Err Partial) = (is_done x.done.results.end ≡ false) × ((c.any || has_model x.done.results) ≡ true)
+GoesOn c x (Err Unknown) = (is_done x.done.results.end ≡ false) × ((c.any || has_model x.done.results) ≡ false)
+GoesOn c x (Err end) = ⊥
+
+-- a query was answered, written and sent on
+pub record Steps (given : Options) (p : Program) (query : List ℤ) (number : ℕ) (c : Course) (held held' : Option (List ℕ)) (result : Result Course SeriesEnd) : Type 0 where
+  pub x : Answered
+  pub is : IsAnsweredBy given p query c.left x
+  pub text : Appends held held' (answered_text given p query number x)
+  pub goes : GoesOn c x result
+
+-- a query was answered, and a front of its text written
+pub record Breaks (given : Options) (p : Program) (query : List ℤ) (number : ℕ) (c : Course) (held held' : Option (List ℕ)) (writes writes' : ℕ) : Type 0 where
+  pub x : Answered
+  pub is : IsAnsweredBy given p query c.left x
+  pub text : AppendsFront held held' (answered_text given p query number x)
+  pub cause : Rose writes writes'
+  pub later : writes ≤ writes'
+
+-- what a query led to
+abbrev pub StepMeans : Options → Program → List ℤ → ℕ → Course → Option (List ℕ) → Option (List ℕ) → ℕ → ℕ → Result Course SeriesEnd → Type 0
+StepMeans given p query number c held held' writes writes' (Ok d) = Steps given p query number c held held' (Ok d) × (writes' ≡ writes)
+StepMeans given p query number c held held' writes writes' (Err Partial) = Steps given p query number c held held' (Err Partial) × (writes' ≡ writes)
+StepMeans given p query number c held held' writes writes' (Err Unknown) = Steps given p query number c held held' (Err Unknown) × (writes' ≡ writes)
+StepMeans given p query number c held held' writes writes' (Err Memory) = Keeps held held' × (writes' ≡ writes)
+StepMeans given p query number c held held' writes writes' (Err (WriteFault closed)) = Breaks given p query number c held held' writes writes'
+StepMeans given p query number c held held' writes writes' (Err end) = ⊥
+
+-- the sink was flushed after the last query
+abbrev pub EndMeans : Bool → ℕ → ℕ → SeriesEnd → Type 0
+EndMeans any writes writes' All = (any ≡ true) × (writes' ≡ writes)
+EndMeans any writes writes' NoModel = (any ≡ false) × (writes' ≡ writes)
+EndMeans any writes writes' (WriteFault closed) = Rose writes writes'
+EndMeans any writes writes' end = ⊥
+
+-- the first of the queries were answered and finished, and their texts are out
+pub record IsAt (given : Options) (p : Program) (queries : List (List ℤ)) (held held' : Option (List ℕ)) (writes writes' : ℕ) (count : ℕ) (c : Course) : Type 0 where
+  pub xs : List Answered
+  pub answered : AreAnswered given p queries given.budget xs c.left
+  pub count_is : length xs ≡ count
+  pub done : all_done xs ≡ true
+  pub any : any_model xs ≡ c.any
+  pub text : Appends held held' (series_text given p queries 1 xs)
+  pub quiet : writes' ≡ writes

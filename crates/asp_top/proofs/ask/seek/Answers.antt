@@ -1,4 +1,0 @@
-use Rattle.asp_top.proofs.ask.seek.Goals as goal
-
-pub returns-clause-sought : goal.returns-clause-sought
-returns-clause-sought g c = rw c.in_ok-asked.ensures at c.search_left.ensures.sought

@@ -1,9 +1,0 @@
-use Rattle.std.proofs.Common.{take}
-use Rattle.asp_top.specs.Asking.{IsShrunk}
-use Rattle.asp_top.proofs.cores.shrink_all.Given as goal
-
-abbrev pub invariant-loop-literal : goal.invariant-loop-literal
-invariant-loop-literal g l = record {
-  shrunk : IsShrunk l.bare l.literals l.fn.start.left (take l.literal-index l.literals) l.state;
-  heard : g.W.Watch.IsAfter l.initial.watch l.watch;
-}

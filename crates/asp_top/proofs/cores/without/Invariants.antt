@@ -1,6 +1,0 @@
-use Rattle.std.proofs.Common.{◌≡◌, take}
-use Rattle.asp_top.specs.Series.{without}
-use Rattle.asp_top.proofs.cores.without.Given as goal
-
-abbrev pub invariant-loop-literal : goal.invariant-loop-literal
-invariant-loop-literal l = l.others.items ≡ without l.left_out (take l.literal-index l.literals)

@@ -1,5 +1,0 @@
-use Rattle.asp_top.proofs.WriteLaws.{writes_flushed}
-use Rattle.asp_top.proofs.series.tell.Goals as goal
-
-pub returns-clause-writes : goal.returns-clause-writes
-returns-clause-writes g c = writes_flushed _ _ _ _ _ _ _ _ _ c.in_ok-write_reply.ensures c.flush.ensures.bytes c.flush.ensures.cause c.flush.ensures.quiet
