@@ -74,6 +74,11 @@ def chain(n):
     return [choice([1]), *(rule(it + 1, it) for it in to(n))]
 
 
+def all_assumed(n):
+    """All of n atoms are assumed, and no answer has all of them: each assumption is part of the core."""
+    return [choice(to(n)), rule(0, *to(n)), f"6 {n} {' '.join(map(str, to(n)))}"]
+
+
 # Of each family how it is made, the sizes, our options by the size, and clasp's, None where it has no such thing.
 FAMILIES = {
     "at most one of n out, cautious": (one_out, (500, 1000, 2000, 4000), lambda n: ("--mode", "cautious"), ("-e", "cautious", "-n", "0", "-q1")),
@@ -88,6 +93,7 @@ FAMILIES = {
     "4,096 answers, n derived, no limit": (derived, (12500, 25000, 50000), lambda n: (), ("-n", "0")),
     "1,000 answers, n derived": (derived, (50000, 100000, 200000), lambda n: ("--models", "1000"), ("-n", "1000")),
     "chain of 100,000, n workers": (lambda n: chain(100000), (1, 4, 16, 64), lambda n: ("--workers", str(n)), None),
+    "no answer has the n assumptions": (all_assumed, (20000, 40000, 80000, 160000), lambda n: (), ("-n", "0", "-q")),
 }
 
 
