@@ -52,7 +52,7 @@ fn blamed(alloc: Global, compiled: &Compiled, book: &Book) -> Result<Seq<i32>, A
 {
     let mut core = Vec::new(alloc);
     let assumptions = compiled.program().assumptions.as_slice();
-    add_blamed(&mut core, compiled, book.state().reasons(), assumptions)?;
+    add_blamed(alloc, &mut core, compiled, book.state().reasons(), assumptions)?;
     Ok(Seq::from_vec(core))
 }
 

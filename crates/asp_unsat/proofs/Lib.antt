@@ -1,2 +1,3 @@
+pub mod BlamedLaws
 pub mod WayLaws
 pub mod CoreLaws

@@ -1,47 +1,76 @@
 //! The literals that stand in nogoods for which leaves were closed.
-ghost use Rattle.std.specs.Prelude.{◌≡◌, ◌++◌, [], ◌∷◌, true, OnOk};
+ghost use Rattle.std.specs.Prelude.{◌≡◌, ◌++◌, [], ◌∷◌, true, fold, IfOk, OnOk};
 ghost use Rattle.std.specs.List.{AllByRecursion};
 ghost use Rattle.asp_model.specs.Holding.{atom_of};
 ghost use Rattle.asp_model.specs.Models.{atoms_of};
 ghost use Rattle.asp_model.specs.Sets.{has};
-ghost use Rattle.asp_unsat.specs.Cores.{blamed_by, is_blamed};
+ghost use Rattle.asp_unsat.specs.Cores.{blamed_by};
+ghost use Rattle.asp_unsat.specs.Blaming.{codes_by, coded_in, with_codes};
 
 use asp_core::reason::Reason;
 use asp_vars::compiled::Compiled;
 use asp_vars::lit::Lit;
-use std::alloc::AllocError;
+use std::alloc::{AllocError, Global};
+use std::collections::BTreeSet;
 
-// Whether one of the nogoods has the literal.
-fn is_blamed(reasons: &[Reason], lit: Lit) -> bool
-    ensures { result ≡ is_blamed reasons.now lit }
+// Adds the codes of the literals.
+fn add_codes(codes: &mut BTreeSet<usize>, lits: &[Lit]) -> Result<(), AllocError>
+    ensures { OnOk result (codes.new.keys ≡ with_codes codes.old.keys lits.now) }
 {
-    for reason in reasons {
-        if reason.nogood.as_slice().contains(&lit) {
-            return true;
-        }
-    }
-    false
-}
-
-// Puts the literal after the others, if a nogood has it.
-fn add_if_blamed(
-    core: &mut Vec<i32>,
-    compiled: &Compiled,
-    reasons: &[Reason],
-    literal: &i32,
-) -> Result<(), AllocError>
-    requires { has (atoms_of compiled.now) (atom_of literal.now) ≡ true }
-    ensures { OnOk result (core.new.items ≡ core.old.items ++ blamed_by compiled.now reasons.now (literal.now ∷ [])) }
-{
-    let lit = Lit::new(compiled.atom_var(literal.unsigned_abs()), *literal >= 0);
-    if is_blamed(reasons, lit) {
-        core.push(*literal)?;
+    for lit in lits {
+        codes.insert(lit.code())?;
     }
     Ok(())
 }
 
-/// Puts those of the literals after the others that stand in one of the nogoods.
+// The codes of the literals that stand in the nogoods.
+fn codes_of(alloc: Global, reasons: &[Reason]) -> Result<BTreeSet<usize>, AllocError>
+    ensures { IfOk result (λ codes. codes.keys ≡ codes_by reasons.now) }
+{
+    let mut codes = BTreeSet::new(alloc);
+    for reason in reasons {
+        add_codes(&mut codes, reason.nogood.as_slice())?;
+    }
+    Ok(codes)
+}
+
+// Puts the literal after the others, if its code is among these.
+fn add_if_coded(
+    core: &mut Vec<i32>,
+    compiled: &Compiled,
+    codes: &BTreeSet<usize>,
+    literal: i32,
+) -> Result<(), AllocError>
+    requires { has (atoms_of compiled.now) (atom_of literal) ≡ true }
+    ensures { OnOk result (core.new.items ≡ core.old.items ++ coded_in compiled.now codes.now.keys (literal ∷ [])) }
+{
+    let lit = Lit::new(compiled.atom_var(literal.unsigned_abs()), literal >= 0);
+    if codes.contains(&lit.code()) {
+        core.push(literal)?;
+    }
+    Ok(())
+}
+
+// Puts those of the literals after the others whose codes are among these.
+fn add_coded(
+    core: &mut Vec<i32>,
+    compiled: &Compiled,
+    codes: &BTreeSet<usize>,
+    literals: &[i32],
+) -> Result<(), AllocError>
+    requires { AllByRecursion (λ l. has (atoms_of compiled.now) (atom_of l) ≡ true) literals.now }
+    ensures { OnOk result (core.new.items ≡ core.old.items ++ coded_in compiled.now codes.now.keys literals.now) }
+{
+    for literal in literals {
+        add_if_coded(core, compiled, codes, *literal)?;
+    }
+    Ok(())
+}
+
+/// Puts those of the literals after the others that stand in one of the nogoods. It takes time that grows with the literals and
+/// the nogoods' lengths, and with the logarithm of these.
 pub fn add_blamed(
+    alloc: Global,
     core: &mut Vec<i32>,
     compiled: &Compiled,
     reasons: &[Reason],
@@ -50,8 +79,6 @@ pub fn add_blamed(
     requires { AllByRecursion (λ l. has (atoms_of compiled.now) (atom_of l) ≡ true) literals.now }
     ensures { OnOk result (core.new.items ≡ core.old.items ++ blamed_by compiled.now reasons.now literals.now) }
 {
-    for literal in literals {
-        add_if_blamed(core, compiled, reasons, literal)?;
-    }
-    Ok(())
+    let codes = codes_of(alloc, reasons)?;
+    add_coded(core, compiled, &codes, literals)
 }
