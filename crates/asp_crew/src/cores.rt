@@ -52,7 +52,8 @@ fn blamed(alloc: Global, compiled: &Compiled, book: &Book) -> Result<Seq<i32>, A
 {
     let mut core = Vec::new(alloc);
     let assumptions = compiled.program().assumptions.as_slice();
-    add_blamed(alloc, &mut core, compiled, book.state().reasons(), assumptions)?;
+    let reasons = book.state().reasons();
+    add_blamed(alloc, &mut core, compiled, reasons, assumptions)?;
     Ok(Seq::from_vec(core))
 }
 

@@ -76,15 +76,15 @@ fn note_tree(
     }
 }
 
-// What a search is for.
+/// What a search is for.
 #[derive(Drop)]
-struct Aim<'a> {
-    // the program whose answers are sought
-    compiled: &'a Compiled,
-    // whether all of them, or a cheapest one
-    mode: Mode,
-    // the cost below which they are sought, if there is one
-    bound: Option<Cost>,
+pub struct Aim<'a> {
+    /// The program whose answers are sought.
+    pub compiled: &'a Compiled,
+    /// Whether all of them are sought, what they have in common, or a cheapest one.
+    pub mode: Mode,
+    /// The cost below which they are sought, if there is one.
+    pub bound: Option<Cost>,
 }
 
 // From now on only answers below the bound are sought, if there is one.
@@ -182,9 +182,7 @@ fn search_all<P: Propagator, W: Watch>(
 /// it opens again. Want of memory is the one error. What it does is counted, and told after each step.
 pub fn finish<P: Propagator, W: Watch>(
     alloc: Global,
-    compiled: &Compiled,
-    mode: Mode,
-    bound: Option<Cost>,
+    aim: Aim<'_>,
     book: &mut Book,
     propagator: P,
     counts: &mut Counts,
@@ -192,23 +190,18 @@ pub fn finish<P: Propagator, W: Watch>(
     recorder: Option<&Recorder>,
 ) -> Result<Option<Conflict>, AllocError>
     requires task { QueryStands book.old.task }
-    requires goal { MayBegin mode bound book.old.task.goal }
-    requires of { book.old.task.program ≡ compiled.now }
+    requires goal { MayBegin aim.mode aim.bound book.old.task.goal }
+    requires of { book.old.task.program ≡ aim.compiled.now }
     requires fits { book.old.task.budget < 2 ^ 64 }
     requires idle { IsIdle (board book.old) }
-    requires program { (P.told propagator).program ≡ compiled.now }
-    requires fresh { (P.told propagator).values ≡ replicate (var_count compiled.now + 1) None }
+    requires program { (P.told propagator).program ≡ aim.compiled.now }
+    requires fresh { (P.told propagator).values ≡ replicate (var_count aim.compiled.now + 1) None }
     requires unbounded { P.bound propagator ≡ None }
     ensures finishes { IfOk result (Finishes book.old book.new) }
     ensures heard { W.IsAfter watch.old watch.new }
 {
     let _lawful = book.journal();
     let mut fuel = book.lease(0, u64::MAX)?;
-    let aim = Aim {
-        compiled,
-        mode,
-        bound,
-    };
     let unpaid = search_all(
         alloc, aim, book, propagator, &mut fuel, counts, watch, recorder,
     )?;
@@ -238,7 +231,10 @@ pub fn finish_program<'a, W: Watch>(
 {
     let mut propagator = Propagators::new(alloc, compiled)?;
     propagator.record(recorder);
-    finish(
-        alloc, compiled, mode, bound, book, propagator, counts, watch, recorder,
-    )
+    let aim = Aim {
+        compiled,
+        mode,
+        bound,
+    };
+    finish(alloc, aim, book, propagator, counts, watch, recorder)
 }

@@ -28,7 +28,7 @@ search_all-requires-clause-work g c =
     let leased : IsLeased c.args.book.now c.lease.new.self =
     leased-is c.args.book.now c.lease.new.self c.requires.idle (pool-fits c.args.book.now c.requires.task c.journal-lawful.ensures.lawful c.requires.fits)
     (c.in_ok-fuel.ensures.journal ∙ ap (λ (u : Units). with_events c.args.book.now (leased_out 0 u)) c.in_ok-fuel.ensures.fuel) in
-    leased-works c.args.mode c.args.bound c.args.book.now c.lease.new.self c.in_ok-fuel.fuel c.requires.goal leased c.in_ok-fuel.ensures.fuel
+    leased-works c.args.aim.mode c.args.aim.bound c.args.book.now c.lease.new.self c.in_ok-fuel.fuel c.requires.goal leased c.in_ok-fuel.ensures.fuel
 
 pub search_all-requires-clause-alone : goal.search_all-requires-clause-alone
 search_all-requires-clause-alone g c =
@@ -43,14 +43,14 @@ returns-clause-finishes g c =
     leased-is c.args.book.now c.lease.new.self c.requires.idle (pool-fits c.args.book.now c.requires.task c.journal-lawful.ensures.lawful c.requires.fits)
     (c.in_ok-fuel.ensures.journal ∙ ap (λ (u : Units). with_events c.args.book.now (leased_out 0 u)) c.in_ok-fuel.ensures.fuel) in
     record {
-      task = task-after c.args.mode c.lease.new.self c.search_all.new.book c.back.new.self c.in_ok-unpaid.ensures.leaves.0 c.search_all.new.fuel
+      task = task-after c.args.aim.mode c.lease.new.self c.search_all.new.book c.back.new.self c.in_ok-unpaid.ensures.leaves.0 c.search_all.new.fuel
           c.in_ok-unpaid.unpaid c.in_ok-unpaid.ensures.leaves.1 leased.pool c.back.ensures ∙ leased.task;
       adds = adds-trans c.args.book.now c.lease.new.self c.back.new.self leased.adds
-          (adds-after c.args.mode c.lease.new.self c.search_all.new.book c.back.new.self c.in_ok-unpaid.ensures.leaves.0 c.search_all.new.fuel
+          (adds-after c.args.aim.mode c.lease.new.self c.search_all.new.book c.back.new.self c.in_ok-unpaid.ensures.leaves.0 c.search_all.new.fuel
           c.in_ok-unpaid.unpaid c.in_ok-unpaid.ensures.leaves.1 leased.pool c.back.ensures);
-      idle = idle-after c.args.mode c.lease.new.self c.search_all.new.book c.back.new.self c.in_ok-unpaid.ensures.leaves.0 c.search_all.new.fuel
+      idle = idle-after c.args.aim.mode c.lease.new.self c.search_all.new.book c.back.new.self c.in_ok-unpaid.ensures.leaves.0 c.search_all.new.fuel
           c.in_ok-unpaid.unpaid c.in_ok-unpaid.ensures.leaves.1 leased.pool c.back.ensures;
-      over = finished c.args.mode c.lease.new.self c.search_all.new.book c.back.new.self c.in_ok-unpaid.ensures.leaves.0 c.search_all.new.fuel
+      over = finished c.args.aim.mode c.lease.new.self c.search_all.new.book c.back.new.self c.in_ok-unpaid.ensures.leaves.0 c.search_all.new.fuel
           c.in_ok-unpaid.unpaid c.in_ok-unpaid.ensures.leaves.1 leased.pool c.back.ensures;
     }
 
