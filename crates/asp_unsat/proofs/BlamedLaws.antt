@@ -1,14 +1,15 @@
 -- A literal's code is among those of the nogoods exactly where one of these has the literal.
-use Rattle.std.proofs.Common.{Ordering, ◌≡◌, ℕ, ◌+◌, ◌*◌, Bool, true, false, cond, ◌&&◌, ◌||◌, eqb, List, [], ◌∷◌, ◌++◌, fold, filter, refl, sym, ap, subst, ◌∙◌, arith}
+use Rattle.std.proofs.Common.{Ordering, ◌≡◌, ℕ, ◌+◌, ◌*◌, Bool, true, false, cond, ◌&&◌, ◌||◌, eqb, List, [], ◌∷◌, ◌++◌, ◌<◌, drop, get_or, length, fold, refl, sym, ap, ◌∙◌, arith}
 use Rattle.std.specs.Prelude.{ℤ}
 use Rattle.std.specs.Bool.{beq}
 use Rattle.std.specs.Ordering.{is_eq, match_ordering, nat_cmp}
 use Rattle.std.specs.declared.cmp.Ordering.TheVariants.{Less, Equal, Greater}
 use Rattle.std.specs.Cmp.{unsigned_tied}
-use Rattle.std.specs.List.{list_any}
 use Rattle.std.specs.BTreeSet.{insert_key}
 use Rattle.std.proofs.lemmas.Bool.{eqb-true, false≢true}
 use Rattle.std.proofs.lemmas.Bool.Decides.{nat_tests}
+use Rattle.std.proofs.lemmas.List.{append_assoc, at_drop_more}
+use Rattle.std.proofs.lemmas.List.Elements.{filter-append}
 use Rattle.asp_model.specs.declared.program.Program.{Program}
 use Rattle.asp_vars.specs.Codes.{code_of}
 use Rattle.asp_vars.specs.Literals.{Literal, has_literal, literal_eq}
@@ -96,3 +97,12 @@ coded-blamed p reasons [] = refl
 coded-blamed p reasons (l ∷ literals) =
     ap (λ b. cond b (l ∷ coded_in p (codes_by reasons) literals) (coded_in p (codes_by reasons) literals)) (has-blamed reasons (literal_of p l))
     ∙ ap (λ rest. cond (is_blamed reasons (literal_of p l)) (l ∷ rest) rest) (coded-blamed p reasons literals)
+
+-- what one more literal adds
+pub coded_more : (p : Program) (codes : List ℕ) (core new ls : List ℤ) (i : ℕ) (d : ℤ) → i < length ls → new ≡ core ++ coded_in p codes (get_or ls i d ∷ []) →
+    new ++ coded_in p codes (drop (i + 1) ls) ≡ core ++ coded_in p codes (drop i ls)
+coded_more p codes core new ls i d lt is =
+    ap (λ xs. xs ++ coded_in p codes (drop (i + 1) ls)) is
+    ∙ append_assoc core (coded_in p codes (get_or ls i d ∷ [])) (coded_in p codes (drop (i + 1) ls))
+    ∙ ap (λ xs. core ++ xs) (sym (filter-append (λ l. has_code codes (code_of (literal_of p l))) (get_or ls i d ∷ []) (drop (i + 1) ls)))
+    ∙ sym (at_drop_more (λ xs. core ++ coded_in p codes xs) ls i d lt)

@@ -5,7 +5,9 @@ ghost use Rattle.asp_model.specs.Holding.{atom_of};
 ghost use Rattle.asp_model.specs.Models.{atoms_of};
 ghost use Rattle.asp_model.specs.Sets.{has};
 ghost use Rattle.asp_unsat.specs.Cores.{blamed_by};
-ghost use Rattle.asp_unsat.specs.Blaming.{codes_by, coded_in, with_codes};
+ghost use Rattle.asp_unsat.specs.Blaming.{codes_by, coded_in, has_code, with_codes};
+ghost use Rattle.asp_vars.specs.Codes.{code_of};
+ghost use Rattle.asp_vars.specs.Numbering.{literal_of};
 
 use asp_core::reason::Reason;
 use asp_vars::compiled::Compiled;
@@ -34,19 +36,34 @@ fn codes_of(alloc: Global, reasons: &[Reason]) -> Result<BTreeSet<usize>, AllocE
     Ok(codes)
 }
 
+// The literal in the program's variables.
+fn lit_of(compiled: &Compiled, literal: &i32) -> Lit
+    requires { has (atoms_of compiled.now) (atom_of literal.now) ≡ true }
+    ensures { result ≡ literal_of compiled.now literal.now }
+{
+    Lit::new(compiled.atom_var(literal.unsigned_abs()), *literal >= 0)
+}
+
+// Whether the literal's code is among these.
+fn is_coded(compiled: &Compiled, codes: &BTreeSet<usize>, literal: &i32) -> bool
+    requires { has (atoms_of compiled.now) (atom_of literal.now) ≡ true }
+    ensures { result ≡ has_code codes.now.keys (code_of (literal_of compiled.now literal.now)) }
+{
+    codes.contains(&lit_of(compiled, literal).code())
+}
+
 // Puts the literal after the others, if its code is among these.
 fn add_if_coded(
     core: &mut Vec<i32>,
     compiled: &Compiled,
     codes: &BTreeSet<usize>,
-    literal: i32,
+    literal: &i32,
 ) -> Result<(), AllocError>
-    requires { has (atoms_of compiled.now) (atom_of literal) ≡ true }
-    ensures { OnOk result (core.new.items ≡ core.old.items ++ coded_in compiled.now codes.now.keys (literal ∷ [])) }
+    requires { has (atoms_of compiled.now) (atom_of literal.now) ≡ true }
+    ensures { OnOk result (core.new.items ≡ core.old.items ++ coded_in compiled.now codes.now.keys (literal.now ∷ [])) }
 {
-    let lit = Lit::new(compiled.atom_var(literal.unsigned_abs()), literal >= 0);
-    if codes.contains(&lit.code()) {
-        core.push(literal)?;
+    if is_coded(compiled, codes, literal) {
+        core.push(*literal)?;
     }
     Ok(())
 }
@@ -62,7 +79,7 @@ fn add_coded(
     ensures { OnOk result (core.new.items ≡ core.old.items ++ coded_in compiled.now codes.now.keys literals.now) }
 {
     for literal in literals {
-        add_if_coded(core, compiled, codes, *literal)?;
+        add_if_coded(core, compiled, codes, literal)?;
     }
     Ok(())
 }
