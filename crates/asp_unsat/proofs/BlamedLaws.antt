@@ -29,10 +29,6 @@ or-swap true true c = refl
 or-swap true false c = refl
 or-swap false b c = refl
 
-or-assoc : (a b c : Bool) → ((a || b) || c) ≡ (a || (b || c))
-or-assoc true b c = refl
-or-assoc false b c = refl
-
 or-last : (a b c : Bool) → (a || (b || c)) ≡ ((b || a) || c)
 or-last true true c = refl
 or-last true false c = refl

@@ -1,5 +1,5 @@
 //! The literals that stand in nogoods for which leaves were closed.
-ghost use Rattle.std.specs.Prelude.{◌≡◌, ◌++◌, [], ◌∷◌, true, fold, IfOk, OnOk};
+ghost use Rattle.std.specs.Prelude.{◌≡◌, ◌++◌, [], ◌∷◌, true, IfOk, OnOk};
 ghost use Rattle.std.specs.List.{AllByRecursion};
 ghost use Rattle.asp_model.specs.Holding.{atom_of};
 ghost use Rattle.asp_model.specs.Models.{atoms_of};
