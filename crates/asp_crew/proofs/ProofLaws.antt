@@ -1,5 +1,5 @@
 -- The proof in a report.
-use Rattle.std.proofs.Common.{◌≡◌, ℕ, false, List, Option, None, Some, sym, ap, subst}
+use Rattle.std.proofs.Common.{◌≡◌, ℕ, true, false, List, Option, None, Some, sym, ap, subst}
 use Rattle.std.specs.Prelude.{is_some}
 use Rattle.asp_model.specs.declared.program.Program.{Program}
 use Rattle.asp_model.specs.declared.results.End.{End}
@@ -9,7 +9,7 @@ use Rattle.asp_core.specs.declared.event.Event.{Event}
 use Rattle.asp_core.specs.declared.task.Task.{Task}
 use Rattle.asp_proof.specs.declared.proof.Proof.{Proof}
 use Rattle.asp_crew_laws.specs.declared.report.Report.{Report}
-use Rattle.asp_crew_laws.specs.Proofs.{HasProof, HasProofAt}
+use Rattle.asp_crew_laws.specs.Proofs.{HasOne, HasProof, HasProofAt}
 use Rattle.asp_crew_laws.specs.Reports.{IsPlayed, IsPlayedBy, IsReport}
 use Rattle.asp_crew_laws.specs.Runs.{task_of}
 
@@ -21,6 +21,13 @@ none_has r has = at r.results.end
     at Finished = has
     at Limited = has
     at Unfinished = has
+
+-- a report with a proof, at the end of its run
+pub finished_has : (r s : Report) → s ≡ record r { proof = s.proof } → r.results.end ≡ Finished → HasOne (is_some r.second) r.results s.proof → HasProof true s
+finished_has r s same end has = subst (HasProof true) (sym same) (subst (λ (e : End). HasProofAt e true (is_some r.second) r.results s.proof) (sym end) has)
+
+pub limited_has : (r s : Report) → s ≡ record r { proof = s.proof } → r.results.end ≡ Limited → HasOne (is_some r.second) r.results s.proof → HasProof true s
+limited_has r s same end has = subst (HasProof true) (sym same) (subst (λ (e : End). HasProofAt e true (is_some r.second) r.results s.proof) (sym end) has)
 
 -- what a report of one search says of the program doesn't rest on its proof
 played_with : (t : Task) (r : Report) (o : Option Proof) → IsPlayed t r → IsPlayed t (record r { proof = o })

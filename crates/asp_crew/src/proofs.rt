@@ -1,7 +1,7 @@
 //! The proof of a run, from its results and what was written down on the way.
-ghost use Rattle.std.specs.Prelude.{◌≡◌, ℕ, [], false, true, IfOk};
+ghost use Rattle.std.specs.Prelude.{◌≡◌, ℕ, [], None, true, is_some, IfOk};
 ghost use Rattle.asp_model.specs.Texts.{bests, recorded};
-ghost use Rattle.asp_crew_laws.specs.Proofs.{is_part, sought_by, HasProof, IsProofOf};
+ghost use Rattle.asp_crew_laws.specs.Proofs.{is_part, sought_by, HasOne, HasProof, IsProofOf};
 ghost use Rattle.asp_crew_laws.specs.Reports.{IsReport};
 ghost use Rattle.asp_crew_laws.specs.Runs.{asks};
 ghost use Rattle.asp_crew.specs.Refuting.{HasCore};
@@ -102,23 +102,26 @@ fn proof_of(
     })
 }
 
+// The report, with a proof.
+fn proved(alloc: Global, mut report: Report, recorder: Recorder) -> Result<Report, AllocError>
+    ensures same { IfOk result (λ r. r ≡ record report { proof = r.proof }) }
+    ensures proof { IfOk result (λ r. HasOne (is_some report.second) report.results r.proof) }
+{
+    let twice = report.second.is_some();
+    let proof = proof_of(alloc, &report.results, twice, recorder)?;
+    report.proof = Some(proof);
+    Ok(report)
+}
+
 // The report, with a proof where the run is finished, or found as many answers as were asked for.
-fn with_proof(
-    alloc: Global,
-    mut report: Report,
-    recorder: Recorder,
-) -> Result<Report, AllocError>
+fn with_proof(alloc: Global, report: Report, recorder: Recorder) -> Result<Report, AllocError>
     requires { report.proof ≡ None }
     ensures same { IfOk result (λ r. r ≡ record report { proof = r.proof }) }
     ensures proof { IfOk result (HasProof true) }
 {
     match report.results.end {
-        End::Finished | End::Limited => {
-            let twice = report.second.is_some();
-            let proof = proof_of(alloc, &report.results, twice, recorder)?;
-            report.proof = Some(proof);
-            Ok(report)
-        }
+        End::Finished => proved(alloc, report, recorder),
+        End::Limited => proved(alloc, report, recorder),
         End::Unfinished => Ok(report),
     }
 }

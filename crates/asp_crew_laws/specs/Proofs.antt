@@ -37,10 +37,13 @@ pub record IsProofOf (twice : Bool) (r : Found) (p : Proof) : Type 0 where
   pub part : p.part ≡ is_part r.end
   pub bare : p.part ≡ true → p.lines ≡ []
 
+abbrev pub HasOne : Bool → Found → Option Proof → Type 0
+HasOne twice r proof = (p : Proof) × (proof ≡ Some p) × IsProofOf twice r p
+
 -- A run whose proof was asked for has one, if it is finished or found as many answers as were asked for.
 abbrev pub HasProofAt : End → Bool → Bool → Found → Option Proof → Type 0
-HasProofAt Finished true twice r proof = (p : Proof) × (proof ≡ Some p) × IsProofOf twice r p
-HasProofAt Limited true twice r proof = (p : Proof) × (proof ≡ Some p) × IsProofOf twice r p
+HasProofAt Finished true twice r proof = HasOne twice r proof
+HasProofAt Limited true twice r proof = HasOne twice r proof
 HasProofAt end asked twice r proof = proof ≡ None
 
 abbrev pub HasProof : Bool → Report → Type 0
