@@ -46,9 +46,9 @@ _aspenum() {
     # a proof and queries exclude some options, and each of them these; the parts exclude all but the ring; JSON excludes the ring, too
     for option in "${given[@]}"; do
         case $option in
-            --proof) given+=(--split --opt-all --output --quiet --queries) ;;
+            --proof) given+=(--split --output --quiet --queries) ;;
             --split) given+=(--mode --models --opt-all --workers --log --budget --output --quiet --names --proof --queries --core-min --stats --progress) ;;
-            --opt-all) given+=(--split --proof --queries) ;;
+            --opt-all) given+=(--split --queries) ;;
             --quiet) given+=(--split --proof) ;;
             --output) given+=(--split --proof --make --queries) ;;
             --make) given+=(--output --queries) ;;

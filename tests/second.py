@@ -4,9 +4,9 @@ write or their statuses differ, this fails.
 
     second.py PROGRAM CHECKER [COUNT [SEED]]
 
-The proofs are those that the program writes of the texts of rows.txt that are solved, of the examples and of 60 random programs, in
-both modes; COUNT (200) of these in which something was changed; and those of checks.txt. Each of the answers YES, NO with each reason,
-and a refusal has to come once."""
+The proofs are those that the program writes of the texts of rows.txt that are solved, of the examples and of 60 random programs: of all
+answers, of an optimum, of all optima, and of two answers or optima; COUNT (200) of these in which something was changed; and those of
+checks.txt. Each of the answers YES, PART, NO with each reason, and a refusal has to come once."""
 import random
 import sys
 from collections import Counter
@@ -14,7 +14,7 @@ from concurrent.futures import ThreadPoolExecutor
 from os import cpu_count
 from os.path import abspath, dirname, join
 
-from recorded import SOLVED, examples, random_programs, rows, run
+from recorded import KINDS, PARTLY, SOLVED, examples, random_programs, rows, run
 
 SECOND = join(dirname(abspath(__file__)), "second_checker.py")
 
@@ -48,7 +48,7 @@ def changed(proof, choose):
     elif way == "byte" or not parts:
         place = choose.randrange(len(lines))
         at = choose.randrange(len(lines[place]))
-        lines[place] = lines[place][:at] + bytes([choose.choice(b" -012a\n")]) + lines[place][at + 1:]
+        lines[place] = lines[place][:at] + bytes([choose.choice(b" -012ap\n")]) + lines[place][at + 1:]
     else:
         line = lines[choose.choice(parts)]
         if way != "double":
@@ -70,12 +70,12 @@ def main():
     program, checker = sys.argv[1:3]
     count, seed = (int(word) for word in (sys.argv[3:] + ["200", "1"][len(sys.argv) - 3:]))
     choose = random.Random(seed)
-    texts = [(form, text, mode) for form, text in [*rows(), *examples(), *random_programs(60, seed)] for mode in ("enum", "opt")]
+    texts = [(form, text, kind) for form, text in [*rows(), *examples(), *random_programs(60, seed)] for kind in KINDS]
 
     def proof_of(case):
-        form, text, mode = case
-        ran = run([program, "--format", form, "--mode", mode, "--proof"], text)
-        return [(form, text, ran.stdout)] if ran.returncode in SOLVED else []
+        form, text, kind = case
+        ran = run([program, "--format", form, *kind, "--proof"], text)
+        return [(form, text, ran.stdout)] if ran.returncode in (*SOLVED, PARTLY) else []
 
     def judged(case):
         form, text, proof = case
@@ -87,11 +87,11 @@ def main():
         wrong = [(form, text, changed(proof, choose)) for form, text, proof in choose.choices(proofs, [len(it[2]) ** 0.5 for it in proofs], k=count)]
         failed, said = 0, Counter()
         for (form, text, proof), (first, second), error in pool.map(judged, [*proofs, *wrong, *checks()]):
-            said[first[1].decode().split("\n")[0].rpartition(" ")[0] or first[1].decode().strip() or "refused"] += 1
+            said[first[1].decode().strip().rpartition(" ")[0] or first[1].decode().strip() or "refused"] += 1
             if first != second:
                 failed += 1
                 print(f"failed: {form}: aspcheck {first}, second_checker {second} {error.decode()}\n{(text + proof).decode('latin-1')}")
-    missing = {"YES", "refused", *(f"NO {reason}" for reason in range(1, 7))} - set(said)
+    missing = {"YES", "PART", "refused", *(f"NO {reason}" for reason in range(1, 8))} - set(said)
     if missing:
         failed += 1
         print(f"failed: no proof came to {', '.join(sorted(missing))}")

@@ -9,7 +9,7 @@ import re
 import sys
 
 MOST_BYTES, MOST, LEAST, MOST_NATURAL = 268435456, 2147483647, -2147483648, 4294967295
-NO, USAGE, PROGRAM, TOO_LONG, PROOF = 1, 64, 65, 67, 68
+NO, PART, USAGE, PROGRAM, TOO_LONG, PROOF = 1, 2, 64, 65, 67, 68
 
 
 def need(holds, status):
@@ -160,7 +160,7 @@ def lines_of_proof(text):
     are_sets = True
     for number, line in enumerate(lines, 1):
         need(len(line) <= MOST_BYTES, TOO_LONG)
-        if line == b"0":
+        if line in (b"0", b"p"):
             yield line, 0, [], []
             need(number == len(lines) and not rest, PROOF)
             return
@@ -326,51 +326,61 @@ def is_loop(known, atoms, nogood):
         is_answered(body) for heads, _, body in known.rules if atoms & set(heads))
 
 
-def known_at_first(program, is_opt, sets):
+def cost_of(program, atoms):
+    return [sum(weight for priority, items in program.minimize if priority == greatest
+                for literal, weight in items if holds(literal, atoms))
+            for greatest in sorted({priority for priority, _ in program.minimize}, reverse=True)]
+
+
+def known_at_first(program, mode, sets):
+    """The cost that is to be bettered: that of the one set, or where all optima are listed the next one behind that of the first."""
     known = Known(program)
-    for atoms in map(set, sets):
-        if is_opt:
-            known.bound = [sum(weight for priority, items in program.minimize if priority == greatest
-                               for literal, weight in items if holds(literal, atoms)) for greatest in known.priorities]
-        else:
-            known.add_nogood([variable if atom in atoms else -variable for atom, variable in known.atom.items()])
+    if mode != b"enum" and sets:
+        known.bound = cost_of(program, set(sets[0]))
+    if mode == b"optima" and sets:
+        known.bound = [*known.bound[:-1], known.bound[-1] + 1] if known.bound else None
+    for atoms in map(set, sets if mode != b"opt" else []):
+        known.add_nogood([variable if atom in atoms else -variable for atom, variable in known.atom.items()])
     known.fails = known.propagate(known.values, [known.forced({}, it) for it in known.sums] + [known.priced({})])
     return known
 
 
 def judge(program, text):
-    """Nothing, or the reason and the line of the first fault. A line that is none ends all, if no line before it is wrong."""
+    """YES, PART with the number of sets, or NO with the reason and the line of the first fault. A line that is none ends all, if no
+    line before it is wrong."""
     _, mode, *rest = text.split(b"\n", 2)
-    need(mode in (b"enum", b"opt") and rest, PROOF)
-    is_opt, sets, known, is_whole = mode == b"opt", [], None, False
-    assumed = set()
+    need(mode in (b"enum", b"opt", b"optima") and rest, PROOF)
+    sets, known, is_whole, assumed, is_part = [], None, False, set(), False
     for number, (kind, place, atoms, nogood) in enumerate(lines_of_proof(rest[0]), 3):
         if kind == b"a":
             atoms = sorted(set(atoms) ^ set(sets[-1] if sets else []))
-            if sets and (is_opt or min(set(atoms) ^ set(sets[-1]), default=0) not in atoms):
-                return 2, number
+            if sets and (mode == b"opt" or min(set(atoms) ^ set(sets[-1]), default=0) not in atoms):
+                return "NO 2 %d" % number
             if not program.atoms >= set(atoms):
-                return 3, number
+                return "NO 3 %d" % number
             if not is_stable(program, set(atoms)):
-                return 1, number
+                return "NO 1 %d" % number
+            if mode == b"optima" and sets and cost_of(program, set(atoms)) != cost_of(program, set(sets[0])):
+                return "NO 7 %d" % number
             sets.append(atoms)
             continue
         if not known:
-            known = known_at_first(program, is_opt, sets)
+            known = known_at_first(program, mode, sets)
             assumed = {known.of(literal) for literal in program.assumptions}
-        if kind == b"0":
-            if not is_whole:
-                return 6, number
+        if kind in b"0p":
+            is_part = kind == b"p"
+            if not is_whole and not is_part:
+                return "NO 6 %d" % number
             continue
         if not program.atoms >= set(atoms) or any(abs(literal) > known.count for literal in nogood):
-            return 3, number
+            return "NO 3 %d" % number
         if kind == b"o" and not is_loop(known, set(atoms), set(nogood)):
-            return 4, number
+            return "NO 4 %d" % number
         if kind != b"o" and not known.refutes(nogood):
-            return 5, number
+            return "NO 5 %d" % number
         is_whole = is_whole or kind != b"o" and assumed >= set(nogood)
         known.learn(place, nogood)
-    return None
+    return "PART %d" % len(sets) if is_part else "YES"
 
 
 def main():
@@ -381,9 +391,9 @@ def main():
     need((start.start() if start else len(text)) <= MOST_BYTES, TOO_LONG)
     need(start, PROOF)
     program = (read_smodels if words[1:] == ["smodels"] else read_aspif)(text[:start.start()])
-    fault = judge(program, text[start.start():])
-    print("NO %d %d" % fault if fault else "YES")
-    sys.exit(NO if fault else 0)
+    said = judge(program, text[start.start():])
+    print(said)
+    sys.exit({"YES": 0, "PART": PART, "NO": NO}[said.split()[0]])
 
 
 main()

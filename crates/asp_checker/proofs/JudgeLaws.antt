@@ -14,7 +14,7 @@ use Rattle.asp_model.specs.declared.program.Program.{Program}
 use Rattle.asp_model.specs.Sets.{Atoms, has, IsBefore, IsAscending, set_cmp}
 use Rattle.asp_model.specs.Holding.{all_hold}
 use Rattle.asp_model.specs.Models.{atoms_of, answers, is_stable}
-use Rattle.asp_model.specs.Costs.{cost}
+use Rattle.asp_model.specs.Costs.{cost, just_above}
 use Rattle.asp_model.proofs.OrderLaws.{cmp_from_before}
 use Rattle.asp_model.proofs.ModelLaws.{answers-are}
 use Rattle.asp_model.proofs.MemberLaws.{each-append}
@@ -26,12 +26,14 @@ use Rattle.asp_complete.specs.Listed.{pure}
 use Rattle.asp_proof.specs.declared.proof.Line.{Line}
 use Rattle.asp_proof.specs.declared.proof.Line.TheVariants as line
 use Rattle.asp_proof.specs.declared.proof.Proof.{Proof}
+use Rattle.asp_proof.specs.declared.proof.Sought.{Sought}
+use Rattle.asp_proof.specs.declared.proof.Sought.TheVariants.{All, Best, Optima}
 use Rattle.asp_checker.specs.declared.bounds.Bound.{Bound}
 use Rattle.asp_checker.specs.declared.judge.Why.{Why}
 use Rattle.asp_checker.specs.declared.judge.Why.TheVariants as why
 use Rattle.asp_checker.specs.Propagation.{Known, LeadsToConflict}
-use Rattle.asp_checker.specs.Lines.{AreOf, IsLoop, AreConfirmed, IsConfirmed, literals_of, nogood_of, nogood_of_answer, with_nogood, Stock, all_of, with_line, bound_of, known_at_first}
-use Rattle.asp_checker.specs.Right.{closes}
+use Rattle.asp_checker.specs.Lines.{AreOf, IsLoop, AreConfirmed, IsConfirmed, literals_of, nogood_of, nogood_of_answer, with_nogood, Stock, all_of, with_line, bound_of, above_of, first_bound, avoided, known_at_first}
+use Rattle.asp_checker.specs.Right.{closes, CostsAlike, AreAlike}
 use Rattle.asp_checker.specs.Blocks.{known_by, known_with, cost_of_bound}
 use Rattle.asp_checker.specs.Judging.{IsWrongAnswer, HasAnswerFault, IsWrongLine, HasLineFault, IsInOrder, AreRightAnswers, IsRightAnswer, HasLiterals, HasLoopLiterals, known_after, no_line}
 
@@ -82,22 +84,34 @@ not_member p S e h = false≢true (sym e ∙ ((answers-are p S).0 h).0)
 pub not_assumed : (p : Program) (S : Atoms) → all_hold S p.assumptions ≡ false → Contains (answers p) S → ⊥
 not_assumed p S e h = false≢true (sym e ∙ ((answers-are p S).0 h).1)
 
-pub answers_push : (p : Program) (opt : Bool) (before : List Atoms) (S : Atoms) → AreRightAnswers p opt before → IsRightAnswer p opt before S → AreRightAnswers p opt (before ++ S ∷ [])
-answers_push p opt before S h now = record {
+pub none_alike : (p : Program) (s : Sought) → AreAlike p s []
+none_alike p All = tt
+none_alike p Best = tt
+none_alike p Optima = tt
+
+alike_push : (p : Program) (s : Sought) (before : List Atoms) (S : Atoms) → AreAlike p s before → CostsAlike p s before S → AreAlike p s (before ++ S ∷ [])
+alike_push p All before S a h = tt
+alike_push p Best before S a h = tt
+alike_push p Optima [] S a h = tt
+alike_push p Optima (T ∷ before) S a h = each-append (λ U. cost p U ≡ cost p T) before (S ∷ []) a (h, tt)
+
+pub answers_push : (p : Program) (s : Sought) (before : List Atoms) (S : Atoms) → AreRightAnswers p s before → IsRightAnswer p s before S → AreRightAnswers p s (before ++ S ∷ [])
+answers_push p s before S h now = record {
+  alike = alike_push p s before S h.alike now.alike;
   members = each-append (Contains (answers p)) before (S ∷ []) h.members (now.member, tt);
   order = all_pairs_push IsBefore before S h.order (All-from_recursion (λ T. IsBefore T S) before now.order.later);
   single = λ o. let none : length before ≡ 0 = ap length (now.order.single o) in omega (arith, none, length_push before S);
 }
 
-pub wrong_pushed : (p : Program) (opt : Bool) (before : List Atoms) (S : Atoms) (w : Why) → AreRightAnswers p opt before →
-    HasAnswerFault p opt before S w → IsWrongAnswer p opt (before ++ S ∷ []) w (length before)
-wrong_pushed p opt before S w right fault =
+pub wrong_pushed : (p : Program) (s : Sought) (before : List Atoms) (S : Atoms) (w : Why) → AreRightAnswers p s before →
+    HasAnswerFault p s before S w → IsWrongAnswer p s (before ++ S ∷ []) w (length before)
+wrong_pushed p s before S w right fault =
     let front : take (length before) (before ++ S ∷ []) ≡ before = take-append_seam before (S ∷ []) in
     record {
       within = omega (arith, length_push before S);
-      before = subst (AreRightAnswers p opt) (sym front) right;
-      fault = subst (λ Ts. HasAnswerFault p opt Ts (get_or (before ++ S ∷ []) (length before) []) w) (sym front)
-          (subst (λ T. HasAnswerFault p opt before T w) (sym (get_or_push before S [] (length before) refl)) fault);
+      before = subst (AreRightAnswers p s) (sym front) right;
+      fault = subst (λ Ts. HasAnswerFault p s Ts (get_or (before ++ S ∷ []) (length before) []) w) (sym front)
+          (subst (λ T. HasAnswerFault p s before T w) (sym (get_or_push before S [] (length before) refl)) fault);
     }
 
 -- ---- what is known at first
@@ -108,23 +122,14 @@ lits_pure (n ∷ ns) = ap (λ ms. n ∷ ms) (lits_pure ns)
 pub completed_is : (p : Program) (nogoods : List Nogood) (rows : List (List Literal)) → nogoods ≡ map pure (completion p) → rows ≡ map (λ (n : Nogood). n.lits) nogoods → rows ≡ completion p
 completed_is p nogoods rows is e = e ∙ ap (map (λ (n : Nogood). n.lits)) is ∙ lits_pure (completion p)
 
-pub known_from : (p : Program) (proof : Proof) (L avoided : List Atoms) (rows : List (List Literal)) (b : Option Bound) → L ≡ proof.answers →
-    avoided ≡ cond proof.opt [] L → rows ≡ completion p → cost_of_bound b ≡ cond proof.opt (bound_of p L) None →
-    known_with p avoided rows b ≡ known_at_first p proof
-known_from p proof L avoided rows b same avoids is cost =
-    cases proof.opt (subst (λ Ss. avoided ≡ cond proof.opt [] Ss) same avoids)
-    (subst (λ Ss. cost_of_bound b ≡ cond proof.opt (bound_of p Ss) None) same cost)
-  where
-    bounded : (ns : List (List Literal)) (c : Option (List ℤ)) → cost_of_bound b ≡ c → known_by ns b ≡ record { nogoods = ns; bound = c }
-    bounded ns c h = ap (λ (d : Option (List ℤ)). let k : Known = record { nogoods = ns; bound = d } in k) h
-
-    cases : (opt : Bool) → avoided ≡ cond opt [] proof.answers → cost_of_bound b ≡ cond opt (bound_of p proof.answers) None →
-        known_with p avoided rows b ≡ cond opt (record { nogoods = completion p; bound = bound_of p proof.answers })
-        (record { nogoods = map (nogood_of_answer p) proof.answers ++ completion p; bound = None })
-    cases true g h = ap (λ Ss. known_with p Ss rows b) g ∙ ap (λ (ns : List (List Literal)). known_by ns b) is ∙ bounded (completion p) (bound_of p proof.answers) h
-    cases false g h = ap (λ Ss. known_with p Ss rows b) g
-        ∙ ap (λ (ns : List (List Literal)). known_by (map (nogood_of_answer p) proof.answers ++ ns) b) is
-        ∙ bounded (map (nogood_of_answer p) proof.answers ++ completion p) None h
+pub known_from : (p : Program) (proof : Proof) (L shunned : List Atoms) (rows : List (List Literal)) (b : Option Bound) → L ≡ proof.answers →
+    shunned ≡ avoided proof.sought L → rows ≡ completion p → cost_of_bound b ≡ first_bound p proof.sought L →
+    known_with p shunned rows b ≡ known_at_first p proof
+known_from p proof L shunned rows b same g is cost =
+    let first = map (nogood_of_answer p) (avoided proof.sought proof.answers) in
+    ap (λ (Ss : List Atoms). known_with p Ss rows b) (g ∙ ap (avoided proof.sought) same)
+    ∙ ap (λ (ns : List (List Literal)). known_by (first ++ ns) b) is
+    ∙ ap (λ (d : Option (List ℤ)). let k : Known = record { nogoods = first ++ completion p; bound = d } in k) (cost ∙ ap (first_bound p proof.sought) same)
 
 -- ---- lines
 pub has_of : (p : Program) (l : Line) → HasLiterals p l → AreOf p (nogood_of l)
@@ -251,12 +256,31 @@ pub known_next : (rows new : List (List Literal)) (b : Option Bound) (lits n : L
 known_next rows new b lits n made f = ap (λ (ns : List (List Literal)). known_by ns b) made ∙ ap (λ (m : List Literal). with_nogood (known_by rows b) m) f
 
 -- ---- the bound at first
-pub no_bound : (p : Program) (opt : Bool) (listed : List Atoms) → length listed ≡ 0 → (let o : Option (List ℤ) = None in o) ≡ cond opt (bound_of p listed) None
-no_bound p true [] e = refl
-no_bound p false [] e = refl
-no_bound p opt (S ∷ listed) e = absurd (omega arith)
+pub no_bound : (p : Program) (listed : List Atoms) → length listed ≡ 0 → (let o : Option (List ℤ) = None in o) ≡ bound_of p listed
+no_bound p [] e = refl
+no_bound p (S ∷ listed) e = absurd (omega arith)
 
-pub first_bound : (p : Program) (opt : Bool) (listed : List Atoms) (S : Atoms) (c : List ℤ) → opt ≡ true → 0 < length listed → S ≡ get_or listed 0 S →
-    c ≡ cost p S → Some c ≡ cond opt (bound_of p listed) None
-first_bound p opt [] S c e lt is f = absurd (omega arith)
-first_bound p opt (T ∷ listed) S c e lt is f = ap (λ d. let o : Option (List ℤ) = Some d in o) (f ∙ ap (cost p) is) ∙ sym (ap (λ b. cond b (bound_of p (T ∷ listed)) None) e)
+pub bound_is : (p : Program) (listed : List Atoms) (S : Atoms) (c : List ℤ) → 0 < length listed → S ≡ get_or listed 0 S → c ≡ cost p S → Some c ≡ bound_of p listed
+bound_is p [] S c lt is f = absurd (omega arith)
+bound_is p (T ∷ listed) S c lt is f = ap (λ d. let o : Option (List ℤ) = Some d in o) (f ∙ ap (cost p) is)
+
+pub none_above : (p : Program) (listed : List Atoms) → length listed ≡ 0 → (let o : Option (List ℤ) = None in o) ≡ above_of p listed
+none_above p [] e = refl
+none_above p (S ∷ listed) e = absurd (omega arith)
+
+pub above_is : (p : Program) (listed : List Atoms) (S : Atoms) (o : Option (List ℤ)) → 0 < length listed → S ≡ get_or listed 0 S → o ≡ just_above (cost p S) → o ≡ above_of p listed
+above_is p [] S o lt is f = absurd (omega arith)
+above_is p (T ∷ listed) S o lt is f = f ∙ ap (λ U. just_above (cost p U)) is
+
+-- ---- whether a set costs what the first one costs
+pub first_alike : (p : Program) (before : List Atoms) (S : Atoms) → length before ≡ 0 → CostsAlike p Optima before S
+first_alike p [] S e = tt
+first_alike p (T ∷ before) S e = absurd (omega arith)
+
+pub later_alike : (p : Program) (before : List Atoms) (S T : Atoms) → 0 < length before → T ≡ get_or before 0 T → cost p S ≡ cost p T → CostsAlike p Optima before S
+later_alike p [] S T lt is e = absurd (omega arith)
+later_alike p (U ∷ before) S T lt is e = e ∙ ap (cost p) is
+
+pub not_alike : (p : Program) (before : List Atoms) (S T : Atoms) → 0 < length before → T ≡ get_or before 0 T → (cost p S ≡ cost p T → ⊥) → CostsAlike p Optima before S → ⊥
+not_alike p [] S T lt is never h = absurd (omega arith)
+not_alike p (U ∷ before) S T lt is never h = never (h ∙ sym (ap (cost p) is))

@@ -1,34 +1,44 @@
 -- What right proofs show.
-use Rattle.std.proofs.Common.{◌≡◌, ℕ, zero, suc, ◌≤◌, Bool, true, false, not, cond, ◌||◌, List, [], ◌∷◌, ◌++◌, map, length, eqb, refl, sym, ap, ◌∙◌, subst, arith, Some, None, inl, inr}
-use Rattle.std.specs.Prelude.{AllPairs, Contains, MatchBool}
+use Rattle.std.proofs.Common.{◌≡◌, ℕ, zero, suc, ◌≤◌, Bool, true, false, not, cond, ◌||◌, List, [], ◌∷◌, ◌++◌, map, length, filter, Ordering, eqb, refl, sym, ap, ◌∙◌, subst, arith, Some, None, inl, inr}
+use Rattle.std.specs.Prelude.{AllPairs, Contains, ℤ, Option}
+use Rattle.std.specs.declared.cmp.Ordering.TheVariants.{Less, Equal, Greater}
+use Rattle.std.specs.Ordering.{int_cmp, is_lt, ordering_reverse}
+use Rattle.std.specs.Cmp.Lexicographic.{slice_cmp}
 use Rattle.std.specs.List.{list_all, list_any, AllByRecursion}
-use Rattle.std.proofs.lemmas.Bool.{false≢true, and_parts, and_from, or_cases, or_from, or_left, eqb-true}
+use Rattle.std.proofs.lemmas.Bool.{false≢true, and_parts, and_from, or_cases, or_from, or_left, or_right, or_parts, eqb-true}
 use Rattle.asp_model.specs.declared.program.Program.{Program}
 use Rattle.asp_model.specs.Sets.{Atoms, has, same_set, IsBefore}
 use Rattle.asp_model.specs.Models.{atoms_of, answers, is_stable}
-use Rattle.asp_model.specs.Costs.{cost, betters}
+use Rattle.asp_model.specs.Costs.{cost, betters, just_above, optima, IsOptimum}
 use Rattle.asp_model.specs.Sound.{IsSound}
 use Rattle.std.proofs.lemmas.List.Elements.{All-contains, recursion_from_All, All-from_recursion, All-contains_itself}
 use Rattle.asp_model.specs.Sets.{IsSubset}
 use Rattle.asp_model.specs.Holding.{all_hold}
 use Rattle.asp_model.proofs.SetLaws.{same_from_has}
 use Rattle.asp_model.proofs.ListedLaws.{same_from_members, contains_from_test, test_from_contains}
-use Rattle.asp_model.proofs.ModelLaws.{answers-are, answers-rise, stable-subset}
+use Rattle.asp_model.proofs.AboveLaws.{raised-betters}
+use Rattle.asp_model.proofs.CostLaws.{length-cost}
+use Rattle.asp_model.proofs.ModelLaws.{answers-are, optima-are, answers-rise, stable-subset}
+use Rattle.asp_model.specs.Orders.{costs_total}
 use Rattle.asp_vars.proofs.AssumptionLaws.{assumptions-stand}
 use Rattle.asp_model.proofs.MemberLaws.{each-append, each_weaker, each-map, HasAll-itself}
 use Rattle.asp_vars.proofs.StandingLaws.{each_both}
 use Rattle.asp_vars.specs.Literals.{Literal, T, is_true, hits, has_literal}
 use Rattle.asp_vars.specs.Numbering.{literal_of, values, var_of_atom}
 use Rattle.asp_vars.specs.Completion.{completion}
-use Rattle.asp_vars.specs.Entailment.{HitsOnly, Entailed, is_done, costs}
+use Rattle.asp_vars.specs.Entailment.{HitsOnly, Entailed, is_done, costs, costs_bound}
+use Rattle.asp_vars.specs.Unfounded.{assigned}
+use Rattle.asp_vars.proofs.ResolutionLaws.{betters_itself}
 use Rattle.asp_vars.proofs.LiteralLaws.{hits-has}
 use Rattle.asp_vars.proofs.CompletionLaws.{completion_entailed, hits-literals, atom-true, atom-false}
 use Rattle.asp_proof.specs.declared.proof.Line.{Line}
 use Rattle.asp_proof.specs.declared.proof.Line.TheVariants as line
 use Rattle.asp_proof.specs.declared.proof.Proof.{Proof}
-use Rattle.asp_checker.specs.Propagation.{Known}
-use Rattle.asp_checker.specs.Lines.{AreConfirmed, AreOf, IsConfirmed, nogood_of, nogood_of_answer, literals_of, with_nogood, place_of, Stock, stock, all_of, with_placed, with_line, bound_of}
-use Rattle.asp_checker.specs.Right.{closes, IsRight, Shows, ShowsBest}
+use Rattle.asp_proof.specs.declared.proof.Sought.{Sought}
+use Rattle.asp_proof.specs.declared.proof.Sought.TheVariants.{All, Best, Optima}
+use Rattle.asp_checker.specs.Propagation.{Known, reaches_bound}
+use Rattle.asp_checker.specs.Lines.{AreConfirmed, AreOf, IsConfirmed, nogood_of, nogood_of_answer, literals_of, with_nogood, place_of, Stock, stock, all_of, with_placed, with_line, bound_of, above_of, first_bound, avoided}
+use Rattle.asp_checker.specs.Right.{closes, is_best, AreAlike, IsRight, Shows, ShowsAll, ShowsBest, ShowsBy}
 use Rattle.asp_checker.proofs.ConflictLaws.{IsKnownFor, conflict-excused, optimistic-assigned}
 use Rattle.asp_checker.proofs.LoopLaws.{line-entailed}
 use Rattle.asp_checker.proofs.StockLaws.{put_each}
@@ -136,20 +146,25 @@ same-answer p S T s t hit =
     cases a both sub_S sub_T true q = at_has (λ a. has T a ≡ has S a) (atoms_of p) a both (sym q)
     cases a both sub_S sub_T false q = lacks T a sub_T (sym q) (has T a) refl ∙ sym (lacks S a sub_S (sym q) (has S a) refl)
 
-one-listed : (p : Program) (K : List Atoms) (S : Atoms) → Contains (answers p) S → Contains K S → HitsOnly p (is_done p K None) (nogood_of_answer p S)
-one-listed p K S answer listed = record {
+one-listed : (p : Program) (K : List Atoms) (o : Option (List ℤ)) (S : Atoms) → Contains (answers p) S → Contains K S → HitsOnly p (is_done p K o) (nogood_of_answer p S)
+one-listed p K o S answer listed = record {
   excused = λ T t hit.
       let same : T ≡ S = same-answer p S T ((answers-are p S).0 answer).0 t hit in
-      or_left (list_any (same_set T) K) false (ap (λ U. list_any (same_set U) K) same ∙ test_from_contains K S listed);
+      or_left (list_any (same_set T) K) (costs_bound p o T) (ap (λ U. list_any (same_set U) K) same ∙ test_from_contains K S listed);
 }
 
-listed-known : (p : Program) (K : List Atoms) → IsSound p → AllByRecursion (Contains (answers p)) K →
-    IsKnownFor p (is_done p K None) (record { nogoods = map (nogood_of_answer p) K ++ completion p; bound = None })
-listed-known p K sound members = record {
-  nogoods = each-append (HitsOnly p (is_done p K None)) (map (nogood_of_answer p) K) (completion p) (each-map (HitsOnly p (is_done p K None)) (nogood_of_answer p) K
-      (each_weaker (λ S. Contains (answers p) S × Contains K S) (λ S. HitsOnly p (is_done p K None) (nogood_of_answer p S)) (λ S h. one-listed p K S h.0 h.1) K
-      (each_both (Contains (answers p)) (Contains K) K members (recursion_from_All (Contains K) K (All-contains_itself K))))) (completion-excused p (is_done p K None) sound);
-  bound = λ S stable reached. absurd (false≢true reached);
+-- what costs too much is excused
+bound-reached : (p : Program) (o : Option (List ℤ)) (T : Atoms) → reaches_bound p o (assigned p T) ≡ costs_bound p o T
+bound-reached p None T = refl
+bound-reached p (Some c) T = ap (λ d. not (betters d c)) (optimistic-assigned p T)
+
+listed-known : (p : Program) (K : List Atoms) (o : Option (List ℤ)) → IsSound p → AllByRecursion (Contains (answers p)) K →
+    IsKnownFor p (is_done p K o) (record { nogoods = map (nogood_of_answer p) K ++ completion p; bound = o })
+listed-known p K o sound members = record {
+  nogoods = each-append (HitsOnly p (is_done p K o)) (map (nogood_of_answer p) K) (completion p) (each-map (HitsOnly p (is_done p K o)) (nogood_of_answer p) K
+      (each_weaker (λ S. Contains (answers p) S × Contains K S) (λ S. HitsOnly p (is_done p K o) (nogood_of_answer p S)) (λ S h. one-listed p K o S h.0 h.1) K
+      (each_both (Contains (answers p)) (Contains K) K members (recursion_from_All (Contains K) K (All-contains_itself K))))) (completion-excused p (is_done p K o) sound);
+  bound = λ S stable reached. or_right (list_any (same_set S) K) (costs_bound p o S) (sym (bound-reached p o S) ∙ reached);
 }
 
 costs-known : (p : Program) (S : Atoms) → IsSound p → IsKnownFor p (costs p (cost p S)) (record { nogoods = completion p; bound = Some (cost p S) })
@@ -177,7 +192,7 @@ shows-all p K lines sound members order confirmed whole = same_from_members K (a
   λ h. All-contains (Contains (answers p)) K S (All-from_recursion (Contains (answers p)) K members) h,
   λ h. let is = (answers-are p S).0 h in
       contains_from_test K S (listed S (closed-excused p (is_done p K None)
-      (record { nogoods = map (nogood_of_answer p) K ++ completion p; bound = None }) lines sound (listed-known p K sound members) confirmed
+      (record { nogoods = map (nogood_of_answer p) K ++ completion p; bound = None }) lines sound (listed-known p K None sound members) confirmed
       whole S is.0 (answer-hits p S is.1))),
 ))
   where
@@ -210,13 +225,118 @@ shows-best p (S ∷ K) lines sound members single confirmed whole = (
         undone (betters (cost p T) (cost p S)) (closed-excused p (costs p (cost p S)) (record { nogoods = completion p; bound = Some (cost p S) })
         lines sound (costs-known p S sound) confirmed whole T is.0 (answer-hits p T is.1))
 
-by-mode : (p : Program) (opt : Bool) (K : List Atoms) (lines : List Line) → IsSound p → AllByRecursion (Contains (answers p)) K →
-    AllPairs IsBefore K → (opt ≡ true → length K ≤ 1) →
-    AreConfirmed p (stock (cond opt (record { nogoods = completion p; bound = bound_of p K })
-    (record { nogoods = map (nogood_of_answer p) K ++ completion p; bound = None })) []) lines → list_any (closes p) lines ≡ true →
-    MatchBool opt (ShowsBest p K) (K ≡ answers p)
-by-mode p true K lines sound members order single confirmed whole = shows-best p K lines sound members (single refl) confirmed whole
-by-mode p false K lines sound members order single confirmed whole = shows-all p K lines sound members order confirmed whole
+-- ---- all that none betters
+-- A set reaches the cost just above another one exactly where the other one betters it.
+not-same : (a b : Bool) → not a ≡ b → a ≡ not b
+not-same true false e = refl
+not-same false true e = refl
+not-same true true e = absurd (false≢true e)
+not-same false false e = absurd (false≢true (sym e))
+
+above-by : (p : Program) (c : List ℤ) (T : Atoms) → length (cost p T) ≡ length c → costs_bound p (just_above c) T ≡ betters c (cost p T)
+above-by p [] T long = sym (none (cost p T) long)
+  where
+    none : (d : List ℤ) → length d ≡ 0 → betters [] d ≡ false
+    none [] e = refl
+    none (q ∷ d) e = absurd (omega (arith, e))
+above-by p (q ∷ c) T long = ap not (raised-betters q c (cost p T) long) ∙ twice (betters (q ∷ c) (cost p T))
+  where
+    twice : (x : Bool) → not (not x) ≡ x
+    twice true = refl
+    twice false = refl
+
+lt-reversed : (o : Ordering) → is_lt o ≡ true → is_lt (ordering_reverse o) ≡ false
+lt-reversed Less e = refl
+lt-reversed Equal e = refl
+lt-reversed Greater e = absurd (false≢true e)
+
+betters-back : (c d : List ℤ) → betters c d ≡ true → betters d c ≡ false
+betters-back c d e = ap is_lt (costs_total.antisymm d c) ∙ lt-reversed (slice_cmp int_cmp c d) e
+
+any-false : (q : Atoms → Bool) (L : List Atoms) → list_any q L ≡ false → AllByRecursion (λ x. q x ≡ false) L
+any-false q [] h = tt
+any-false q (S ∷ L) h = let parts = or_parts (q S) (list_any q L) h in (parts.0, any-false q L parts.1)
+
+-- an optimum isn't bettered by an answer
+unbettered : (p : Program) (S T : Atoms) → IsOptimum p T (cost p T) → Contains (answers p) S → betters (cost p S) (cost p T) ≡ false
+unbettered p S T h answer =
+    let each = any-false (λ U. betters (cost p U) (cost p T)) (answers p) h.least in
+    All-contains (λ U. betters (cost p U) (cost p T) ≡ false) (answers p) S (All-from_recursion (λ U. betters (cost p U) (cost p T) ≡ false) (answers p) each) answer
+
+no-optima : (p : Program) → answers p ≡ [] → [] ≡ optima p
+no-optima p e = sym (ap (λ L. filter (λ S. not (list_any (λ T. betters (cost p T) (cost p S)) L)) L) e)
+
+optima-rise : (p : Program) → AllPairs IsBefore (optima p)
+optima-rise p = AllPairs-filter IsBefore (λ S. not (list_any (λ T. betters (cost p T) (cost p S)) (answers p))) (answers p) (answers-rise p)
+
+shows-optima : (p : Program) (K : List Atoms) (lines : List Line) → IsSound p → AllByRecursion (Contains (answers p)) K → AllPairs IsBefore K → AreAlike p Optima K →
+    AreConfirmed p (stock (record { nogoods = map (nogood_of_answer p) K ++ completion p; bound = above_of p K }) []) lines →
+    list_any (closes p) lines ≡ true → K ≡ optima p
+shows-optima p [] lines sound members order alike confirmed whole = no-optima p (none_listed (answers p) (λ S h.
+    let is = (answers-are p S).0 h in
+    false≢true (closed-excused p (λ S. false) (record { nogoods = completion p; bound = None }) lines sound (nothing-known p sound) confirmed whole S is.0 (answer-hits p S is.1))))
+shows-optima p (S ∷ K) lines sound members order alike confirmed whole = same_from_members L (optima p) order (optima-rise p) (λ T. (
+  λ h. (optima-are p T).1 (best T h),
+  λ h. listed T ((optima-are p T).0 h),
+))
+  where
+    L : List Atoms
+    L = S ∷ K
+
+    o : Option (List ℤ)
+    o = just_above (cost p S)
+
+    costs : (T : Atoms) → Contains L T → cost p T ≡ cost p S
+    costs T h = All-contains (λ U. cost p U ≡ cost p S) L T (All-from_recursion (λ U. cost p U ≡ cost p S) L (refl, alike)) h
+
+    is-answer : (T : Atoms) → Contains L T → Contains (answers p) T
+    is-answer T h = All-contains (Contains (answers p)) L T (All-from_recursion (Contains (answers p)) L members) h
+
+    done : (T : Atoms) → Contains (answers p) T → is_done p L o T ≡ true
+    done T h =
+        let is = (answers-are p T).0 h in
+        closed-excused p (is_done p L o) (record { nogoods = map (nogood_of_answer p) L ++ completion p; bound = o }) lines sound
+        (listed-known p L o sound members) confirmed whole T is.0 (answer-hits p T is.1)
+
+    above : (T : Atoms) → costs_bound p o T ≡ betters (cost p S) (cost p T)
+    above T = above-by p (cost p S) T (length-cost p T S)
+
+    dearer : (T : Atoms) → Contains (answers p) T → betters (cost p T) (cost p S) ≡ false
+    dearer T h = elim (or_cases (list_any (same_set T) L) (costs_bound p o T) (done T h)) [
+      | inl one ↦ ap (λ c. betters c (cost p S)) (costs T (contains_from_test L T one)) ∙ betters_itself (cost p S)
+      | inr dear ↦ betters-back (cost p S) (cost p T) (sym (above T) ∙ dear)
+    ]
+
+    best : (T : Atoms) → Contains L T → IsOptimum p T (cost p T)
+    best T h = record {
+      answer = is-answer T h;
+      sums = refl;
+      least = none_passes (λ U. betters (cost p U) (cost p T)) (answers p)
+          (each_weaker (Contains (answers p)) (λ U. betters (cost p U) (cost p T) ≡ false) (λ U k. ap (betters (cost p U)) (costs T h) ∙ dearer U k) (answers p)
+          (recursion_from_All (Contains (answers p)) (answers p) (All-contains_itself (answers p))));
+    }
+
+    listed : (T : Atoms) → IsOptimum p T (cost p T) → Contains L T
+    listed T h = elim (or_cases (list_any (same_set T) L) (costs_bound p o T) (done T h.answer)) [
+      | inl one ↦ contains_from_test L T one
+      | inr dear ↦ absurd (false≢true (sym (unbettered p S T h members.0) ∙ sym (above T) ∙ dear))
+    ]
+
+-- ---- the whole
+all-shown : (p : Program) (s : Sought) (K : List Atoms) (lines : List Line) → IsSound p → AllByRecursion (Contains (answers p)) K →
+    AllPairs IsBefore K → (is_best s ≡ true → length K ≤ 1) → AreAlike p s K →
+    AreConfirmed p (stock (record { nogoods = map (nogood_of_answer p) (avoided s K) ++ completion p; bound = first_bound p s K }) []) lines →
+    list_any (closes p) lines ≡ true → ShowsAll p s K
+all-shown p All K lines sound members order single alike confirmed whole = shows-all p K lines sound members order confirmed whole
+all-shown p Best K lines sound members order single alike confirmed whole = shows-best p K lines sound members (single refl) confirmed whole
+all-shown p Optima K lines sound members order single alike confirmed whole = shows-optima p K lines sound members order alike confirmed whole
+
+by-part : (p : Program) (part : Bool) (s : Sought) (K : List Atoms) (lines : List Line) → IsSound p → AllByRecursion (Contains (answers p)) K →
+    AllPairs IsBefore K → (is_best s ≡ true → length K ≤ 1) → AreAlike p s K →
+    AreConfirmed p (stock (record { nogoods = map (nogood_of_answer p) (avoided s K) ++ completion p; bound = first_bound p s K }) []) lines →
+    (part ≡ false → list_any (closes p) lines ≡ true) → ShowsBy p part s K
+by-part p true s K lines sound members order single alike confirmed whole = record { members = members; order = order }
+by-part p false s K lines sound members order single alike confirmed whole = all-shown p s K lines sound members order single alike confirmed (whole refl)
 
 pub right-shows : (p : Program) (proof : Proof) → IsSound p → IsRight p proof → Shows p proof
-right-shows p proof sound right = by-mode p proof.opt proof.answers proof.lines sound right.members right.order right.single right.lines right.whole
+right-shows p proof sound right = by-part p proof.part proof.sought proof.answers proof.lines sound right.members right.order right.single right.alike right.lines right.whole

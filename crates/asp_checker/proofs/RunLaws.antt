@@ -263,6 +263,7 @@ not_written held j = keeps_itself held
 
 pub written : (old new : Option (List ℕ)) (text : List ℕ) (j : Judgement) → text ≡ said j → Appends old new text → Writes old new j (status_said j)
 written old new text judgement.Yes e h = (refl, subst (Appends old new) e h)
+written old new text (judgement.Part n) e h = (refl, subst (Appends old new) e h)
 written old new text (judgement.No w n) e h = (refl, subst (Appends old new) e h)
 
 pub half_written : (old new : Option (List ℕ)) (text : List ℕ) (j : Judgement) → text ≡ said j → AppendsFront old new text → Writes old new j status.WriteFault
@@ -270,10 +271,12 @@ half_written old new text j e h = subst (AppendsFront old new) e h
 
 pub said_sent : (sent : Bool) (j : Judgement) → sent ≡ true → IsSentOn sent (status_said j)
 said_sent sent judgement.Yes h = h
+said_sent sent (judgement.Part n) h = h
 said_sent sent (judgement.No w n) h = h
 
 pub text_judged : (format : Format) (text : List ℕ) (old new : Option (List ℕ)) (j : Judgement) (s : CheckStatus) → InputSays format text (Ok j) → Writes old new j s → TextSays format text old new s
 text_judged format text old new j status.Yes checked h = (subst (λ (i : Judgement). InputSays format text (Ok i)) h.0 checked, subst (λ i. Appends old new (said i)) h.0 h.1)
+text_judged format text old new j (status.Part n) checked h = (subst (λ (i : Judgement). InputSays format text (Ok i)) h.0 checked, subst (λ i. Appends old new (said i)) h.0 h.1)
 text_judged format text old new j (status.No w n) checked h = (subst (λ (i : Judgement). InputSays format text (Ok i)) h.0 checked, subst (λ i. Appends old new (said i)) h.0 h.1)
 text_judged format text old new j status.Memory checked h = h
 text_judged format text old new j status.WriteFault checked h = (j, checked, h)
@@ -328,6 +331,7 @@ status_writes (error.Proof (proof.Refused number)) is = cc
 
 pub said_writes : (j : Judgement) → status_said j ≡ status.WriteFault → ⊥
 said_writes judgement.Yes is = cc
+said_writes (judgement.Part n) is = cc
 said_writes (judgement.No w n) is = cc
 
 pub ok_no_fault : {T : Type 0} (x : T) (e : CheckError) → (let r : Result T CheckError = Ok x in r) ≡ Err e → ⊥

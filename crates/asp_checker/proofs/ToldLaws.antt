@@ -1,9 +1,9 @@
 -- What is told of a text holds of the proof whose text it is.
-use Rattle.std.proofs.Common.{◌≡◌, ℕ, List, [], ◌++◌, length, take, get_or, inl, inr, sym, ap, ◌∙◌, subst, arith, append-nil, length-append}
+use Rattle.std.proofs.Common.{◌≡◌, ℕ, Bool, List, [], ◌++◌, length, take, get_or, inl, inr, sym, ap, ◌∙◌, subst, arith, append-nil, length-append}
 use Rattle.std.proofs.lemmas.List.{take-append-le, get_or_append_left}
 use Rattle.asp_model.specs.declared.program.Program.{Program}
 use Rattle.asp_proof.specs.declared.proof.Proof.{Proof}
-use Rattle.asp_proof.specs.Texts.{text_of}
+use Rattle.asp_proof.specs.Texts.{line, last_word, text_of}
 use Rattle.asp_proof.specs.Grammar.{IsProof}
 use Rattle.asp_proof.specs.Walk.{IsStart, front_of, proof_of}
 use Rattle.asp_proof.proofs.TextLaws.{one_whole, start_of}
@@ -16,20 +16,20 @@ use Rattle.asp_checker.specs.Streams.{IsWrongAt}
 use Rattle.asp_checker.proofs.WrongLaws.{refused-not_right}
 
 -- what is wrong with a set stays so where more sets follow
-answers_of : (p : Program) (q other : Proof) (w : Why) (place : ℕ) → IsStart q other → IsWrongAnswer p q.opt q.answers w place → IsWrongAnswer p other.opt other.answers w place
+answers_of : (p : Program) (q other : Proof) (w : Why) (place : ℕ) → IsStart q other → IsWrongAnswer p q.sought q.answers w place → IsWrongAnswer p other.sought other.answers w place
 answers_of p q other w place s h =
     let front : take place other.answers ≡ take place q.answers = ap (take place) s.answers ∙ take-append-le place q.answers s.more_answers (omega (arith, h.within)) in
     let at : get_or other.answers place [] ≡ get_or q.answers place [] = ap (λ Ss. get_or Ss place []) s.answers ∙ get_or_append_left q.answers s.more_answers [] place h.within in
     record {
       within = omega (arith, ap length s.answers, length-append q.answers s.more_answers, h.within);
-      before = subst (λ o. AreRightAnswers p o (take place other.answers)) s.mode (subst (AreRightAnswers p q.opt) (sym front) h.before);
+      before = subst (λ o. AreRightAnswers p o (take place other.answers)) s.mode (subst (AreRightAnswers p q.sought) (sym front) h.before);
       fault = subst (λ o. HasAnswerFault p o (take place other.answers) (get_or other.answers place []) w) s.mode
-          (subst (λ Ss. HasAnswerFault p q.opt Ss (get_or other.answers place []) w) (sym front) (subst (λ S. HasAnswerFault p q.opt (take place q.answers) S w) (sym at) h.fault));
+          (subst (λ Ss. HasAnswerFault p q.sought Ss (get_or other.answers place []) w) (sym front) (subst (λ S. HasAnswerFault p q.sought (take place q.answers) S w) (sym at) h.fault));
     }
 
-known_as : (p : Program) (q other : Proof) → q.opt ≡ other.opt → q.answers ≡ other.answers → known_at_first p q ≡ known_at_first p other
+known_as : (p : Program) (q other : Proof) → q.sought ≡ other.sought → q.answers ≡ other.answers → known_at_first p q ≡ known_at_first p other
 known_as p q other mode same =
-    ap (λ o. known_at_first p (proof_of o q.answers [])) mode ∙ ap (λ Ss. known_at_first p (proof_of other.opt Ss [])) same
+    ap (λ o. known_at_first p (proof_of o q.answers [])) mode ∙ ap (λ Ss. known_at_first p (proof_of other.sought Ss [])) same
 
 -- the same of a line
 lines_of : (p : Program) (q other : Proof) (w : Why) (place : ℕ) → IsStart q other → q.answers ≡ other.answers →
@@ -64,7 +64,7 @@ told-not_right p proof w number is right h = refused-not_right p proof w number 
         let none = start.all_answers (omega (arith, l.wrong.within)) in
         let same : h.proof.answers ≡ proof.answers = sym (start.answers ∙ ap (λ Ss. h.proof.answers ++ Ss) none ∙ append-nil h.proof.answers) in
         record {
-          answers = subst (AreRightAnswers p proof.opt) same (subst (λ o. AreRightAnswers p o h.proof.answers) start.mode l.answers);
+          answers = subst (AreRightAnswers p proof.sought) same (subst (λ o. AreRightAnswers p o h.proof.answers) start.mode l.answers);
           place = l.place;
           wrong = lines_of p h.proof proof w l.place start same l.wrong;
           is = omega (arith, l.is, ap length same);
@@ -73,5 +73,6 @@ told-not_right p proof w number is right h = refused-not_right p proof w number 
     of_whole : IsNotWhole p h.proof w number → IsNotWhole p proof w number
     of_whole n =
         let last = h.last n.why in
-        let same : h.proof ≡ proof = one_whole h.proof proof last.0 h.is is (ap (λ (t : List ℕ). front_of h.proof ++ t) last.1 ∙ h.begins) in
+        let ends = ap (λ (b : Bool). line (last_word b) ++ last.0) n.ends in
+        let same : h.proof ≡ proof = one_whole h.proof proof last.0 h.is is (ap (λ (t : List ℕ). front_of h.proof ++ t) (ends ∙ last.1) ∙ h.begins) in
         subst (λ q. IsNotWhole p q w number) same n

@@ -9,16 +9,19 @@ use Rattle.std.proofs.lemmas.List.Elements.{recursion_from_All, All-from_recursi
 use Rattle.asp_model.specs.declared.program.Program.{Program}
 use Rattle.asp_model.specs.Sets.{Atoms, has, IsBefore}
 use Rattle.asp_model.specs.Models.{atoms_of, answers}
+use Rattle.asp_model.specs.Costs.{cost}
 use Rattle.asp_model.proofs.MemberLaws.{each_weaker, HasAll-itself}
 use Rattle.asp_model.proofs.ModelLaws.{answers-are, stable-subset}
 use Rattle.asp_proof.specs.declared.proof.Line.{Line}
 use Rattle.asp_proof.specs.declared.proof.Line.TheVariants as line
 use Rattle.asp_proof.specs.declared.proof.Proof.{Proof}
+use Rattle.asp_proof.specs.declared.proof.Sought.{Sought}
+use Rattle.asp_proof.specs.declared.proof.Sought.TheVariants.{All, Best, Optima}
 use Rattle.asp_checker.specs.declared.judge.Why.{Why}
 use Rattle.asp_checker.specs.declared.judge.Why.TheVariants as why
 use Rattle.asp_checker.specs.Propagation.{Known}
 use Rattle.asp_checker.specs.Lines.{AreOf, IsConfirmed, AreConfirmed, nogood_of, Stock, all_of, with_line, first_stock}
-use Rattle.asp_checker.specs.Right.{IsRight}
+use Rattle.asp_checker.specs.Right.{is_best, CostsAlike, AreAlike, IsRight}
 use Rattle.asp_checker.specs.Judging.{IsInOrder, HasAnswerFault, IsWrongAnswer, HasLiterals, HasLineFault, IsWrongLine, IsNotWhole, IsRefused, known_after, no_line}
 
 -- ---- answers
@@ -44,20 +47,28 @@ in_order opt listed i lt pairs few = record {
   single = λ o. let one = few o in let none : i ≡ 0 = omega arith in ap (λ j. take j listed) none;
 }
 
-answer_fault : (p : Program) (opt : Bool) (listed : List Atoms) (w : Why) (i : ℕ) → i < length listed →
-    IsInOrder opt (take i listed) (get_or listed i []) → Contains (answers p) (get_or listed i []) →
-    HasAnswerFault p opt (take i listed) (get_or listed i []) w → ⊥
-answer_fault p opt listed why.Order i lt order member h = h order
-answer_fault p opt listed why.Literal i lt order member h = false≢true (sym h.1 ∙ answer_stands p (get_or listed i []) member)
-answer_fault p opt listed why.Member i lt order member h = h.2 member
-answer_fault p opt listed why.Loop i lt order member h = h
-answer_fault p opt listed why.NotImplied i lt order member h = h
-answer_fault p opt listed why.NotWhole i lt order member h = h
+alike_at : (p : Program) (s : Sought) (listed : List Atoms) (i : ℕ) → i < length listed → AreAlike p s listed → CostsAlike p s (take i listed) (get_or listed i [])
+alike_at p All listed i lt h = tt
+alike_at p Best listed i lt h = tt
+alike_at p Optima [] i lt h = absurd (omega arith)
+alike_at p Optima (T ∷ listed) zero lt h = tt
+alike_at p Optima (T ∷ listed) (suc i) lt h = All-from_recursion (λ S. cost p S ≡ cost p T) listed h i [] (omega arith)
 
-wrong_answer_no : (p : Program) (proof : Proof) (w : Why) (i : ℕ) → IsRight p proof → IsWrongAnswer p proof.opt proof.answers w i → ⊥
+answer_fault : (p : Program) (s : Sought) (listed : List Atoms) (w : Why) (i : ℕ) → i < length listed →
+    IsInOrder (is_best s) (take i listed) (get_or listed i []) → Contains (answers p) (get_or listed i []) →
+    CostsAlike p s (take i listed) (get_or listed i []) → HasAnswerFault p s (take i listed) (get_or listed i []) w → ⊥
+answer_fault p s listed why.Order i lt order member alike h = h order
+answer_fault p s listed why.Literal i lt order member alike h = false≢true (sym h.1 ∙ answer_stands p (get_or listed i []) member)
+answer_fault p s listed why.Member i lt order member alike h = h.2 member
+answer_fault p s listed why.Cost i lt order member alike h = h.2 alike
+answer_fault p s listed why.Loop i lt order member alike h = h
+answer_fault p s listed why.NotImplied i lt order member alike h = h
+answer_fault p s listed why.NotWhole i lt order member alike h = h
+
+wrong_answer_no : (p : Program) (proof : Proof) (w : Why) (i : ℕ) → IsRight p proof → IsWrongAnswer p proof.sought proof.answers w i → ⊥
 wrong_answer_no p proof w i right wrong =
-    answer_fault p proof.opt proof.answers w i wrong.within (in_order proof.opt proof.answers i wrong.within right.order right.single)
-    (All-from_recursion (Contains (answers p)) proof.answers right.members i [] wrong.within) wrong.fault
+    answer_fault p proof.sought proof.answers w i wrong.within (in_order (is_best proof.sought) proof.answers i wrong.within right.order right.single)
+    (All-from_recursion (Contains (answers p)) proof.answers right.members i [] wrong.within) (alike_at p proof.sought proof.answers i wrong.within right.alike) wrong.fault
 
 -- ---- lines
 confirmed_of : (p : Program) (s : Stock) (lines : List Line) (i : ℕ) → i < length lines → AreConfirmed p s lines → AreOf p (nogood_of (get_or lines i no_line))
@@ -91,6 +102,7 @@ line_fault p k l why.Loop of c h = no_loop p k l c h
 line_fault p k l why.NotImplied of c h = not_implied p k l c h
 line_fault p k l why.Member of c h = h
 line_fault p k l why.Order of c h = h
+line_fault p k l why.Cost of c h = h
 line_fault p k l why.NotWhole of c h = h
 
 wrong_line_no : (p : Program) (s : Stock) (lines : List Line) (w : Why) (i : ℕ) → AreConfirmed p s lines → IsWrongLine p s lines w i → ⊥
@@ -99,7 +111,7 @@ wrong_line_no p s lines w i c wrong =
 
 -- ---- the whole
 not_whole_no : (p : Program) (proof : Proof) (w : Why) (n : ℕ) → IsRight p proof → IsNotWhole p proof w n → ⊥
-not_whole_no p proof w n right h = let lines = h.lines in false≢true (lines.whole_is ∙ right.whole)
+not_whole_no p proof w n right h = let lines = h.lines in false≢true (lines.whole_is ∙ right.whole h.ends)
 
 pub refused-not_right : (p : Program) (proof : Proof) (w : Why) (n : ℕ) → IsRight p proof → IsRefused p proof w n → ⊥
 refused-not_right p proof w n right refused = elim refused [

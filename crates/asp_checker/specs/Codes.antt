@@ -6,6 +6,7 @@ use Rattle.asp_checker.specs.declared.run.CheckStatus.TheVariants as status
 abbrev pub code_of : CheckStatus → ℕ
 code_of status.Yes = 0
 code_of (status.No w n) = 1
+code_of (status.Part n) = 2
 code_of status.Memory = 33
 code_of (status.Program e) = 65
 code_of status.ReadFault = 66

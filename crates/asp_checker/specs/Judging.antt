@@ -17,14 +17,15 @@ use Rattle.asp_checker.specs.declared.judge.Listed.{Listed}
 use Rattle.asp_checker.specs.declared.judge.Listed.TheVariants as seen
 use Rattle.asp_checker.specs.declared.judge.Read.{Read}
 use Rattle.asp_checker.specs.declared.judge.Read.TheVariants as read
-use Rattle.asp_proof.specs.Texts.{answer_text, line_text}
+use Rattle.asp_proof.specs.declared.proof.Sought.{Sought}
+use Rattle.asp_proof.specs.Texts.{answer_text, line_text, last_word}
 use Rattle.asp_proof.specs.Grammar.{IsSet, IsLine}
 use Rattle.asp_proof.specs.Fields.{IsNone, IsWhole}
 use Rattle.asp_proof.specs.Walk.{IsNextAnswer}
 use Rattle.asp_checker.specs.declared.bounds.Bound.{Bound}
 use Rattle.asp_checker.specs.Propagation.{Known, LeadsToConflict}
 use Rattle.asp_checker.specs.Lines.{AreOf, IsLoop, IsConfirmed, AreConfirmed, literals_of, nogood_of, Stock, stock, all_of, with_line, first_stock}
-use Rattle.asp_checker.specs.Right.{closes, IsRight}
+use Rattle.asp_checker.specs.Right.{closes, is_best, CostsAlike, AreAlike, IsRight}
 use Rattle.asp_checker.specs.Blocks.{known_with}
 use Rattle.asp_checker.specs.Chasing.{IsRoot}
 use Rattle.asp_vars.specs.Literals.{Literal}
@@ -36,36 +37,39 @@ pub record IsInOrder (opt : Bool) (before : List Atoms) (S : Atoms) : Type 0 whe
   pub single : IsTrue opt → before ≡ []
 
 -- The answers are right, as far as they go.
-pub record AreRightAnswers (p : Program) (opt : Bool) (listed : List Atoms) : Type 0 where
+pub record AreRightAnswers (p : Program) (sought : Sought) (listed : List Atoms) : Type 0 where
   pub members : AllByRecursion (Contains (answers p)) listed
   pub order : AllPairs IsBefore listed
-  pub single : IsTrue opt → length listed ≤ 1
+  pub single : IsTrue (is_best sought) → length listed ≤ 1
+  pub alike : AreAlike p sought listed
 
 -- The set is right behind them.
-pub record IsRightAnswer (p : Program) (opt : Bool) (before : List Atoms) (S : Atoms) : Type 0 where
-  pub order : IsInOrder opt before S
+pub record IsRightAnswer (p : Program) (sought : Sought) (before : List Atoms) (S : Atoms) : Type 0 where
+  pub order : IsInOrder (is_best sought) before S
   pub member : Contains (answers p) S
+  pub alike : CostsAlike p sought before S
 
 -- what is wrong with a set behind answers that are right
-abbrev pub HasAnswerFault : Program → Bool → List Atoms → Atoms → Why → Type 0
-HasAnswerFault p opt before S why.Order = IsInOrder opt before S → ⊥
-HasAnswerFault p opt before S why.Literal = IsInOrder opt before S × (list_all (has (atoms_of p)) S ≡ false)
-HasAnswerFault p opt before S why.Member = IsInOrder opt before S × (list_all (has (atoms_of p)) S ≡ true) × (Contains (answers p) S → ⊥)
-HasAnswerFault p opt before S why.Loop = ⊥
-HasAnswerFault p opt before S why.NotImplied = ⊥
-HasAnswerFault p opt before S why.NotWhole = ⊥
+abbrev pub HasAnswerFault : Program → Sought → List Atoms → Atoms → Why → Type 0
+HasAnswerFault p s before S why.Order = IsInOrder (is_best s) before S → ⊥
+HasAnswerFault p s before S why.Literal = IsInOrder (is_best s) before S × (list_all (has (atoms_of p)) S ≡ false)
+HasAnswerFault p s before S why.Member = IsInOrder (is_best s) before S × (list_all (has (atoms_of p)) S ≡ true) × (Contains (answers p) S → ⊥)
+HasAnswerFault p s before S why.Cost = IsInOrder (is_best s) before S × Contains (answers p) S × (CostsAlike p s before S → ⊥)
+HasAnswerFault p s before S why.Loop = ⊥
+HasAnswerFault p s before S why.NotImplied = ⊥
+HasAnswerFault p s before S why.NotWhole = ⊥
 
 -- what the bytes of a line came to where an answer may come, which they tell by its change: one that is right, and listed now, or is wrong, or none
-abbrev pub IsAnswerRead : Program → Bool → List Atoms → List Atoms → List ℕ → Listed → Type 0
-IsAnswerRead p opt before now bytes seen.Right = (S : Atoms) × IsNextAnswer before bytes S × IsRightAnswer p opt before S × (now ≡ before ++ S ∷ [])
-IsAnswerRead p opt before now bytes (seen.Wrong w) = (S : Atoms) × IsNextAnswer before bytes S × HasAnswerFault p opt before S w × (now ≡ before)
-IsAnswerRead p opt before now bytes seen.Other = IsNone IsSet answer_text bytes × (now ≡ before)
+abbrev pub IsAnswerRead : Program → Sought → List Atoms → List Atoms → List ℕ → Listed → Type 0
+IsAnswerRead p s before now bytes seen.Right = (S : Atoms) × IsNextAnswer before bytes S × IsRightAnswer p s before S × (now ≡ before ++ S ∷ [])
+IsAnswerRead p s before now bytes (seen.Wrong w) = (S : Atoms) × IsNextAnswer before bytes S × HasAnswerFault p s before S w × (now ≡ before)
+IsAnswerRead p s before now bytes seen.Other = IsNone IsSet answer_text bytes × (now ≡ before)
 
 -- the first set that is wrong
-pub record IsWrongAnswer (p : Program) (opt : Bool) (listed : List Atoms) (w : Why) (place : ℕ) : Type 0 where
+pub record IsWrongAnswer (p : Program) (sought : Sought) (listed : List Atoms) (w : Why) (place : ℕ) : Type 0 where
   pub within : place < length listed
-  pub before : AreRightAnswers p opt (take place listed)
-  pub fault : HasAnswerFault p opt (take place listed) (slice_index_or listed place []) w
+  pub before : AreRightAnswers p sought (take place listed)
+  pub fault : HasAnswerFault p sought (take place listed) (slice_index_or listed place []) w
 
 -- ---- lines
 -- The program has the variables of a loop's literals and the atoms of its set.
@@ -96,6 +100,7 @@ HasLineFault p k l why.Loop = HasLiterals p l × IsNoLoop p l
 HasLineFault p k l why.NotImplied = HasLiterals p l × IsNotImplied p k l
 HasLineFault p k l why.Member = ⊥
 HasLineFault p k l why.Order = ⊥
+HasLineFault p k l why.Cost = ⊥
 HasLineFault p k l why.NotWhole = ⊥
 
 -- what a line came to, where this is known
@@ -115,8 +120,8 @@ pub record IsKnownNow (p : Program) (listed : List Atoms) (bound : Option Bound)
 
 -- what the bytes of a line came to: the last one, no line of a proof, or one that was judged
 abbrev pub IsLineRead : Program → List Atoms → Option Bound → List (List Literal) → List (List Literal) → List (List Literal) → List (List Literal) → List ℕ → List (Option Bool) → Read → Type 0
-IsLineRead p listed bound rows placed now now_placed bytes x read.Last = bytes ≡ codes "0"
-IsLineRead p listed bound rows placed now now_placed bytes x read.Refused = (bytes ≢ codes "0") × IsNone IsLine line_text bytes
+IsLineRead p listed bound rows placed now now_placed bytes x (read.Last part) = bytes ≡ last_word part
+IsLineRead p listed bound rows placed now now_placed bytes x read.Refused = ((part : Bool) → bytes ≡ last_word part → ⊥) × IsNone IsLine line_text bytes
 IsLineRead p listed bound rows placed now now_placed bytes x (read.Wrong w) = (l : Line) × IsWhole IsLine line_text bytes l ×
     HasLineFault p (all_of (stock (known_with p listed rows bound) placed)) l w
 IsLineRead p listed bound rows placed now now_placed bytes x (read.Right closing) = (l : Line) × IsWhole IsLine line_text bytes l × IsKnownNow p listed bound rows placed now now_placed l x closing
@@ -142,20 +147,21 @@ pub record AreRightLines (p : Program) (s : Stock) (lines : List Line) (whole : 
   pub whole_is : whole ≡ list_any (closes p) lines
 
 -- ---- the whole
--- In the text the first answer is on line 3, the answers are followed by the lines, and these by the line 0.
+-- In the text the first answer is on line 3, the answers are followed by the lines, and these by the last one.
 pub record IsAnswerFault (p : Program) (proof : Proof) (w : Why) (number : ℕ) : Type 0 where
   pub place : ℕ
-  pub wrong : IsWrongAnswer p proof.opt proof.answers w place
+  pub wrong : IsWrongAnswer p proof.sought proof.answers w place
   pub is : number ≡ place + 3
 
 pub record IsLineFault (p : Program) (proof : Proof) (w : Why) (number : ℕ) : Type 0 where
-  pub answers : AreRightAnswers p proof.opt proof.answers
+  pub answers : AreRightAnswers p proof.sought proof.answers
   pub place : ℕ
   pub wrong : IsWrongLine p (first_stock p proof) proof.lines w place
   pub is : number ≡ length proof.answers + place + 3
 
 pub record IsNotWhole (p : Program) (proof : Proof) (w : Why) (number : ℕ) : Type 0 where
-  pub answers : AreRightAnswers p proof.opt proof.answers
+  pub ends : proof.part ≡ false
+  pub answers : AreRightAnswers p proof.sought proof.answers
   pub lines : AreRightLines p (first_stock p proof) proof.lines false
   pub why : w ≡ why.NotWhole
   pub is : number ≡ length proof.answers + length proof.lines + 3
@@ -165,5 +171,6 @@ abbrev pub IsRefused : Program → Proof → Why → ℕ → Type 0
 IsRefused p proof w number = IsAnswerFault p proof w number ⊎ (IsLineFault p proof w number ⊎ IsNotWhole p proof w number)
 
 abbrev pub IsJudged : Program → Proof → Judgement → Type 0
-IsJudged p proof judgement.Yes = IsRight p proof
+IsJudged p proof judgement.Yes = IsRight p proof × (proof.part ≡ false)
+IsJudged p proof (judgement.Part n) = IsRight p proof × (proof.part ≡ true) × (length proof.answers ≡ n)
 IsJudged p proof (judgement.No w number) = IsRefused p proof w number

@@ -6,7 +6,7 @@ use Rattle.asp_model.specs.declared.program.Body.TheVariants as body
 use Rattle.asp_model.specs.declared.program.Program.{Program}
 use Rattle.asp_model.specs.Sets.{Atoms, has}
 use Rattle.asp_model.specs.Models.{rules_in_force, atoms_of, head_atoms}
-use Rattle.asp_model.specs.Costs.{cost}
+use Rattle.asp_model.specs.Costs.{cost, just_above}
 use Rattle.asp_vars.specs.Literals.{Literal, T, F, complement, has_literal}
 use Rattle.asp_vars.specs.Numbering.{normal, var_count, var_of_atom, literal_of_form}
 use Rattle.asp_vars.specs.Completion.{completion}
@@ -15,6 +15,8 @@ use Rattle.asp_loop.specs.LoopNogoods.{weight_where, is_left}
 use Rattle.asp_proof.specs.declared.proof.Line.{Line}
 use Rattle.asp_proof.specs.declared.proof.Line.TheVariants as line
 use Rattle.asp_proof.specs.declared.proof.Proof.{Proof}
+use Rattle.asp_proof.specs.declared.proof.Sought.{Sought}
+use Rattle.asp_proof.specs.declared.proof.Sought.TheVariants as sought
 use Rattle.asp_checker.specs.Propagation.{Known, LeadsToConflict}
 
 -- a number is a variable, and its sign whether it is true
@@ -105,11 +107,29 @@ abbrev pub bound_of : Program → List Atoms → Option (List ℤ)
 bound_of p [] = None
 bound_of p (S ∷ answers) = Some (cost p S)
 
--- the completion, in an enumeration the listed answers, and in an optimisation the cost of the listed one
+-- the first cost behind that of the answers, where all that none betters are listed: these cost what the first of them costs
+abbrev pub above_of : Program → List Atoms → Option (List ℤ)
+above_of p [] = None
+above_of p (S ∷ answers) = just_above (cost p S)
+
+-- the cost that is to be bettered
+abbrev pub first_bound : Program → Sought → List Atoms → Option (List ℤ)
+first_bound p sought.All listed = None
+first_bound p sought.Best listed = bound_of p listed
+first_bound p sought.Optima listed = above_of p listed
+
+-- the answers that are to be avoided: the listed ones, but not the one that is to be bettered
+abbrev pub avoided : Sought → List Atoms → List Atoms
+avoided sought.All listed = listed
+avoided sought.Best listed = []
+avoided sought.Optima listed = listed
+
+-- the completion, the answers that are to be avoided, and the cost that is to be bettered
 abbrev pub known_at_first : Program → Proof → Known
-known_at_first p proof =
-    if proof.opt then record { nogoods = completion p; bound = bound_of p proof.answers }
-    else record { nogoods = map (nogood_of_answer p) proof.answers ++ completion p; bound = None }
+known_at_first p proof = record {
+  nogoods = map (nogood_of_answer p) (avoided proof.sought proof.answers) ++ completion p;
+  bound = first_bound p proof.sought proof.answers;
+}
 
 abbrev pub first_stock : Program → Proof → Stock
 first_stock p proof = stock (known_at_first p proof) []

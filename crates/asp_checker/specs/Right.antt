@@ -1,15 +1,17 @@
 -- When a proof is right, and what it shows.
-use Rattle.std.specs.Prelude.{◌≡◌, ◌≤◌, Bool, false, List, [], ◌∷◌, map, length, AllPairs, Contains, MatchBool, IsTrue}
+use Rattle.std.specs.Prelude.{◌≡◌, ◌≤◌, Bool, true, false, List, [], ◌∷◌, map, length, AllPairs, Contains, IsTrue}
 use Rattle.std.specs.List.{list_all, list_any, AllByRecursion}
 use Rattle.asp_model.specs.declared.program.Program.{Program}
 use Rattle.asp_model.specs.Sets.{Atoms, IsBefore}
 use Rattle.asp_model.specs.Models.{answers}
-use Rattle.asp_model.specs.Costs.{cost, IsOptimum}
+use Rattle.asp_model.specs.Costs.{cost, optima, IsOptimum}
 use Rattle.asp_vars.specs.Literals.{Literal, has_literal}
 use Rattle.asp_vars.specs.Numbering.{literal_of}
 use Rattle.asp_proof.specs.declared.proof.Line.{Line}
 use Rattle.asp_proof.specs.declared.proof.Line.TheVariants as line
 use Rattle.asp_proof.specs.declared.proof.Proof.{Proof}
+use Rattle.asp_proof.specs.declared.proof.Sought.{Sought}
+use Rattle.asp_proof.specs.declared.proof.Sought.TheVariants as sought
 use Rattle.asp_checker.specs.Lines.{literals_of, AreConfirmed, first_stock}
 
 -- Each of the literals is an assumption.
@@ -22,18 +24,55 @@ closes p (line.Loop place set nogood) = false
 closes p (line.Learned place nogood names) = is_assumed p (literals_of nogood)
 closes p (line.Cube nogood) = is_assumed p (literals_of nogood)
 
+-- whether one answer that none betters is sought
+abbrev pub is_best : Sought → Bool
+is_best sought.All = false
+is_best sought.Best = true
+is_best sought.Optima = false
+
+-- Where all answers that none betters are sought, the set costs what the first of those before it costs.
+abbrev pub CostsAlike : Program → Sought → List Atoms → Atoms → Type 0
+CostsAlike p sought.All before S = Unit {0}
+CostsAlike p sought.Best before S = Unit {0}
+CostsAlike p sought.Optima [] S = Unit {0}
+CostsAlike p sought.Optima (T ∷ before) S = cost p S ≡ cost p T
+
+-- The same of each of these sets.
+abbrev pub AreAlike : Program → Sought → List Atoms → Type 0
+AreAlike p sought.All listed = Unit {0}
+AreAlike p sought.Best listed = Unit {0}
+AreAlike p sought.Optima [] = Unit {0}
+AreAlike p sought.Optima (T ∷ listed) = AllByRecursion (λ S. cost p S ≡ cost p T) listed
+
+-- Where it isn't told that the answers are a part of what was sought, a line says that there is nothing else.
 pub record IsRight (p : Program) (proof : Proof) : Type 0 where
   pub members : AllByRecursion (Contains (answers p)) proof.answers
   pub order : AllPairs IsBefore proof.answers
-  pub single : IsTrue proof.opt → length proof.answers ≤ 1
+  pub single : IsTrue (is_best proof.sought) → length proof.answers ≤ 1
+  pub alike : AreAlike p proof.sought proof.answers
   pub lines : AreConfirmed p (first_stock p proof) proof.lines
-  pub whole : IsTrue (list_any (closes p) proof.lines)
+  pub whole : proof.part ≡ false → IsTrue (list_any (closes p) proof.lines)
 
 -- An optimisation lists one answer that none betters, and none only where there is none.
 abbrev pub ShowsBest : Program → List Atoms → Type 0
 ShowsBest p [] = answers p ≡ []
 ShowsBest p (S ∷ others) = (others ≡ []) × IsOptimum p S (cost p S)
 
--- An enumeration lists all answers, each once and in order.
+-- An enumeration lists all answers, each once and in order; where all that none betters are sought, these.
+abbrev pub ShowsAll : Program → Sought → List Atoms → Type 0
+ShowsAll p sought.All listed = listed ≡ answers p
+ShowsAll p sought.Best listed = ShowsBest p listed
+ShowsAll p sought.Optima listed = listed ≡ optima p
+
+-- The listed sets are answers, each once and in order.
+pub record ShowsSome (p : Program) (listed : List Atoms) : Type 0 where
+  pub members : AllByRecursion (Contains (answers p)) listed
+  pub order : AllPairs IsBefore listed
+
+-- what a proof shows by its last line, which tells whether the answers are a part of what was sought
+abbrev pub ShowsBy : Program → Bool → Sought → List Atoms → Type 0
+ShowsBy p true s listed = ShowsSome p listed
+ShowsBy p false s listed = ShowsAll p s listed
+
 abbrev pub Shows : Program → Proof → Type 0
-Shows p proof = MatchBool proof.opt (ShowsBest p proof.answers) (proof.answers ≡ answers p)
+Shows p proof = ShowsBy p proof.part proof.sought proof.answers

@@ -53,10 +53,12 @@ number_of why.Literal = 3
 number_of why.Loop = 4
 number_of why.NotImplied = 5
 number_of why.NotWhole = 6
+number_of why.Cost = 7
 
 -- what is written
 abbrev pub said : Judgement → List ℕ
 said judgement.Yes = codes "YES\n"
+said (judgement.Part n) = codes "PART " ++ decimal n ++ codes "\n"
 said (judgement.No w line) = codes "NO " ++ decimal (number_of w) ++ codes " " ++ decimal line ++ codes "\n"
 
 abbrev pub proof_status : ProofError → CheckStatus
@@ -73,17 +75,20 @@ status_of (error.Proof e) = proof_status e
 
 abbrev pub status_said : Judgement → CheckStatus
 status_said judgement.Yes = status.Yes
+status_said (judgement.Part n) = status.Part n
 status_said (judgement.No w n) = status.No w n
 
 -- where a judgement was written, all of it was sent on
 abbrev pub IsSentOn : Bool → CheckStatus → Type 0
 IsSentOn sent status.Yes = sent ≡ true
+IsSentOn sent (status.Part n) = sent ≡ true
 IsSentOn sent (status.No w n) = sent ≡ true
 IsSentOn sent s = Unit {0}
 
 -- what became of a sink where a judgement was written
 abbrev pub Writes : Option (List ℕ) → Option (List ℕ) → Judgement → CheckStatus → Type 0
 Writes old new j status.Yes = (j ≡ judgement.Yes) × Appends old new (said j)
+Writes old new j (status.Part n) = (j ≡ judgement.Part n) × Appends old new (said j)
 Writes old new j (status.No w n) = (j ≡ judgement.No w n) × Appends old new (said j)
 Writes old new j status.Memory = Keeps old new
 Writes old new j status.WriteFault = AppendsFront old new (said j)
@@ -118,6 +123,7 @@ InputSays format text (Err (error.Proof (proof.Refused number))) = TextsSay form
 -- what a text comes to
 abbrev pub TextSays : Format → List ℕ → Option (List ℕ) → Option (List ℕ) → CheckStatus → Type 0
 TextSays format text old new status.Yes = InputSays format text (Ok judgement.Yes) × Appends old new (said judgement.Yes)
+TextSays format text old new (status.Part n) = InputSays format text (Ok (judgement.Part n)) × Appends old new (said (judgement.Part n))
 TextSays format text old new (status.No w n) = InputSays format text (Ok (judgement.No w n)) × Appends old new (said (judgement.No w n))
 TextSays format text old new status.Memory = Keeps old new
 TextSays format text old new (status.Program e) = InputSays format text (Err (error.Program e)) × Keeps old new

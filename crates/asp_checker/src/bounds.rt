@@ -1,14 +1,14 @@
 //! The bound: only answers that cost less than a cost are looked for.
 ghost use Rattle.std.specs.Prelude.{◌≡◌, ◌+◌, ◌*◌, ◌^◌, ◌<◌, ◌≤ℤ◌, ◌+ℤ◌, pos, neg_ℤ, not, Some, IfOk, map, length};
 ghost use Rattle.std.specs.List.{AllByRecursion};
-ghost use Rattle.asp_model.specs.Costs.{priorities, betters, cost};
+ghost use Rattle.asp_model.specs.Costs.{priorities, betters, cost, just_above};
 ghost use Rattle.asp_vars.specs.Numbering.{var_count};
 ghost use Rattle.asp_bound.specs.Optimism.{least};
 ghost use Rattle.asp_checker.specs.Propagation.{reaches_bound};
 ghost use Rattle.asp_checker.specs.Blocks.{level_sum, AreLevels, HasLevels, cost_of_bound};
 
 use crate::levels::weights_at;
-use asp_model::cost::{cost_of, priorities};
+use asp_model::cost::{Cost, cost_just_above, cost_of, priorities};
 use asp_model::interp::Interp;
 use asp_model::seq::Seq;
 use asp_vars::assign::Assign;
@@ -131,16 +131,41 @@ fn levels(alloc: Global, compiled: &Compiled) -> Result<Vec<Seq<i64>>, AllocErro
 }
 
 impl Bound {
-    /// The bound by the cost of a set.
-    pub fn of(alloc: Global, compiled: &Compiled, set: &Interp) -> Result<Bound, AllocError>
-        ensures cost { IfOk result (λ b. b.cost ≡ cost compiled.now set.now) }
+    // The bound by a cost that has as many sums as the program has priorities.
+    fn by(alloc: Global, compiled: &Compiled, cost: &Cost) -> Result<Bound, AllocError>
+        requires { length cost.now ≡ length (priorities compiled.now.minimize) }
+        ensures cost { IfOk result (λ b. b.cost ≡ cost.now) }
         ensures levels { IfOk result (λ b. HasLevels compiled.now (Some b)) }
     {
-        let cost = cost_of(alloc, compiled.program(), set)?;
         let levels = levels(alloc, compiled)?;
         Ok(Bound {
             levels: Seq::from_vec(levels),
             cost: Seq::from_vec(Vec::from_slice(alloc, cost.as_slice())?),
         })
+    }
+
+    /// The bound by the cost of a set: what costs no less reaches it.
+    pub fn of(alloc: Global, compiled: &Compiled, set: &Interp) -> Result<Bound, AllocError>
+        ensures cost { IfOk result (λ b. b.cost ≡ cost compiled.now set.now) }
+        ensures levels { IfOk result (λ b. HasLevels compiled.now (Some b)) }
+    {
+        let cost = cost_of(alloc, compiled.program(), set)?;
+        Bound::by(alloc, compiled, &cost)
+    }
+
+    /// The bound just above the cost of a set: what costs more reaches it. None where a cost has no sums.
+    pub fn above(
+        alloc: Global,
+        compiled: &Compiled,
+        set: &Interp,
+    ) -> Result<Option<Bound>, AllocError>
+        ensures cost { IfOk result (λ b. cost_of_bound b ≡ just_above (cost compiled.now set.now)) }
+        ensures levels { IfOk result (HasLevels compiled.now) }
+    {
+        let above = cost_just_above(alloc, compiled.program(), set)?;
+        match above {
+            None => Ok(None),
+            Some(cost) => Ok(Some(Bound::by(alloc, compiled, &cost)?)),
+        }
     }
 }

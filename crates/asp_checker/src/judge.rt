@@ -1,5 +1,5 @@
 //! The judgement of an answer and of a line of a proof: that it is right, or why it isn't.
-ghost use Rattle.std.specs.Prelude.{◌≡◌, ℕ, List, true, false, if◌then◌else◌, IfOk, OnOk, MatchOption, AllPairs, Contains, map, [], None};
+ghost use Rattle.std.specs.Prelude.{◌≡◌, ℕ, List, true, false, IfOk, OnOk, MatchOption, AllPairs, Contains, map};
 ghost use Rattle.std.specs.List.{AllByRecursion, list_all};
 ghost use Rattle.asp_model.specs.Sets.{IsBefore, has};
 ghost use Rattle.asp_model.specs.Models.{answers, atoms_of};
@@ -9,10 +9,10 @@ ghost use Rattle.asp_proof.specs.Changes.{changed, last_of};
 ghost use Rattle.asp_proof.specs.Texts.{line_text};
 ghost use Rattle.asp_proof.specs.Grammar.{IsLine};
 ghost use Rattle.asp_proof.specs.Fields.{IsWhole};
-ghost use Rattle.asp_checker.specs.Right.{closes};
+ghost use Rattle.asp_checker.specs.Right.{closes, is_best, CostsAlike};
 ghost use Rattle.asp_vars.specs.Completion.{completion};
 ghost use Rattle.asp_checker.specs.Propagation.{LeadsToConflict};
-ghost use Rattle.asp_checker.specs.Lines.{AreOf, IsConfirmed, IsLoop, literals_of, nogood_of, stock, all_of, place_of, put, with_placed, bound_of};
+ghost use Rattle.asp_checker.specs.Lines.{AreOf, IsConfirmed, IsLoop, literals_of, nogood_of, stock, all_of, place_of, put, with_placed, avoided, bound_of, above_of, first_bound};
 ghost use Rattle.asp_checker.specs.Rows.{known_before, stock_before};
 ghost use Rattle.asp_checker.specs.Blocks.{HasLevels, known_with, cost_of_bound};
 ghost use Rattle.asp_checker.specs.Chasing.{IsRoot};
@@ -27,12 +27,13 @@ use crate::rows::{Before, Rows};
 use crate::watches::Watches;
 use asp_complete::completion::completion;
 use asp_member::stable::is_stable;
+use asp_model::cost::{Cost, cost_of};
 use asp_model::holding::all_hold;
 use asp_model::interp::Interp;
 use asp_model::seq::Seq;
 use asp_proof::changes::next_answer;
-use asp_proof::lines::{answer, is_last, line};
-use asp_proof::proof::Line;
+use asp_proof::lines::{answer, last, line};
+use asp_proof::proof::{Line, Sought};
 use asp_vars::assign::Assign;
 use asp_vars::compiled::Compiled;
 use asp_vars::lit::Lit;
@@ -53,15 +54,19 @@ pub enum Why {
     Loop,
     /// Unit propagation from the literals doesn't lead to a conflict.
     NotImplied,
-    /// No line says that there is nothing else.
+    /// No line says that there is nothing else, nor does the last one say that the answers are a part.
     NotWhole,
+    /// The set costs other than the first one, where all that none betters are sought.
+    Cost,
 }
 
 /// What is said of a proof.
 #[derive(Clone, Copy)]
 pub enum Judgement {
-    /// It is right.
+    /// It is right, and lists all that was sought.
     Yes,
+    /// It is right, and tells that the answers, so many, are a part of what was sought.
+    Part(usize),
     /// The first line that isn't right, and the line's number, counted from 1.
     No(Why, usize),
 }
@@ -114,18 +119,74 @@ fn is_answer(alloc: Global, compiled: &Compiled, set: &Interp) -> Result<bool, A
     Ok(stable)
 }
 
+/// Whether one answer that none betters is sought.
+pub(crate) fn is_best(sought: Sought) -> bool
+    ensures { result ≡ is_best sought }
+{
+    match sought {
+        Sought::All | Sought::Optima => false,
+        Sought::Best => true,
+    }
+}
+
+// Whether two costs are the same.
+fn is_same(cost: &Cost, other: &Cost) -> bool
+    ensures yes { result ≡ true → cost.now ≡ other.now }
+    ensures no { result ≡ false → cost.now ≡ other.now → ⊥ }
+{
+    cost == other
+}
+
+// Whether the set costs what the first of those before it costs.
+fn costs_as_first(
+    alloc: Global,
+    compiled: &Compiled,
+    before: &[Interp],
+    set: &Interp,
+) -> Result<bool, AllocError>
+    ensures yes { IfOk result (λ yes. yes ≡ true → CostsAlike compiled.now Sought.Optima before.now set.now) }
+    ensures no { IfOk result (λ yes. yes ≡ false → CostsAlike compiled.now Sought.Optima before.now set.now → ⊥) }
+{
+    let count = before.len();
+    if count == 0 {
+        return Ok(true);
+    }
+    let first = &before[0];
+    let program = compiled.program();
+    let cost = cost_of(alloc, program, set)?;
+    let least = cost_of(alloc, program, first)?;
+    Ok(is_same(&cost, &least))
+}
+
+// The same, where all answers that none betters are sought.
+fn costs_alike(
+    alloc: Global,
+    compiled: &Compiled,
+    sought: Sought,
+    before: &[Interp],
+    set: &Interp,
+) -> Result<bool, AllocError>
+    ensures yes { IfOk result (λ yes. yes ≡ true → CostsAlike compiled.now sought before.now set.now) }
+    ensures no { IfOk result (λ yes. yes ≡ false → CostsAlike compiled.now sought before.now set.now → ⊥) }
+{
+    match sought {
+        Sought::All | Sought::Best => Ok(true),
+        Sought::Optima => costs_as_first(alloc, compiled, before, set),
+    }
+}
+
 // What is wrong with a set behind answers that are right.
 fn fault_of_answer(
     alloc: Global,
     compiled: &Compiled,
-    opt: bool,
+    sought: Sought,
     before: &[Interp],
     set: &Interp,
 ) -> Result<Option<Why>, AllocError>
-    requires { AreRightAnswers compiled.now opt before.now }
-    ensures { IfOk result (λ o. MatchOption o (IsRightAnswer compiled.now opt before.now set.now) (HasAnswerFault compiled.now opt before.now set.now)) }
+    requires { AreRightAnswers compiled.now sought before.now }
+    ensures { IfOk result (λ o. MatchOption o (IsRightAnswer compiled.now sought before.now set.now) (HasAnswerFault compiled.now sought before.now set.now)) }
 {
-    if !is_in_order(opt, before, set) {
+    if !is_in_order(is_best(sought), before, set) {
         return Ok(Some(Why::Order));
     }
     if !are_atoms(compiled, set) {
@@ -134,6 +195,10 @@ fn fault_of_answer(
     let member = is_answer(alloc, compiled, set)?;
     if !member {
         return Ok(Some(Why::Member));
+    }
+    let alike = costs_alike(alloc, compiled, sought, before, set)?;
+    if !alike {
+        return Ok(Some(Why::Cost));
     }
     Ok(None)
 }
@@ -161,19 +226,19 @@ fn following(alloc: Global, before: &[Interp], change: &Interp) -> Result<Interp
 pub(crate) fn read_answer(
     alloc: Global,
     compiled: &Compiled,
-    opt: bool,
+    sought: Sought,
     answers: &mut Vec<Interp>,
     bytes: &[u8],
 ) -> Result<Listed, AllocError>
-    requires { AreRightAnswers compiled.now opt answers.old.items }
-    ensures { IfOk result (IsAnswerRead compiled.now opt answers.old.items answers.new.items bytes.now) }
+    requires { AreRightAnswers compiled.now sought answers.old.items }
+    ensures { IfOk result (IsAnswerRead compiled.now sought answers.old.items answers.new.items bytes.now) }
 {
     let Some(change) = answer(alloc, bytes)? else {
         return Ok(Listed::Other);
     };
     let before = answers.as_slice();
     let set = following(alloc, before, &change)?;
-    let fault = fault_of_answer(alloc, compiled, opt, before, &set)?;
+    let fault = fault_of_answer(alloc, compiled, sought, before, &set)?;
     match fault {
         Some(why) => Ok(Listed::Wrong(why)),
         None => {
@@ -206,26 +271,25 @@ pub(crate) fn completed(alloc: Global, compiled: &Compiled) -> Result<Vec<Seq<Li
     Ok(rows)
 }
 
-// The answers that are avoided: the listed ones, where no optimum is sought.
-pub(crate) fn avoided(opt: bool, listed: &[Interp]) -> &[Interp]
-    ensures { result.now ≡ (if opt then [] else listed.now) }
+// The answers that are avoided: the listed ones, but not the one that is to be bettered.
+pub(crate) fn avoided(sought: Sought, listed: &[Interp]) -> &[Interp]
+    ensures { result.now ≡ avoided sought listed.now }
 {
-    if opt { &listed[..0] } else { listed }
+    match sought {
+        Sought::All | Sought::Optima => listed,
+        Sought::Best => &listed[..0],
+    }
 }
 
-// The bound of an optimisation that lists an answer.
-pub(crate) fn bound_at_first(
+// The bound where the first of these answers is to be bettered, if there is one.
+fn bound_below(
     alloc: Global,
     compiled: &Compiled,
-    opt: bool,
     listed: &[Interp],
 ) -> Result<Option<Bound>, AllocError>
-    ensures cost { IfOk result (λ b. cost_of_bound b ≡ (if opt then bound_of compiled.now listed.now else None)) }
+    ensures cost { IfOk result (λ b. cost_of_bound b ≡ bound_of compiled.now listed.now) }
     ensures levels { IfOk result (HasLevels compiled.now) }
 {
-    if !opt {
-        return Ok(None);
-    }
     let count = listed.len();
     if count == 0 {
         return Ok(None);
@@ -233,6 +297,41 @@ pub(crate) fn bound_at_first(
     let set = &listed[0];
     let bound = Bound::of(alloc, compiled, set)?;
     Ok(Some(bound))
+}
+
+// The bound where nothing is to cost more than the first of these answers, if there is one.
+fn bound_above(
+    alloc: Global,
+    compiled: &Compiled,
+    listed: &[Interp],
+) -> Result<Option<Bound>, AllocError>
+    ensures cost { IfOk result (λ b. cost_of_bound b ≡ above_of compiled.now listed.now) }
+    ensures levels { IfOk result (HasLevels compiled.now) }
+{
+    let count = listed.len();
+    if count == 0 {
+        return Ok(None);
+    }
+    let set = &listed[0];
+    let bound = Bound::above(alloc, compiled, set)?;
+    Ok(bound)
+}
+
+// The bound that stands where these answers are listed.
+pub(crate) fn bound_at_first(
+    alloc: Global,
+    compiled: &Compiled,
+    sought: Sought,
+    listed: &[Interp],
+) -> Result<Option<Bound>, AllocError>
+    ensures cost { IfOk result (λ b. cost_of_bound b ≡ first_bound compiled.now sought listed.now) }
+    ensures levels { IfOk result (HasLevels compiled.now) }
+{
+    match sought {
+        Sought::All => Ok(None),
+        Sought::Best => bound_below(alloc, compiled, listed),
+        Sought::Optima => bound_above(alloc, compiled, listed),
+    }
 }
 
 // ---- lines
@@ -432,8 +531,8 @@ fn judge_line(
 /// What the bytes of a line came to.
 #[derive(Clone, Copy)]
 pub enum Read {
-    /// They are the last line.
-    Last,
+    /// They are the last line; whether it says that the answers are a part of what was sought.
+    Last(bool),
     /// They are no line of a proof.
     Refused,
     /// A line, and what is wrong with it.
@@ -558,8 +657,8 @@ pub(crate) fn read_line(
     requires root { IsRoot compiled.now (known_with compiled.now listed.now rows.old.kept.items bound.now) values.old }
     ensures { IfOk result (IsLineRead compiled.now listed.now bound.now rows.old.kept.items rows.old.placed.items rows.new.kept.items rows.new.placed.items bytes.now values.new) }
 {
-    if is_last(bytes) {
-        return Ok(Read::Last);
+    if let Some(part) = last(bytes) {
+        return Ok(Read::Last(part));
     }
     let found = line(watches.allocator(), bytes)?;
     match found {

@@ -42,8 +42,10 @@ pub enum Format {
 /// How a run ended.
 #[derive(Clone, Copy)]
 pub enum CheckStatus {
-    /// The proof is right.
+    /// The proof is right, and lists all that was sought.
     Yes,
+    /// It is right, and tells that the answers, so many, are a part of what was sought.
+    Part(usize),
     /// It isn't: why, and by which of its lines, counted from 1.
     No(Why, usize),
     /// Memory ran out.
@@ -70,6 +72,7 @@ impl CheckStatus {
         match self {
             CheckStatus::Yes => 0,
             CheckStatus::No(_, _) => 1,
+            CheckStatus::Part(_) => 2,
             CheckStatus::Memory => 33,
             CheckStatus::Program(_) => 65,
             CheckStatus::ReadFault => 66,
@@ -216,6 +219,7 @@ fn number_of(why: Why) -> u8
         Why::Loop => 4,
         Why::NotImplied => 5,
         Why::NotWhole => 6,
+        Why::Cost => 7,
     }
 }
 
@@ -226,6 +230,11 @@ fn said(alloc: Global, judgement: Judgement) -> Result<Vec<u8>, AllocError>
     let mut text = Vec::new(alloc);
     match judgement {
         Judgement::Yes => text.extend_from_slice(b"YES\n")?,
+        Judgement::Part(count) => {
+            text.extend_from_slice(b"PART ")?;
+            text.extend_from_slice(Buffer::new().format(count).as_bytes())?;
+            text.extend_from_slice(b"\n")?;
+        }
         Judgement::No(why, line) => {
             text.extend_from_slice(b"NO ")?;
             text.extend_from_slice(Buffer::new().format(number_of(why)).as_bytes())?;
@@ -242,6 +251,7 @@ fn status_said(judgement: Judgement) -> CheckStatus
 {
     match judgement {
         Judgement::Yes => CheckStatus::Yes,
+        Judgement::Part(count) => CheckStatus::Part(count),
         Judgement::No(why, line) => CheckStatus::No(why, line),
     }
 }
@@ -310,7 +320,8 @@ fn status_of(error: CheckError) -> CheckStatus
 }
 
 /// Reads a program's text in this format and after it a proof's, which begins with the first line `proof 2`, writes what
-/// is said of the proof, and flushes the sink: `YES`, or `NO` with the number of the reason and of the line. Nothing is
+/// is said of the proof, and flushes the sink: `YES`; or `PART` with the number of answers, which are a part of what was
+/// sought; or `NO` with the number of the reason and of the line. Nothing is
 /// written where no proof was judged.
 pub fn run_check<S: Source, K: Sink>(
     alloc: Global,

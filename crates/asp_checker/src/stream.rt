@@ -1,22 +1,22 @@
 //! The judgement of a proof, line by line as its text is read.
-ghost use Rattle.std.specs.Prelude.{◌≡◌, ◌+◌, ◌^◌, ◌<◌, ◌++◌, ◌||◌, [], codes, if◌then◌else◌, length, map, IsErrOf};
+ghost use Rattle.std.specs.Prelude.{◌≡◌, ◌+◌, ◌^◌, ◌<◌, ◌++◌, ◌||◌, [], codes, length, map, IsErrOf};
 ghost use Rattle.std.specs.List.{AllByRecursion};
 ghost use Rattle.asp_io.specs.Causes.{Rose};
 ghost use Rattle.asp_model.specs.declared.program.Program.{Program};
 ghost use Rattle.asp_model.specs.Sound.{IsSound};
 ghost use Rattle.asp_vars.specs.Numbering.{literal_of};
 ghost use Rattle.asp_proof.specs.declared.proof.Proof.{Proof};
-ghost use Rattle.asp_proof.specs.Texts.{answer_text};
+ghost use Rattle.asp_proof.specs.Texts.{answer_text, last_word};
 ghost use Rattle.asp_proof.specs.Grammar.{IsSet, IsUnbroken};
 ghost use Rattle.asp_proof.specs.Fields.{IsNone};
 ghost use Rattle.asp_proof.specs.Walk.{IsBegun, front_of, proof_of};
 ghost use Rattle.asp_proof.specs.Reading.{Comes, held};
-ghost use Rattle.asp_checker.specs.Lines.{AreOf, known_at_first};
+ghost use Rattle.asp_checker.specs.Lines.{AreOf, avoided, known_at_first};
 ghost use Rattle.asp_checker.specs.Blocks.{HasLevels, known_with};
 ghost use Rattle.asp_checker.specs.Chasing.{IsRoot};
 ghost use Rattle.asp_checker.specs.Judging.{AreRightAnswers};
 ghost use Rattle.asp_checker.specs.Errors.{read_fault};
-ghost use Rattle.asp_checker.specs.Streams.{IsRightFront, Judges, JudgesAnswers, StepsTo};
+ghost use Rattle.asp_checker.specs.Streams.{IsRightFront, right_judgement, Judges, JudgesAnswers, StepsTo};
 
 use crate::bounds::Bound;
 use crate::error::{CheckError, proof_error, refused};
@@ -32,6 +32,7 @@ use asp_model::interp::Interp;
 use asp_model::seq::Seq;
 use asp_proof::LineReader;
 use asp_proof::lines::mode;
+use asp_proof::proof::Sought;
 use asp_vars::assign::Assign;
 use asp_vars::compiled::Compiled;
 use asp_vars::lit::Lit;
@@ -62,14 +63,14 @@ pub(crate) fn next_line<S: Source>(
 fn judge_answers<S: Source>(
     alloc: Global,
     compiled: &Compiled,
-    opt: bool,
+    sought: Sought,
     reader: &mut LineReader,
     source: &mut S,
     answers: &mut Vec<Interp>,
 ) -> Result<Option<Why>, CheckError>
     requires { answers.old.items ≡ [] }
-    ensures says { JudgesAnswers compiled.now opt answers.new.items (S.left source.old) (S.left source.new)
-        (front_of (proof_of opt [] []) ++ reader.old.behind) reader.new result }
+    ensures says { JudgesAnswers compiled.now sought answers.new.items (S.left source.old) (S.left source.new)
+        (front_of (proof_of sought [] []) ++ reader.old.behind) reader.new result }
     ensures cause { IsErrOf result read_fault → Rose (S.faults source.old) (S.faults source.new) }
     ensures quiet { ¬ IsErrOf result read_fault → S.faults source.new ≡ S.faults source.old }
 {
@@ -78,7 +79,7 @@ fn judge_answers<S: Source>(
         if !next {
             return Err(refused(answers.len() + 3));
         }
-        let listed = read_answer(alloc, compiled, opt, answers, reader.line())?;
+        let listed = read_answer(alloc, compiled, sought, answers, reader.line())?;
         match listed {
             Listed::Right => {}
             Listed::Wrong(why) => return Ok(Some(why)),
@@ -96,21 +97,35 @@ fn either(one: bool, other: bool) -> bool
     one || other
 }
 
-// What is said at the last line.
+// What is said of a proof that is right and lists so many answers.
+fn right(part: bool, count: usize) -> Judgement
+    ensures { result ≡ right_judgement part count }
+{
+    if part {
+        Judgement::Part(count)
+    } else {
+        Judgement::Yes
+    }
+}
+
+// What is said at the last line, which tells whether the answers, so many, are a part of what was sought.
 fn judge_last<S: Source>(
+    part: bool,
+    count: usize,
     whole: bool,
     number: usize,
     reader: &mut LineReader,
     source: &mut S,
 ) -> Result<Judgement, CheckError>
-    requires last { reader.old.line ≡ codes "0" }
+    requires last { reader.old.line ≡ last_word part }
     requires few { number < 2 ^ 63 }
-    ensures says { (p : Program) (q : Proof) → IsRightFront p q number whole →
+    ensures says { (p : Program) (q : Proof) → IsRightFront p q number whole → length q.answers ≡ count →
         Comes (S.left source.old) (front_of q ++ held reader.old) (λ text. Judges p text result) }
     ensures cause { IsErrOf result read_fault → Rose (S.faults source.old) (S.faults source.new) }
     ensures quiet { ¬ IsErrOf result read_fault → S.faults source.new ≡ S.faults source.old }
 {
-    if !whole {
+    let ended = either(part, whole);
+    if !ended {
         return Ok(Judgement::No(Why::NotWhole, number));
     }
     match reader.has_more(source) {
@@ -118,7 +133,7 @@ fn judge_last<S: Source>(
             if more {
                 return Err(refused(number + 1));
             }
-            Ok(Judgement::Yes)
+            Ok(right(part, count))
         }
         Err(error) => Err(proof_error(error)),
     }
@@ -127,7 +142,7 @@ fn judge_last<S: Source>(
 // Judges the lines one after another, from the one that the reader is at. Each that is right is known to the later ones.
 fn judge_each<S: Source>(
     compiled: &Compiled,
-    opt: bool,
+    sought: Sought,
     answers: &[Interp],
     rows: &mut Rows,
     bound: &Option<Bound>,
@@ -138,21 +153,21 @@ fn judge_each<S: Source>(
     source: &mut S,
 ) -> Result<Judgement, CheckError>
     requires sound { IsSound compiled.now }
-    requires right { AreRightAnswers compiled.now opt answers.now }
-    requires begun { IsBegun (length answers.now + 2) (proof_of opt answers.now []) }
+    requires right { AreRightAnswers compiled.now sought answers.now }
+    requires begun { IsBegun (length answers.now + 2) (proof_of sought answers.now []) }
     requires unbroken { IsUnbroken reader.old.line }
     requires no_answer { IsNone IsSet answer_text reader.old.line }
     requires kept { AllByRecursion (AreOf compiled.now) rows.old.kept.items }
     requires placed { rows.old.placed.items ≡ [] }
     requires levels { HasLevels compiled.now bound.now }
     requires assumed { assumed.now ≡ map (literal_of compiled.now) compiled.now.assumptions }
-    requires root { IsRoot compiled.now (known_with compiled.now (if opt then [] else answers.now) rows.old.kept.items bound.now) values.old }
-    requires known { known_with compiled.now (if opt then [] else answers.now) rows.old.kept.items bound.now ≡ known_at_first compiled.now (proof_of opt answers.now []) }
-    ensures says { Comes (S.left source.old) (front_of (proof_of opt answers.now []) ++ held reader.old) (λ text. Judges compiled.now text result) }
+    requires root { IsRoot compiled.now (known_with compiled.now (avoided sought answers.now) rows.old.kept.items bound.now) values.old }
+    requires known { known_with compiled.now (avoided sought answers.now) rows.old.kept.items bound.now ≡ known_at_first compiled.now (proof_of sought answers.now []) }
+    ensures says { Comes (S.left source.old) (front_of (proof_of sought answers.now []) ++ held reader.old) (λ text. Judges compiled.now text result) }
     ensures cause { IsErrOf result read_fault → Rose (S.faults source.old) (S.faults source.new) }
     ensures quiet { ¬ IsErrOf result read_fault → S.faults source.new ≡ S.faults source.old }
 {
-    let listed = avoided(opt, answers);
+    let listed = avoided(sought, answers);
     let mut whole = false;
     'lines: for at in 0..MOST_LINES {
         let number = answers.len() + at + 3;
@@ -161,7 +176,9 @@ fn judge_each<S: Source>(
             compiled, listed, rows, bound, assumed, watches, values, bytes,
         )?;
         match came_to {
-            Read::Last => return judge_last(whole, number, reader, source),
+            Read::Last(part) => {
+                return judge_last(part, answers.len(), whole, number, reader, source);
+            }
             Read::Refused => return Err(refused(number)),
             Read::Wrong(why) => return Ok(Judgement::No(why, number)),
             Read::Right(closing) => whole = either(whole, closing),
@@ -178,23 +195,23 @@ fn judge_each<S: Source>(
 fn judge_lines<S: Source>(
     alloc: Global,
     compiled: &Compiled,
-    opt: bool,
+    sought: Sought,
     answers: &[Interp],
     reader: &mut LineReader,
     source: &mut S,
 ) -> Result<Judgement, CheckError>
     requires sound { IsSound compiled.now }
-    requires right { AreRightAnswers compiled.now opt answers.now }
-    requires begun { IsBegun (length answers.now + 2) (proof_of opt answers.now []) }
+    requires right { AreRightAnswers compiled.now sought answers.now }
+    requires begun { IsBegun (length answers.now + 2) (proof_of sought answers.now []) }
     requires unbroken { IsUnbroken reader.old.line }
     requires no_answer { IsNone IsSet answer_text reader.old.line }
-    ensures says { Comes (S.left source.old) (front_of (proof_of opt answers.now []) ++ held reader.old) (λ text. Judges compiled.now text result) }
+    ensures says { Comes (S.left source.old) (front_of (proof_of sought answers.now []) ++ held reader.old) (λ text. Judges compiled.now text result) }
     ensures cause { IsErrOf result read_fault → Rose (S.faults source.old) (S.faults source.new) }
     ensures quiet { ¬ IsErrOf result read_fault → S.faults source.new ≡ S.faults source.old }
 {
-    let listed = avoided(opt, answers);
+    let listed = avoided(sought, answers);
     let kept = completed(alloc, compiled)?;
-    let bound = bound_at_first(alloc, compiled, opt, answers)?;
+    let bound = bound_at_first(alloc, compiled, sought, answers)?;
     let assumptions = assumptions(alloc, compiled)?;
     let mut watches = Watches::new(alloc, compiled, &bound)?;
     let first = kept.as_slice();
@@ -206,7 +223,7 @@ fn judge_lines<S: Source>(
     let assumed = assumptions.as_slice();
     let judged = judge_each(
         compiled,
-        opt,
+        sought,
         answers,
         &mut rows,
         &bound,
@@ -226,22 +243,22 @@ fn judge_lines<S: Source>(
 fn judge_body<S: Source>(
     alloc: Global,
     compiled: &Compiled,
-    opt: bool,
+    sought: Sought,
     reader: &mut LineReader,
     source: &mut S,
 ) -> Result<Judgement, CheckError>
     requires sound { IsSound compiled.now }
-    ensures says { Comes (S.left source.old) (front_of (proof_of opt [] []) ++ reader.old.behind) (λ text. Judges compiled.now text result) }
+    ensures says { Comes (S.left source.old) (front_of (proof_of sought [] []) ++ reader.old.behind) (λ text. Judges compiled.now text result) }
     ensures cause { IsErrOf result read_fault → Rose (S.faults source.old) (S.faults source.new) }
     ensures quiet { ¬ IsErrOf result read_fault → S.faults source.new ≡ S.faults source.old }
 {
     let mut answers = Vec::new(alloc);
-    let fault = judge_answers(alloc, compiled, opt, reader, source, &mut answers)?;
+    let fault = judge_answers(alloc, compiled, sought, reader, source, &mut answers)?;
     match fault {
         Some(why) => Ok(Judgement::No(why, answers.len() + 3)),
         None => {
             let listed = answers.as_slice();
-            judge_lines(alloc, compiled, opt, listed, reader, source)
+            judge_lines(alloc, compiled, sought, listed, reader, source)
         }
     }
 }
@@ -265,7 +282,7 @@ pub(crate) fn judge<S: Source>(
     }
     let found = mode(reader.line());
     match found {
-        Some(opt) => judge_body(alloc, compiled, opt, reader, source),
+        Some(sought) => judge_body(alloc, compiled, sought, reader, source),
         None => Err(refused(2)),
     }
 }

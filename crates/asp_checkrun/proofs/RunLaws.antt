@@ -16,6 +16,7 @@ use Rattle.asp_checkrun.specs.Statuses.{status_code}
 
 pub is_read : (s : CheckStatus) → code_of s ≡ 66 → s ≡ done.ReadFault
 is_read done.Yes e = absurd (omega (arith, e))
+is_read (done.Part n) e = absurd (omega (arith, e))
 is_read (done.No w n) e = absurd (omega (arith, e))
 is_read done.Memory e = absurd (omega (arith, e))
 is_read (done.Program f) e = absurd (omega (arith, e))
@@ -27,6 +28,7 @@ is_read done.WriteFault e = absurd (omega (arith, e))
 
 pub is_write : (s : CheckStatus) → code_of s ≡ 74 → s ≡ done.WriteFault
 is_write done.Yes e = absurd (omega (arith, e))
+is_write (done.Part n) e = absurd (omega (arith, e))
 is_write (done.No w n) e = absurd (omega (arith, e))
 is_write done.Memory e = absurd (omega (arith, e))
 is_write (done.Program f) e = absurd (omega (arith, e))

@@ -22,6 +22,7 @@ why_text why.Literal = codes "the program has no such variable or atom"
 why_text why.Loop = codes "the set has support from outside"
 why_text why.NotImplied = codes "it doesn't follow from the lines before it"
 why_text why.NotWhole = codes "no line before it says that there is nothing else"
+why_text why.Cost = codes "the set costs other than the first one, where all optima were sought"
 
 -- a line of the proof, and what is said of it
 abbrev pub proof_line : ℕ → List ℕ → List ℕ
@@ -47,6 +48,7 @@ write_note closed = if closed then [] else codes "aspcheck: write failed\n"
 
 abbrev pub check_note : Bool → CheckStatus → List ℕ
 check_note closed check.Yes = []
+check_note closed (check.Part n) = codes "aspcheck: the proof is right; its sets are answers, but it doesn't say that there are no others\n"
 check_note closed (check.No w n) = proof_line n (why_text w)
 check_note closed check.Memory = codes "aspcheck: out of memory\n"
 check_note closed (check.Program e) = program_note e

@@ -27,6 +27,7 @@ fn why_text(why: Why) -> &'static [u8]
         Why::Loop => b"the set has support from outside",
         Why::NotImplied => b"it doesn't follow from the lines before it",
         Why::NotWhole => b"no line before it says that there is nothing else",
+        Why::Cost => b"the set costs other than the first one, where all optima were sought",
     }
 }
 
@@ -112,6 +113,10 @@ fn write_check<N: Sink>(notes: &mut N, status: CheckStatus, is_closed: bool) -> 
 {
     match status {
         CheckStatus::Yes => write(notes, b""),
+        CheckStatus::Part(_) => write(
+            notes,
+            b"aspcheck: the proof is right; its sets are answers, but it doesn't say that there are no others\n",
+        ),
         CheckStatus::No(why, line) => write_proof_line(notes, line as u64, why_text(why)),
         CheckStatus::Memory => write(notes, b"aspcheck: out of memory\n"),
         CheckStatus::Program(error) => write_program(notes, error),

@@ -20,15 +20,17 @@ Options:\n\
 \x20 -h, --help        write this page\n\
 \x20 --version         write the version\n\
 \n\
-It writes YES, or NO with the number of the reason and that of the proof's line.\n\
+It writes YES; or PART and the number of answers, if the proof tells that there\n\
+may be others; or NO, the number of the reason and that of the proof's line.\n\
 Standard error says why in words.\n\
 \n\
 Exit status:\n\
 \x20  0  the proof is right, or help or the version was written\n\
 \x20  1  the proof isn't right              66  reading failed\n\
-\x20 33  memory ran out                     67  the input is too long\n\
-\x20 64  the arguments are wrong            68  there is no proof, or it is refused\n\
-\x20 65  the program is refused             74  writing failed\n\
+\x20  2  it is right, but lists a part      67  the input is too long\n\
+\x20 33  memory ran out                     68  there is no proof, or it is refused\n\
+\x20 64  the arguments are wrong            74  writing failed\n\
+\x20 65  the program is refused\n\
 \n\
 Example:\n\
 \x20 aspenum --proof < program.aspif | cat program.aspif - | aspcheck\n\

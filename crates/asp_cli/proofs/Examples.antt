@@ -296,10 +296,10 @@ parts_of_a_ring = refl
 all_optima_of_one : words_give (codes "aspenum" ∷ codes "--opt-all=1" ∷ []) ≡ misuse (bad_value OptAll (codes "1"))
 all_optima_of_one = refl
 
-all_optima_of_a_proof : words_give (codes "aspenum" ∷ codes "--opt-all" ∷ codes "--proof" ∷ []) ≡ misuse (rivals OptAll Proof)
+all_optima_of_a_proof : words_give (codes "aspenum" ∷ codes "--opt-all" ∷ codes "--proof" ∷ []) ≡ options (record standard { all_optima = true; proof = true })
 all_optima_of_a_proof = refl
 
-proof_of_all_optima : words_give (codes "aspenum" ∷ codes "--proof" ∷ codes "--opt-all" ∷ []) ≡ misuse (rivals Proof OptAll)
+proof_of_all_optima : words_give (codes "aspenum" ∷ codes "--proof" ∷ codes "--opt-all" ∷ []) ≡ options (record standard { all_optima = true; proof = true })
 proof_of_all_optima = refl
 
 parts_twice : words_give (codes "aspenum" ∷ codes "--split=2" ∷ codes "--split=3" ∷ []) ≡ misuse (twice Split)

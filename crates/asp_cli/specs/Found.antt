@@ -52,12 +52,12 @@ is_smodels (Some Aspif) = false
 is_smodels (Some Smodels) = true
 
 -- ---- which options exclude each other
--- The options that can't stand beside this one, whatever their values. A proof isn't written of parts, nor of all optima, nor of several
+-- The options that can't stand beside this one, whatever their values. A proof isn't written of parts, nor of several
 -- queries, and it has the answers that `--quiet` leaves out. Proofs, parts, rings and the results of queries are written as text, and of queries
 -- no counts are told. Where the program is divided nothing is solved: only `--make` and `--format` have a meaning there.
 abbrev pub rivals_of : Name → List Name
-rivals_of Proof = Split ∷ OptAll ∷ Quiet ∷ Output ∷ Queries ∷ []
-rivals_of OptAll = Proof ∷ Split ∷ Queries ∷ []
+rivals_of Proof = Split ∷ Quiet ∷ Output ∷ Queries ∷ []
+rivals_of OptAll = Split ∷ Queries ∷ []
 rivals_of Quiet = Proof ∷ Split ∷ []
 rivals_of Output = Make ∷ Proof ∷ Split ∷ Queries ∷ []
 rivals_of Make = Output ∷ []
@@ -106,12 +106,12 @@ clash_with f n = if has f n then option_map (λ m. (n, m)) (barred_by f n) else 
 abbrev pub clash_of : Found → Option (Name × Name)
 clash_of f = or_else (clash_with f Proof) (clash_with f Queries)
 
--- With a proof neither all optima nor consequences are asked for.
+-- With a proof no consequences are asked for.
 abbrev pub AreApart : Found → Type 0
-AreApart f = f.proof ≡ true → (f.all_optima ≡ false) × (seeks_consequences f.mode ≡ false)
+AreApart f = f.proof ≡ true → seeks_consequences f.mode ≡ false
 
 abbrev pub IsApart : Options → Type 0
-IsApart o = o.proof ≡ true → (o.all_optima ≡ false) × (seeks_consequences (Some o.mode) ≡ false)
+IsApart o = o.proof ≡ true → seeks_consequences (Some o.mode) ≡ false
 
 -- With queries neither a proof nor all optima are asked for; nor a ring, parts, a limit, a smodels text or consequences.
 abbrev pub IsAlone : Found → Type 0

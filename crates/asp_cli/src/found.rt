@@ -170,12 +170,11 @@ fn rivals_of(name: Name) -> &'static [Name]
     match name {
         Name::Proof => &[
             Name::Split,
-            Name::OptAll,
             Name::Quiet,
             Name::Output,
             Name::Queries,
         ],
-        Name::OptAll => &[Name::Proof, Name::Split, Name::Queries],
+        Name::OptAll => &[Name::Split, Name::Queries],
         Name::Quiet => &[Name::Proof, Name::Split],
         Name::Output => &[Name::Make, Name::Proof, Name::Split, Name::Queries],
         Name::Make => &[Name::Output],
@@ -234,7 +233,6 @@ pub fn with(found: Found, name: Name, text: &str) -> Option<Found>
     ensures ring { IsRing found.make → IfSome result (λ f. IsRing f.make) }
     ensures crew { IfSome found.workers IsCrew → IfSome result (λ f. IfSome f.workers IsCrew) }
     ensures parts { IsPartCount found.split → IfSome result (λ f. IsPartCount f.split) }
-    ensures apart { AreApart found → IfSome result (λ f. (f.proof ≡ true → f.all_optima ≡ false)) }
     ensures asking { IsAlone found → IfSome result IsAlone }
 {
     match name {

@@ -73,7 +73,7 @@ pub struct Options {
     /// How many answers are enough, where a list of them is sought. With 0, which also stands where none was given, there is no
     /// limit.
     pub models: u64,
-    /// Whether an optimisation lists all answers of least cost. A proof isn't asked for then.
+    /// Whether an optimisation lists all answers of least cost.
     pub all_optima: bool,
     /// The form of the results. It is text where a proof, parts or a ring are asked for.
     pub form: Form,
@@ -92,7 +92,7 @@ pub struct Options {
     pub stats: bool,
     /// Whether the notes get lines while one search goes on.
     pub progress: bool,
-    /// Whether a finished run writes its proof in place of its results.
+    /// Whether a run that is finished, or found as many answers as were asked for, writes a proof in place of its results.
     pub proof: bool,
     /// Into how many parts at most the program is divided in place of being solved, if it is: 1 to 100000. A proof isn't
     /// asked for then.

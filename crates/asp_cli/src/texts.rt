@@ -44,8 +44,9 @@ name, after '=':\n\
 \x20                   and the atoms of brave and cautious\n\
 \x20 --names           brave and cautious: write the texts of the outputs that some\n\
 \x20                   answer shows, or every one; with --output json always\n\
-\x20 --proof           write the proof of a finished run, for aspcheck, in place\n\
-\x20                   of its results; not beside --opt-all, --quiet, brave or\n\
+\x20 --proof           write a proof for aspcheck in place of the results: of a\n\
+\x20                   finished run, that nothing else is to be found; of one that\n\
+\x20                   ended with N answers, these; not beside --quiet, brave or\n\
 \x20                   cautious\n\
 \x20 --split N         divide the program and solve nothing: write at most N\n\
 \x20                   lines, 1 to 100000, each the assumptions of one part; of\n\

@@ -1,5 +1,6 @@
 -- The proof in a report.
-use Rattle.std.proofs.Common.{◌≡◌, ℕ, false, List, Option, None, sym, subst}
+use Rattle.std.proofs.Common.{◌≡◌, ℕ, true, false, List, Option, None, Some, sym, ap, subst}
+use Rattle.std.specs.Prelude.{is_some}
 use Rattle.asp_model.specs.declared.program.Program.{Program}
 use Rattle.asp_model.specs.declared.results.End.{End}
 use Rattle.asp_model.specs.declared.results.End.TheVariants.{Finished, Limited, Unfinished}
@@ -8,19 +9,25 @@ use Rattle.asp_core.specs.declared.event.Event.{Event}
 use Rattle.asp_core.specs.declared.task.Task.{Task}
 use Rattle.asp_proof.specs.declared.proof.Proof.{Proof}
 use Rattle.asp_crew_laws.specs.declared.report.Report.{Report}
-use Rattle.asp_crew_laws.specs.Proofs.{HasProof, HasProofAt}
-use Rattle.asp_crew_laws.specs.Reports.{IsPlayed, IsPlayedBy, IsReport, IsWhole}
-use Rattle.asp_crew_laws.specs.Runs.{asks, task_of}
-use Rattle.asp_crew_laws.proofs.PlayedLaws.{alone-reports}
+use Rattle.asp_crew_laws.specs.Proofs.{HasOne, HasProof, HasProofAt}
+use Rattle.asp_crew_laws.specs.Reports.{IsPlayed, IsPlayedBy, IsReport}
+use Rattle.asp_crew_laws.specs.Runs.{task_of}
 
 -- none was asked for
 pub none_has : (r : Report) → r.proof ≡ None → HasProof false r
 none_has r has = at r.results.end
   where
-    at : (e : End) → HasProofAt e false r.results r.proof
+    at : (e : End) → HasProofAt e false (is_some r.second) r.results r.proof
     at Finished = has
     at Limited = has
     at Unfinished = has
+
+-- a report with a proof, at the end of its run
+pub finished_has : (r s : Report) → s ≡ record r { proof = s.proof } → r.results.end ≡ Finished → HasOne (is_some r.second) r.results s.proof → HasProof true s
+finished_has r s same end has = subst (HasProof true) (sym same) (subst (λ (e : End). HasProofAt e true (is_some r.second) r.results s.proof) (sym end) has)
+
+pub limited_has : (r s : Report) → s ≡ record r { proof = s.proof } → r.results.end ≡ Limited → HasOne (is_some r.second) r.results s.proof → HasProof true s
+limited_has r s same end has = subst (HasProof true) (sym same) (subst (λ (e : End). HasProofAt e true (is_some r.second) r.results s.proof) (sym end) has)
 
 -- what a report of one search says of the program doesn't rest on its proof
 played_with : (t : Task) (r : Report) (o : Option Proof) → IsPlayed t r → IsPlayed t (record r { proof = o })
@@ -37,8 +44,22 @@ played_with t r o is = record {
   ends = is.ends;
 }
 
-with_it : (p : Program) (ask : Ask) (units : ℕ) (r : Report) (o : Option Proof) → r.second ≡ None → IsReport p ask units r → IsReport p ask units (record r { proof = o })
-with_it p ask units r o alone is = record {
+-- the same of two searches
+played_by : (p : Program) (ask : Ask) (units : ℕ) (r : Report) (o : Option Proof) (second : Option (List Event)) → IsPlayedBy second p ask units r → IsPlayedBy second p ask units (record r { proof = o })
+played_by p ask units r o None is = played_with (task_of p ask units) r o is
+played_by p ask units r o (Some events) is = record {
+  first = is.first;
+  ties = is.ties;
+  best = is.best;
+  both = ap (λ (x : Report). record x { proof = o }) is.both;
+  finished = is.finished;
+  found = is.found;
+  played = is.played;
+  again = is.again;
+}
+
+with_it : (p : Program) (ask : Ask) (units : ℕ) (r : Report) (o : Option Proof) → IsReport p ask units r → IsReport p ask units (record r { proof = o })
+with_it p ask units r o is = record {
   mode_is = is.mode_is;
   says = is.says;
   program = is.program;
@@ -48,13 +69,8 @@ with_it p ask units r o alone is = record {
   known = is.known;
   untold = is.untold;
   least = is.least;
-  played = subst (λ (x : Option (List Event)). IsPlayedBy x p ask units (record r { proof = o })) (sym alone)
-      (played_with (task_of p ask units) r o (subst (λ (x : Option (List Event)). IsPlayedBy x p ask units r) alone is.played));
+  played = played_by p ask units r o r.second is.played;
 }
 
-pub report_with : (p : Program) (ask : Ask) (units : ℕ) (r s : Report) → s ≡ record r { proof = s.proof } → r.second ≡ None → IsReport p ask units r → IsReport p ask units s
-report_with p ask units r s same alone is = subst (IsReport p ask units) (sym same) (with_it p ask units r s.proof alone is)
-
--- where all optima aren't asked for, one search is the whole run
-pub first-whole : (p : Program) (ask : Ask) (units : ℕ) (r : Report) → ask.all_optima ≡ false → r.second ≡ None → IsReport p (asks ask.mode ask.models ask.by_name) units r → IsReport p ask units r
-first-whole p ask units r not-all alone is = alone-reports p ask units r is alone (subst (λ x. IsWhole x r.results.end r.results.best) (sym not-all) tt)
+pub report_with : (p : Program) (ask : Ask) (units : ℕ) (r s : Report) → s ≡ record r { proof = s.proof } → IsReport p ask units r → IsReport p ask units s
+report_with p ask units r s same is = subst (IsReport p ask units) (sym same) (with_it p ask units r s.proof is)

@@ -7,7 +7,7 @@ ghost use Rattle.asp_crew_laws.specs.Proofs.{HasProof};
 ghost use Rattle.asp_crew.specs.Refuting.{HasCore};
 
 use crate::finish::finish_program;
-use crate::proofs::with_proof;
+use crate::proofs::with_ties_and_proof;
 use crate::report::Report;
 use crate::reported::reported;
 use crate::ties::with_ties;
@@ -77,10 +77,10 @@ fn solve<W: Watch>(
     ensures heard { W.IsAfter watch.old watch.new }
 {
     let report = first(alloc, compiled, ask, budget, counts, watch, None)?;
-    with_ties(alloc, compiled, ask, report, counts, watch)
+    with_ties(alloc, compiled, ask, report, counts, watch, None)
 }
 
-// A run that writes down why there is nothing else.
+// A run that writes down why there is nothing else, with a second search where all optima are asked for.
 fn solve_recorded<W: Watch>(
     alloc: Global,
     compiled: &Compiled,
@@ -89,7 +89,6 @@ fn solve_recorded<W: Watch>(
     counts: &mut Counts,
     watch: &mut W,
 ) -> Result<Report, AllocError>
-    requires { ask.all_optima ≡ false }
     ensures report { IfOk result (IsReport compiled.now ask budget) }
     ensures log { IfOk result (λ r. r.log ≡ 0) }
     ensures short { IfOk result (λ r. r.short ≡ false) }
@@ -99,7 +98,7 @@ fn solve_recorded<W: Watch>(
 {
     let recorder = Recorder::new(alloc);
     match first(alloc, compiled, ask, budget, counts, watch, Some(&recorder)) {
-        Ok(report) => with_proof(alloc, report, recorder),
+        Ok(report) => with_ties_and_proof(alloc, compiled, ask, report, recorder, counts, watch),
         Err(error) => {
             mem::drop(recorder);
             Err(error)
@@ -109,8 +108,8 @@ fn solve_recorded<W: Watch>(
 
 /// What is asked of a program: its answers, all or as many as are enough; what is in some or in each of them; or one that none
 /// betters, or all of these, for which a second search begins when the first has found what they cost. A search does it after
-/// the other, with a budget of so many units together. A finished run whose proof is asked for has it; neither all optima nor
-/// consequences are asked for then.
+/// the other, with a budget of so many units together. Where a proof is asked for, and no consequences are then, a run has one
+/// that is finished or found as many answers as are enough.
 ///
 /// It returns: of the units left, the stable models not yet found, the nogoods learnt since the last restart and the
 /// variables without a value, in this order, each step lowers the first that it changes. Want of memory is the one error.
@@ -124,7 +123,7 @@ pub fn solve_alone<W: Watch>(
     counts: &mut Counts,
     watch: &mut W,
 ) -> Result<Report, AllocError>
-    requires { proof ≡ true → (ask.all_optima ≡ false) × (reasoning_of ask.mode ≡ None) }
+    requires { proof ≡ true → reasoning_of ask.mode ≡ None }
     ensures report { IfOk result (IsReport compiled.now ask budget) }
     ensures log { IfOk result (λ r. r.log ≡ 0) }
     ensures short { IfOk result (λ r. r.short ≡ false) }

@@ -1,23 +1,48 @@
 //! The proof of a run, from its results and what was written down on the way.
-ghost use Rattle.std.specs.Prelude.{◌≡◌, true, IfOk};
+ghost use Rattle.std.specs.Prelude.{◌≡◌, ℕ, [], None, true, is_some, IfOk};
 ghost use Rattle.asp_model.specs.Texts.{bests, recorded};
-ghost use Rattle.asp_crew_laws.specs.Proofs.{is_opt, HasProof, IsProofOf};
+ghost use Rattle.asp_crew_laws.specs.Proofs.{is_part, sought_by, HasOne, HasProof, IsProofOf};
+ghost use Rattle.asp_crew_laws.specs.Reports.{IsReport};
+ghost use Rattle.asp_crew_laws.specs.Runs.{asks};
+ghost use Rattle.asp_crew.specs.Refuting.{HasCore};
 
 use crate::report::Report;
+use crate::ties::with_ties;
+use asp_counts::counts::Counts;
+use asp_counts::watch::Watch;
 use asp_model::interp::Interp;
-use asp_model::results::{End, Mode, Results};
+use asp_model::results::{Ask, End, Mode, Results};
 use asp_model::seq::Seq;
-use asp_proof::proof::Proof;
+use asp_proof::proof::{Line, Proof, Sought};
 use asp_recorder::recorder::Recorder;
 use asp_rows::sets::Sets;
+use asp_vars::compiled::Compiled;
 use std::alloc::{AllocError, Global};
+use std::mem;
 
-fn is_opt(mode: Mode) -> bool
-    ensures { result ≡ is_opt mode }
+// What was sought, by one search or two.
+fn sought_by(twice: bool, mode: Mode) -> Sought
+    ensures { result ≡ sought_by twice mode }
 {
     match mode {
-        Mode::Enum | Mode::Consequences(_) => false,
-        Mode::Opt => true,
+        Mode::Enum | Mode::Consequences(_) => Sought::All,
+        Mode::Opt => {
+            if twice {
+                Sought::Optima
+            } else {
+                Sought::Best
+            }
+        }
+    }
+}
+
+// Whether as many answers as were asked for were found, and others weren't sought any more.
+fn is_part(end: End) -> bool
+    ensures { result ≡ is_part end }
+{
+    match end {
+        End::Limited => true,
+        End::Finished | End::Unfinished => false,
     }
 }
 
@@ -47,34 +72,98 @@ fn recorded(alloc: Global, results: &Results<Sets>) -> Result<Vec<Interp>, Alloc
     }
 }
 
-// The proof of a finished run with these results.
-fn proof_of(alloc: Global, results: &Results<Sets>, recorder: Recorder) -> Result<Proof, AllocError>
-    ensures { IfOk result (IsProofOf results.now) }
+// The lines that say why there is nothing else. None where the answers are a part of what was sought.
+fn lines_of(alloc: Global, part: bool, recorder: Recorder) -> Seq<Line>
+    ensures { part ≡ true → result ≡ [] }
+{
+    let lines = recorder.into_lines();
+    if part {
+        return Seq::from_vec(Vec::new(alloc));
+    }
+    lines
+}
+
+// The proof of a run with these results, by one search or two.
+fn proof_of(
+    alloc: Global,
+    results: &Results<Sets>,
+    twice: bool,
+    recorder: Recorder,
+) -> Result<Proof, AllocError>
+    ensures { IfOk result (IsProofOf twice results.now) }
 {
     let answers = recorded(alloc, results)?;
+    let part = is_part(results.end);
     Ok(Proof {
-        opt: is_opt(results.mode),
+        sought: sought_by(twice, results.mode),
         answers: Seq::from_vec(answers),
-        lines: recorder.into_lines(),
+        lines: lines_of(alloc, part, recorder),
+        part,
     })
 }
 
-/// The report, with a proof where the run is finished.
-pub fn with_proof(
-    alloc: Global,
-    mut report: Report,
-    recorder: Recorder,
-) -> Result<Report, AllocError>
+// The report, with a proof.
+fn proved(alloc: Global, mut report: Report, recorder: Recorder) -> Result<Report, AllocError>
+    ensures same { IfOk result (λ r. r ≡ record report { proof = r.proof }) }
+    ensures proof { IfOk result (λ r. HasOne (is_some report.second) report.results r.proof) }
+{
+    let twice = report.second.is_some();
+    let proof = proof_of(alloc, &report.results, twice, recorder)?;
+    report.proof = Some(proof);
+    Ok(report)
+}
+
+// The report, with a proof where the run is finished, or found as many answers as were asked for.
+fn with_proof(alloc: Global, report: Report, recorder: Recorder) -> Result<Report, AllocError>
     requires { report.proof ≡ None }
     ensures same { IfOk result (λ r. r ≡ record report { proof = r.proof }) }
     ensures proof { IfOk result (HasProof true) }
 {
     match report.results.end {
-        End::Finished => {
-            let proof = proof_of(alloc, &report.results, recorder)?;
-            report.proof = Some(proof);
-            Ok(report)
+        End::Finished => proved(alloc, report, recorder),
+        End::Limited => proved(alloc, report, recorder),
+        End::Unfinished => Ok(report),
+    }
+}
+
+/// The report of a run from that of its first search, with a proof where the run is finished, or found as many answers as were
+/// asked for. The recorder has what the first search wrote down. Where all optima are asked for, and the first search was finished and
+/// had found one, a second search goes over the answers that cost no more, with the units that were left; then the proof has
+/// what that one wrote down.
+///
+/// Want of memory is the one error. What the second search does is added to the counts, and told after each step.
+pub fn with_ties_and_proof<W: Watch>(
+    alloc: Global,
+    compiled: &Compiled,
+    ask: Ask,
+    report: Report,
+    recorder: Recorder,
+    counts: &mut Counts,
+    watch: &mut W,
+) -> Result<Report, AllocError>
+    requires report { (units : ℕ) × IsReport compiled.now (asks ask.mode ask.models ask.by_name) units report }
+    requires second { report.second ≡ None }
+    requires proof { report.proof ≡ None }
+    ensures report { IfOk result (λ r. (units : ℕ) → IsReport compiled.now (asks ask.mode ask.models ask.by_name) units report → IsReport compiled.now ask units r) }
+    ensures log { IfOk result (λ r. r.log ≡ report.log) }
+    ensures same { IfOk result (λ r. (r.journal ≡ report.journal) × (r.short ≡ report.short)) }
+    ensures proof { IfOk result (HasProof true) }
+    ensures core { IfOk result (λ r. HasCore compiled.now report → HasCore compiled.now r) }
+    ensures heard { W.IsAfter watch.old watch.new }
+{
+    match with_ties(
+        alloc,
+        compiled,
+        ask,
+        report,
+        counts,
+        watch,
+        Some(&recorder),
+    ) {
+        Ok(whole) => with_proof(alloc, whole, recorder),
+        Err(error) => {
+            mem::drop(recorder);
+            Err(error)
         }
-        End::Limited | End::Unfinished => Ok(report),
     }
 }

@@ -21,6 +21,7 @@ use asp_counts::watch::Watch;
 use asp_model::cost::{Cost, cost_just_above};
 use asp_model::interp::Interp;
 use asp_model::results::{Ask, End, Mode, Results};
+use asp_recorder::recorder::Recorder;
 use asp_vars::compiled::Compiled;
 use std::alloc::{AllocError, Global};
 use std::mem;
@@ -68,7 +69,15 @@ fn opened(
     }
 }
 
-// A search for all answers that cost no more than this best one, with so many units.
+// What was written down of a first search is forgotten: much of it holds below the cost of the best alone.
+fn begin_anew(recorder: Option<&Recorder>) {
+    if let Some(recorder) = recorder {
+        recorder.clear();
+    }
+}
+
+// A search for all answers that cost no more than this best one, with so many units. The recorder, if there is one, has nothing
+// else then.
 fn search<W: Watch>(
     alloc: Global,
     compiled: &Compiled,
@@ -77,11 +86,13 @@ fn search<W: Watch>(
     budget: u64,
     counts: &mut Counts,
     watch: &mut W,
+    recorder: Option<&Recorder>,
 ) -> Result<Report, AllocError>
     requires { IsOptimum compiled.now best.now (cost compiled.now best.now) }
     ensures ties { IfOk result (IsSearched (ties_of compiled.now ask (cost compiled.now best.now) budget)) }
     ensures heard { W.IsAfter watch.old watch.new }
 {
+    begin_anew(recorder);
     let bound = cost_just_above(alloc, compiled.program(), best)?;
     let mut book = opened(alloc, compiled, ask, &bound, best, budget)?;
     match finish_program(
@@ -92,7 +103,7 @@ fn search<W: Watch>(
         &mut book,
         counts,
         watch,
-        None,
+        recorder,
     ) {
         Ok(unpaid) => Ok(told(Mode::Opt, book, unpaid, 0, false)),
         Err(error) => {
@@ -110,6 +121,7 @@ fn second<W: Watch>(
     report: &Report,
     counts: &mut Counts,
     watch: &mut W,
+    recorder: Option<&Recorder>,
 ) -> Result<Option<Report>, AllocError>
     requires { (units : ℕ) × IsReport compiled.now (asks ask.mode ask.models ask.by_name) units report.now }
     ensures second { IfOk result (λ ties. MatchOption ties (IsWhole ask.all_optima report.now.results.end report.now.results.best) (IsSecond compiled.now ask report.now)) }
@@ -123,7 +135,9 @@ fn second<W: Watch>(
             None => Ok(None),
             Some((best, _)) => {
                 let left = report.paid.left();
-                let ties = search(alloc, compiled, ask, best, left, counts, watch)?;
+                let ties = search(
+                    alloc, compiled, ask, best, left, counts, watch, recorder,
+                )?;
                 Ok(Some(ties))
             }
         },
@@ -190,7 +204,8 @@ fn joined(first: Report, ties: Report) -> Report
 }
 
 /// The report of a run from that of its first search. Where all optima are asked for, and the first search was finished and
-/// had found one, a second search goes over the answers that cost no more, with the units that were left.
+/// had found one, a second search goes over the answers that cost no more, with the units that were left. The recorder, if there
+/// is one, gets what that one finds, and forgets what it had.
 ///
 /// Want of memory is the one error. What the second search does is added to the counts, and told after each step.
 pub fn with_ties<W: Watch>(
@@ -200,6 +215,7 @@ pub fn with_ties<W: Watch>(
     report: Report,
     counts: &mut Counts,
     watch: &mut W,
+    recorder: Option<&Recorder>,
 ) -> Result<Report, AllocError>
     requires report { (units : ℕ) × IsReport compiled.now (asks ask.mode ask.models ask.by_name) units report }
     requires second { report.second ≡ None }
@@ -212,7 +228,7 @@ pub fn with_ties<W: Watch>(
     ensures core { IfOk result (λ r. HasCore compiled.now report → HasCore compiled.now r) }
     ensures heard { W.IsAfter watch.old watch.new }
 {
-    match second(alloc, compiled, ask, &report, counts, watch) {
+    match second(alloc, compiled, ask, &report, counts, watch, recorder) {
         Ok(None) => Ok(report),
         Ok(Some(ties)) => Ok(joined(report, ties)),
         Err(error) => {

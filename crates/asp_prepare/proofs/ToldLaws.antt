@@ -323,10 +323,10 @@ same-told : (r : Report) → told_with none_aside r ≡ r
 same-told r = ap (λ k. record r { results = record r.results { known = k } }) (same-known r.results.known)
 
 -- ---- as was asked
-pub no-proof : (end : End) (r : Found) (proof : Option Proof) → HasProofAt end false r proof → proof ≡ None
-no-proof Finished r proof h = h
-no-proof Limited r proof h = h
-no-proof Unfinished r proof h = h
+pub no-proof : (end : End) (twice : Bool) (r : Found) (proof : Option Proof) → HasProofAt end false twice r proof → proof ≡ None
+no-proof Finished twice r proof h = h
+no-proof Limited twice r proof h = h
+no-proof Unfinished twice r proof h = h
 
 unasked : (given : Options) → is_settled given ≡ true → given.proof ≡ false
 unasked given e = by given.proof e
@@ -348,7 +348,7 @@ told-text given p r layout proof = by (asked given p) (is_settled given) refl
     by : (q : Program) (b : Bool) → is_settled given ≡ b →
         report_text (cond b (rest q) q) (told_with (cond b (aside_of q) none_aside) r) layout ≡ report_text q
         (report_with (cond b (aside_of q) none_aside) r) layout
-    by q true e = text_without q r layout (no-proof r.results.end r.results r.proof (subst (λ wanted. HasProof wanted r) (unasked given e) proof))
+    by q true e = text_without q r layout (no-proof r.results.end (is_some r.second) r.results r.proof (subst (λ wanted. HasProof wanted r) (unasked given e) proof))
     by q false e = ap (λ x. report_text q x layout) (same-told r ∙ sym (same-report r))
 
 -- the lines of a list don't tell what is known

@@ -5,9 +5,11 @@ use Rattle.std.specs.Io.KnownBytes.{IsAtEnd}
 use Rattle.asp_model.specs.Sets.{Atoms}
 use Rattle.asp_proof.specs.declared.proof.Line.{Line}
 use Rattle.asp_proof.specs.declared.proof.Proof.{Proof}
-use Rattle.asp_proof.specs.Texts.{mode_line, text_of, line}
+use Rattle.asp_proof.specs.declared.proof.Sought.{Sought}
+use Rattle.asp_proof.specs.declared.proof.Sought.TheVariants.{All, Best, Optima}
+use Rattle.asp_proof.specs.Texts.{mode_line, last_word, text_of, line}
 use Rattle.asp_proof.specs.Grammar.{IsUnbroken, IsFirstFault}
-use Rattle.asp_proof.specs.Walk.{proof_of, front_of, IsBegun, IsWalked, Takes, IsRefused}
+use Rattle.asp_proof.specs.Walk.{proof_of, ended, front_of, IsBegun, IsWalked, Takes, IsRefused}
 use Rattle.asp_proof.specs.Reading.{HasLongLine, Moves, Comes}
 use Rattle.asp_proof.proofs.WalkLaws.{walks, refused, broken_off, goes_on, head, starts, start_regroup, no_mode, mode_word, mode_break, word_unbroken, first_line, left_lacks}
 
@@ -18,55 +20,62 @@ walked n p rest b = record { is = b.is; parted = refl; counted = b.counted; only
 begun_from : (text : List ℕ) (n : ℕ) (p : Proof) (rest : List ℕ) → IsWalked text n p rest → IsBegun n p
 begun_from text n p rest w = record { is = w.is; counted = w.counted; only = w.only }
 
-pub begun_next : (n : ℕ) (opt : Bool) (answers now_answers : List Atoms) (entries now_entries : List Line) (bytes : List ℕ) →
-    IsBegun n (proof_of opt answers entries) → IsUnbroken bytes → Takes bytes answers entries now_answers now_entries
-    → IsBegun (n + 1) (proof_of opt now_answers now_entries)
-begun_next n opt answers now_answers entries now_entries bytes b u t =
-    begun_from _ (n + 1) (proof_of opt now_answers now_entries) []
-    (walks _ n opt answers now_answers entries now_entries bytes [] (bytes ++ 10 ∷ [])
-    (walked n (proof_of opt answers entries) (bytes ++ 10 ∷ []) b) refl u t)
+pub begun_next : (n : ℕ) (sought : Sought) (answers now_answers : List Atoms) (entries now_entries : List Line) (bytes : List ℕ) →
+    IsBegun n (proof_of sought answers entries) → IsUnbroken bytes → Takes bytes answers entries now_answers now_entries
+    → IsBegun (n + 1) (proof_of sought now_answers now_entries)
+begun_next n sought answers now_answers entries now_entries bytes b u t =
+    begun_from _ (n + 1) (proof_of sought now_answers now_entries) []
+    (walks _ n sought answers now_answers entries now_entries bytes [] (bytes ++ 10 ∷ [])
+    (walked n (proof_of sought answers entries) (bytes ++ 10 ∷ []) b) refl u t)
 
-pub front_next : (n : ℕ) (opt : Bool) (answers now_answers : List Atoms) (entries now_entries : List Line) (bytes after : List ℕ) →
-    IsBegun n (proof_of opt answers entries) → IsUnbroken bytes → Takes bytes answers entries now_answers now_entries
-    → front_of (proof_of opt now_answers now_entries) ++ after ≡ front_of (proof_of opt answers entries) ++ (bytes ++ 10 ∷ after)
-front_next n opt answers now_answers entries now_entries bytes after b u t =
-    (walks _ n opt answers now_answers entries now_entries bytes after (bytes ++ 10 ∷ after) (walked n (proof_of opt answers entries) (bytes ++ 10 ∷ after) b) refl u t).parted
+pub front_next : (n : ℕ) (sought : Sought) (answers now_answers : List Atoms) (entries now_entries : List Line) (bytes after : List ℕ) →
+    IsBegun n (proof_of sought answers entries) → IsUnbroken bytes → Takes bytes answers entries now_answers now_entries
+    → front_of (proof_of sought now_answers now_entries) ++ after ≡ front_of (proof_of sought answers entries) ++ (bytes ++ 10 ∷ after)
+front_next n sought answers now_answers entries now_entries bytes after b u t =
+    (walks _ n sought answers now_answers entries now_entries bytes after (bytes ++ 10 ∷ after) (walked n (proof_of sought answers entries) (bytes ++ 10 ∷ after) b) refl u t).parted
 
-pub line_refused : (n : ℕ) (p : Proof) (bytes after : List ℕ) → IsBegun n p → IsUnbroken bytes → bytes ≢ codes "0" → IsRefused bytes p.lines →
+pub line_refused : (n : ℕ) (p : Proof) (bytes after : List ℕ) → IsBegun n p → IsUnbroken bytes → ((part : Bool) → bytes ≡ last_word part → ⊥) → IsRefused bytes p.lines →
     IsFirstFault (front_of p ++ (bytes ++ 10 ∷ after)) (n + 1)
 line_refused n p bytes after b u z r = refused _ n p bytes after (bytes ++ 10 ∷ after) (walked n p (bytes ++ 10 ∷ after) b) refl u z r
 
 pub line_broken : (n : ℕ) (p : Proof) (rest : List ℕ) → IsBegun n p → IsUnbroken rest → IsFirstFault (front_of p ++ rest) (n + 1)
 line_broken n p rest b u = broken_off _ n p rest (walked n p rest b) u
 
-pub last_followed : (n : ℕ) (p : Proof) (bytes after : List ℕ) → IsBegun n p → bytes ≡ codes "0" → after ≢ [] → IsFirstFault (front_of p ++ (bytes ++ 10 ∷ after)) (n + 2)
-last_followed n p bytes after b z more = goes_on _ n p bytes after (bytes ++ 10 ∷ after) (walked n p (bytes ++ 10 ∷ after) b) refl z more
+pub last_followed : (n : ℕ) (p : Proof) (part : Bool) (bytes after : List ℕ) → IsBegun n p → bytes ≡ last_word part → after ≢ [] →
+    IsFirstFault (front_of p ++ (bytes ++ 10 ∷ after)) (n + 2)
+last_followed n p part bytes after b z more = goes_on _ n p part bytes after (bytes ++ 10 ∷ after) (walked n p (bytes ++ 10 ∷ after) b) refl z more
 
-pub last_whole : (p : Proof) (bytes : List ℕ) → bytes ≡ codes "0" → front_of p ++ (bytes ++ 10 ∷ []) ≡ text_of p
-last_whole p bytes z = ap (λ (t : List ℕ). front_of p ++ (t ++ 10 ∷ [])) z
+pub last_whole : (p : Proof) (part : Bool) (bytes : List ℕ) → bytes ≡ last_word part → front_of p ++ (bytes ++ 10 ∷ []) ≡ text_of (ended p part)
+last_whole p part bytes z = ap (λ (t : List ℕ). front_of p ++ (t ++ 10 ∷ [])) z
 
 -- ---- the first two lines
-pub begun_mode : (opt : Bool) → IsBegun 2 (proof_of opt [] [])
-begun_mode opt = begun_from _ 2 (proof_of opt [] []) [] (starts _ _ [] opt refl refl)
+pub begun_mode : (sought : Sought) → IsBegun 2 (proof_of sought [] [])
+begun_mode sought = begun_from _ 2 (proof_of sought [] []) [] (starts _ _ [] sought refl refl)
 
-pub front_mode : (opt : Bool) (bytes after : List ℕ) → mode_line opt ≡ line bytes → front_of (proof_of opt [] []) ++ after ≡ head ++ (bytes ++ 10 ∷ after)
-front_mode opt bytes after e =
-    start_regroup head (mode_line opt) after ∙ ap (λ (t : List ℕ). head ++ (t ++ after)) e ∙ ap (λ (t : List ℕ). head ++ t) (append_assoc bytes (10 ∷ []) after)
+pub front_mode : (sought : Sought) (bytes after : List ℕ) → mode_line sought ≡ line bytes → front_of (proof_of sought [] []) ++ after ≡ head ++ (bytes ++ 10 ∷ after)
+front_mode sought bytes after e =
+    start_regroup head (mode_line sought) after ∙ ap (λ (t : List ℕ). head ++ (t ++ after)) e ∙ ap (λ (t : List ℕ). head ++ t) (append_assoc bytes (10 ∷ []) after)
 
-mode_as_line : (o : Bool) → mode_line o ≡ line (mode_word o)
-mode_as_line true = refl
-mode_as_line false = refl
+mode_as_line : (o : Sought) → mode_line o ≡ line (mode_word o)
+mode_as_line All = refl
+mode_as_line Best = refl
+mode_as_line Optima = refl
 
 word_of : (word bytes : List ℕ) → line word ≡ line bytes → word ≡ bytes
 word_of word bytes e =
     let n : length word ≡ length bytes = omega (arith, ap length e, length-append word (10 ∷ []), length-append bytes (10 ∷ [])) in
     sym (take-append_seam word (10 ∷ [])) ∙ ap (λ m. take m (line word)) n ∙ ap (take (length bytes)) e ∙ take-append_seam bytes (10 ∷ [])
 
-pub no_word : (bytes : List ℕ) → (bytes ≡ codes "enum" → ⊥) → (bytes ≡ codes "opt" → ⊥) → (opt : Bool) → mode_line opt ≡ line bytes → ⊥
-no_word bytes no_enum no_opt true e = no_opt (sym (word_of (codes "opt") bytes (sym (mode_as_line true) ∙ e)))
-no_word bytes no_enum no_opt false e = no_enum (sym (word_of (codes "enum") bytes (sym (mode_as_line false) ∙ e)))
+pub no_word : (bytes : List ℕ) → (bytes ≡ codes "enum" → ⊥) → (bytes ≡ codes "opt" → ⊥) → (bytes ≡ codes "optima" → ⊥) → (sought : Sought) → mode_line sought ≡ line bytes → ⊥
+no_word bytes no_all no_best no_optima All e = no_all (sym (word_of (codes "enum") bytes (sym (mode_as_line All) ∙ e)))
+no_word bytes no_all no_best no_optima Best e = no_best (sym (word_of (codes "opt") bytes (sym (mode_as_line Best) ∙ e)))
+no_word bytes no_all no_best no_optima Optima e = no_optima (sym (word_of (codes "optima") bytes (sym (mode_as_line Optima) ∙ e)))
 
-pub mode_refused : (bytes after : List ℕ) → IsUnbroken bytes → ((opt : Bool) → mode_line opt ≡ line bytes → ⊥) → IsFirstFault (head ++ (bytes ++ 10 ∷ after)) 2
+pub no_last : (bytes : List ℕ) → (bytes ≡ codes "0" → ⊥) → (bytes ≡ codes "p" → ⊥) → (part : Bool) → bytes ≡ last_word part → ⊥
+no_last bytes no_zero no_part true e = no_part e
+no_last bytes no_zero no_part false e = no_zero e
+
+pub mode_refused : (bytes after : List ℕ) → IsUnbroken bytes → ((sought : Sought) → mode_line sought ≡ line bytes → ⊥) → IsFirstFault (head ++ (bytes ++ 10 ∷ after)) 2
 mode_refused bytes after u none = no_mode _ (bytes ++ 10 ∷ after) refl (λ o xs e.
     let h = first_line (mode_word o) bytes xs after (word_unbroken o) u (sym (mode_break o xs) ∙ e) in
     none o (mode_as_line o ∙ ap line h.0))

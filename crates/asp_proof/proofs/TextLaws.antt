@@ -1,19 +1,20 @@
 -- No two proofs have one text.
-use Rattle.std.proofs.Common.{◌≡◌, ℕ, ◌<◌, Bool, List, [], ◌∷◌, ◌++◌, length, codes, refl, sym, ap, ◌∙◌, arith, append-nil}
+use Rattle.std.proofs.Common.{◌≡◌, ℕ, ◌<◌, Bool, true, false, List, [], ◌∷◌, ◌++◌, length, codes, refl, sym, ap, ◌∙◌, arith, append_assoc, append-nil}
 use Rattle.std.specs.Prelude.{ℤ}
 use Rattle.std.specs.List.{AllByRecursion}
 use Rattle.asp_model.specs.Sets.{Atoms}
 use Rattle.asp_proof.specs.declared.proof.Line.{Line}
 use Rattle.asp_proof.specs.declared.proof.Line.TheVariants as kind
 use Rattle.asp_proof.specs.declared.proof.Proof.{Proof}
-use Rattle.asp_proof.specs.Texts.{atoms_fields, literals_fields, loop_fields, learned_fields, answer_text, line_text, mode_line, text_of, lines}
+use Rattle.asp_proof.specs.declared.proof.Sought.{Sought}
+use Rattle.asp_proof.specs.Texts.{atoms_fields, literals_fields, loop_fields, learned_fields, answer_text, line_text, mode_line, last_word, text_of, line, lines}
 use Rattle.asp_proof.specs.Grammar.{IsSet, IsNogood, IsLoop, IsLearned, IsLine, IsProof, IsFirstFault}
 use Rattle.asp_proof.specs.Changes.{changes_of}
-use Rattle.asp_proof.specs.Walk.{proof_of, front_of, IsStart}
+use Rattle.asp_proof.specs.Walk.{proof_of, ended, front_of, IsStart}
 use Rattle.asp_proof.proofs.ChangeLaws.{no_atoms, changes_sets, same_answers, begin_with}
 use Rattle.asp_proof.proofs.FieldLaws.{IsClear, clear_set, clear_nogood, clear_loop, clear_learned}
 use Rattle.asp_proof.proofs.LineLaws.{first_bytes}
-use Rattle.asp_proof.proofs.WalkLaws.{first_line, front_first, regroup, parts_of, behind_head, behind_mode, same_mode, unbroken_answer, unbroken_line, zero_unbroken, answer_or_line, answer_or_last, line_or_last}
+use Rattle.asp_proof.proofs.WalkLaws.{first_line, front_first, regroup, parts_of, behind_head, behind_mode, same_mode, unbroken_answer, unbroken_line, last_unbroken, answer_or_line, answer_or_last, line_or_last}
 
 behind : (b : ℕ) (xs ys : List ℕ) → b ∷ xs ≡ b ∷ ys → xs ≡ ys
 behind b xs ys e = cc
@@ -45,73 +46,96 @@ same_first : (x y more less tail rest : List ℕ) → AllByRecursion (λ b. b �
     ((x ++ 10 ∷ []) ++ more) ++ tail ≡ ((y ++ 10 ∷ []) ++ less) ++ rest → (x ≡ y) × (more ++ tail ≡ less ++ rest)
 same_first x y more less tail rest u v e = first_line x y (more ++ tail) (less ++ rest) u v (sym (front_first x more tail) ∙ e ∙ front_first y less rest)
 
-first_and_last : (x more tail : List ℕ) → AllByRecursion (λ b. b ≡ 10 → ⊥) x → ((x ++ 10 ∷ []) ++ more) ++ tail ≡ codes "0\n" → x ≡ codes "0"
-first_and_last x more tail u e = (first_line x (codes "0") (more ++ tail) [] u zero_unbroken (sym (front_first x more tail) ∙ e)).0
+first_and_last : (x more tail : List ℕ) (z : Bool) → AllByRecursion (λ b. b ≡ 10 → ⊥) x → ((x ++ 10 ∷ []) ++ more) ++ tail ≡ line (last_word z) → x ≡ last_word z
+first_and_last x more tail z u e = (first_line x (last_word z) (more ++ tail) [] u (last_unbroken z) (sym (front_first x more tail) ∙ e)).0
+
+-- a last line, and what follows it
+last_first : (w : Bool) (after : List ℕ) → line (last_word w) ++ after ≡ last_word w ++ 10 ∷ after
+last_first w after = append_assoc (last_word w) (10 ∷ []) after
+
+one_word : (w z : Bool) → last_word w ≡ last_word z → w ≡ z
+one_word true true e = refl
+one_word false false e = refl
+one_word true false e = absurd (omega (arith, first_bytes 112 48 [] [] e))
+one_word false true e = absurd (omega (arith, first_bytes 48 112 [] [] e))
+
+record AreLines (ls ms : List Line) (w z : Bool) : Type 0 where
+  pub entries : ls ≡ ms
+  pub last : w ≡ z
 
 -- the last line comes after the same lines
-one_lines : (ls ms : List Line) (after : List ℕ) → AllByRecursion IsLine ls → AllByRecursion IsLine ms → lines line_text ls ++ (codes "0\n" ++ after) ≡ lines line_text ms ++ codes "0\n" → ls ≡ ms
-one_lines [] [] after p q e = refl
-one_lines [] (m ∷ ms) after p q e =
-    absurd (line_or_last m (sym (first_line (codes "0") (line_text m) after (lines line_text ms ++ codes "0\n") zero_unbroken (unbroken_line m q.0)
-    (e ∙ front_first (line_text m) (lines line_text ms) (codes "0\n"))).0))
-one_lines (l ∷ ls) [] after p q e = absurd (line_or_last l (first_and_last (line_text l) (lines line_text ls) (codes "0\n" ++ after) (unbroken_line l p.0) e))
-one_lines (l ∷ ls) (m ∷ ms) after p q e =
-    let h = same_first (line_text l) (line_text m) (lines line_text ls) (lines line_text ms) (codes "0\n" ++ after) (codes "0\n") (unbroken_line l p.0) (unbroken_line m q.0) e in
-    cc (one_line l m p.0 q.0 h.0, one_lines ls ms after p.1 q.1 h.1)
+one_lines : (ls ms : List Line) (w z : Bool) (after : List ℕ) → AllByRecursion IsLine ls → AllByRecursion IsLine ms →
+    lines line_text ls ++ (line (last_word w) ++ after) ≡ lines line_text ms ++ line (last_word z) → AreLines ls ms w z
+one_lines [] [] w z after p q e = record {
+  entries = refl;
+  last = one_word w z (first_line (last_word w) (last_word z) after [] (last_unbroken w) (last_unbroken z) (sym (last_first w after) ∙ e)).0;
+}
+one_lines [] (m ∷ ms) w z after p q e =
+    absurd (line_or_last m w (sym (first_line (last_word w) (line_text m) after (lines line_text ms ++ line (last_word z)) (last_unbroken w) (unbroken_line m q.0)
+    (sym (last_first w after) ∙ e ∙ front_first (line_text m) (lines line_text ms) (line (last_word z)))).0))
+one_lines (l ∷ ls) [] w z after p q e = absurd (line_or_last l z (first_and_last (line_text l) (lines line_text ls) (line (last_word w) ++ after) z (unbroken_line l p.0) e))
+one_lines (l ∷ ls) (m ∷ ms) w z after p q e =
+    let h = same_first (line_text l) (line_text m) (lines line_text ls) (lines line_text ms) (line (last_word w) ++ after) (line (last_word z))
+    (unbroken_line l p.0) (unbroken_line m q.0) e in
+    let one = one_line l m p.0 q.0 h.0 in
+    let more = one_lines ls ms w z after p.1 q.1 h.1 in
+    let rest = more.entries in
+    record { entries = cc; last = more.last }
 
 -- an answer's line doesn't begin what lines and the last one make
-answer_among_lines : (S : Atoms) (more : List ℕ) (tail : List ℕ) (ms : List Line) → IsSet S → AllByRecursion IsLine ms →
-    ((answer_text S ++ 10 ∷ []) ++ more) ++ tail ≡ lines line_text ms ++ codes "0\n" → ⊥
-answer_among_lines S more tail [] p q e = answer_or_last S (first_and_last (answer_text S) more tail (unbroken_answer S p) e)
-answer_among_lines S more tail (m ∷ ms) p q e =
-    answer_or_line S m (same_first (answer_text S) (line_text m) more (lines line_text ms) tail (codes "0\n") (unbroken_answer S p)
+answer_among_lines : (S : Atoms) (more : List ℕ) (tail : List ℕ) (ms : List Line) (z : Bool) → IsSet S → AllByRecursion IsLine ms →
+    ((answer_text S ++ 10 ∷ []) ++ more) ++ tail ≡ lines line_text ms ++ line (last_word z) → ⊥
+answer_among_lines S more tail [] z p q e = answer_or_last S z (first_and_last (answer_text S) more tail z (unbroken_answer S p) e)
+answer_among_lines S more tail (m ∷ ms) z p q e =
+    answer_or_line S m (same_first (answer_text S) (line_text m) more (lines line_text ms) tail (line (last_word z)) (unbroken_answer S p)
     (unbroken_line m q.0) e).0
 
-record AreSame (Ss Rs : List Atoms) (ls ms : List Line) : Type 0 where
+record AreSame (Ss Rs : List Atoms) (ls ms : List Line) (w z : Bool) : Type 0 where
   pub answers : Ss ≡ Rs
   pub entries : ls ≡ ms
+  pub last : w ≡ z
 
-one_tail : (Ss Rs : List Atoms) (ls ms : List Line) (after : List ℕ) → AllByRecursion IsSet Ss → AllByRecursion IsSet Rs → AllByRecursion IsLine ls → AllByRecursion IsLine ms
-    → lines answer_text Ss ++ (lines line_text ls ++ (codes "0\n" ++ after)) ≡ lines answer_text Rs ++ (lines line_text ms ++ codes "0\n") → AreSame Ss Rs ls ms
-one_tail [] [] ls ms after a b p q e = record { answers = refl; entries = one_lines ls ms after p q e }
-one_tail [] (R ∷ Rs) [] ms after a b p q e =
-    absurd (answer_or_last R (sym (first_line (codes "0") (answer_text R) after (lines answer_text Rs ++ (lines line_text ms ++ codes "0\n"))
-    zero_unbroken (unbroken_answer R b.0) (e
-    ∙ front_first (answer_text R) (lines answer_text Rs) (lines line_text ms ++ codes "0\n"))).0))
-one_tail [] (R ∷ Rs) (l ∷ ls) ms after a b p q e =
-    absurd (answer_or_line R l (sym (same_first (line_text l) (answer_text R) (lines line_text ls) (lines answer_text Rs) (codes "0\n" ++ after)
-    (lines line_text ms ++ codes "0\n") (unbroken_line l p.0) (unbroken_answer R b.0) e).0))
-one_tail (S ∷ Ss) [] ls ms after a b p q e = absurd (answer_among_lines S (lines answer_text Ss) (lines line_text ls ++ (codes "0\n" ++ after)) ms a.0 q e)
-one_tail (S ∷ Ss) (R ∷ Rs) ls ms after a b p q e =
-    let h = same_first (answer_text S) (answer_text R) (lines answer_text Ss) (lines answer_text Rs) (lines line_text ls ++ (codes "0\n" ++ after))
-    (lines line_text ms ++ codes "0\n") (unbroken_answer S a.0) (unbroken_answer R b.0) e in
-    let more = one_tail Ss Rs ls ms after a.1 b.1 p q h.1 in
-    record { answers = cc (one_answer S R a.0 b.0 h.0, more.answers); entries = more.entries }
+one_tail : (Ss Rs : List Atoms) (ls ms : List Line) (w z : Bool) (after : List ℕ) → AllByRecursion IsSet Ss → AllByRecursion IsSet Rs → AllByRecursion IsLine ls → AllByRecursion IsLine ms
+    → lines answer_text Ss ++ (lines line_text ls ++ (line (last_word w) ++ after)) ≡ lines answer_text Rs ++ (lines line_text ms ++ line (last_word z)) → AreSame Ss Rs ls ms w z
+one_tail [] [] ls ms w z after a b p q e = let h = one_lines ls ms w z after p q e in record { answers = refl; entries = h.entries; last = h.last }
+one_tail [] (R ∷ Rs) [] ms w z after a b p q e =
+    absurd (answer_or_last R w (sym (first_line (last_word w) (answer_text R) after (lines answer_text Rs ++ (lines line_text ms ++ line (last_word z)))
+    (last_unbroken w) (unbroken_answer R b.0) (sym (last_first w after) ∙ e
+    ∙ front_first (answer_text R) (lines answer_text Rs) (lines line_text ms ++ line (last_word z)))).0))
+one_tail [] (R ∷ Rs) (l ∷ ls) ms w z after a b p q e =
+    absurd (answer_or_line R l (sym (same_first (line_text l) (answer_text R) (lines line_text ls) (lines answer_text Rs) (line (last_word w) ++ after)
+    (lines line_text ms ++ line (last_word z)) (unbroken_line l p.0) (unbroken_answer R b.0) e).0))
+one_tail (S ∷ Ss) [] ls ms w z after a b p q e = absurd (answer_among_lines S (lines answer_text Ss) (lines line_text ls ++ (line (last_word w) ++ after)) ms z a.0 q e)
+one_tail (S ∷ Ss) (R ∷ Rs) ls ms w z after a b p q e =
+    let h = same_first (answer_text S) (answer_text R) (lines answer_text Ss) (lines answer_text Rs) (lines line_text ls ++ (line (last_word w) ++ after))
+    (lines line_text ms ++ line (last_word z)) (unbroken_answer S a.0) (unbroken_answer R b.0) e in
+    let more = one_tail Ss Rs ls ms w z after a.1 b.1 p q h.1 in
+    record { answers = cc (one_answer S R a.0 b.0 h.0, more.answers); entries = more.entries; last = more.last }
 
-same_proof : (o r : Bool) (Ss Rs : List Atoms) (ls ms : List Line) → o ≡ r → AreSame Ss Rs ls ms → proof_of o Ss ls ≡ proof_of r Rs ms
-same_proof o r Ss Rs ls ms e s = let a = s.answers in let b = s.entries in cc
+same_proof : (o r : Sought) (Ss Rs : List Atoms) (ls ms : List Line) (w z : Bool) → o ≡ r → AreSame Ss Rs ls ms w z → ended (proof_of o Ss ls) w ≡ ended (proof_of r Rs ms) z
+same_proof o r Ss Rs ls ms w z e s = let a = s.answers in let b = s.entries in let d = s.last in cc
 
-pub one_whole : (p q : Proof) (after : List ℕ) → IsProof p → IsProof q → front_of p ++ (codes "0\n" ++ after) ≡ text_of q → p ≡ q
+pub one_whole : (p q : Proof) (after : List ℕ) → IsProof p → IsProof q → front_of p ++ (line (last_word p.part) ++ after) ≡ text_of q → p ≡ q
 one_whole p q after h k e =
     let behind_one = behind_head _ _
-    (sym (regroup (codes "proof 2\n") (mode_line p.opt) (lines answer_text (changes_of p.answers)) (lines line_text p.lines)
-    (codes "0\n" ++ after)) ∙ e ∙ parts_of q) in
-    let tail = one_tail (changes_of p.answers) (changes_of q.answers) p.lines q.lines after (changes_sets [] p.answers no_atoms h.answers)
-    (changes_sets [] q.answers no_atoms k.answers) h.lines k.lines (behind_mode p.opt q.opt _ _ behind_one) in
-    same_proof p.opt q.opt p.answers q.answers p.lines q.lines (same_mode p.opt q.opt _ _ behind_one)
-    (record { answers = same_answers [] p.answers q.answers h.answers k.answers tail.answers; entries = tail.entries })
+    (sym (regroup (codes "proof 2\n") (mode_line p.sought) (lines answer_text (changes_of p.answers)) (lines line_text p.lines)
+    (line (last_word p.part) ++ after)) ∙ e ∙ parts_of q) in
+    let tail = one_tail (changes_of p.answers) (changes_of q.answers) p.lines q.lines p.part q.part after (changes_sets [] p.answers no_atoms h.answers)
+    (changes_sets [] q.answers no_atoms k.answers) h.lines k.lines (behind_mode p.sought q.sought _ _ behind_one) in
+    same_proof p.sought q.sought p.answers q.answers p.lines q.lines p.part q.part (same_mode p.sought q.sought _ _ behind_one)
+    (record { answers = same_answers [] p.answers q.answers h.answers k.answers tail.answers; entries = tail.entries; last = tail.last })
 
 pub one_proof : (p q : Proof) → IsProof p → IsProof q → text_of p ≡ text_of q → p ≡ q
-one_proof p q h k e = one_whole p q [] h k e
+one_proof p q h k e = one_whole p q [] h k (ap (λ (t : List ℕ). front_of p ++ t) (append-nil (line (last_word p.part))) ∙ e)
 
 -- ---- what a proof's text begins with
-starts_lines : (ls ms : List Line) (rest : List ℕ) → AllByRecursion IsLine ls → AllByRecursion IsLine ms →
-    lines line_text ls ++ rest ≡ lines line_text ms ++ codes "0\n" → (more : List Line) × (ms ≡ ls ++ more)
-starts_lines [] ms rest p q e = (ms, refl)
-starts_lines (l ∷ ls) [] rest p q e = absurd (line_or_last l (first_and_last (line_text l) (lines line_text ls) rest (unbroken_line l p.0) e))
-starts_lines (l ∷ ls) (m ∷ ms) rest p q e =
-    let h = same_first (line_text l) (line_text m) (lines line_text ls) (lines line_text ms) rest (codes "0\n") (unbroken_line l p.0) (unbroken_line m q.0) e in
-    let more = starts_lines ls ms rest p.1 q.1 h.1 in
+starts_lines : (ls ms : List Line) (z : Bool) (rest : List ℕ) → AllByRecursion IsLine ls → AllByRecursion IsLine ms →
+    lines line_text ls ++ rest ≡ lines line_text ms ++ line (last_word z) → (more : List Line) × (ms ≡ ls ++ more)
+starts_lines [] ms z rest p q e = (ms, refl)
+starts_lines (l ∷ ls) [] z rest p q e = absurd (line_or_last l z (first_and_last (line_text l) (lines line_text ls) rest z (unbroken_line l p.0) e))
+starts_lines (l ∷ ls) (m ∷ ms) z rest p q e =
+    let h = same_first (line_text l) (line_text m) (lines line_text ls) (lines line_text ms) rest (line (last_word z)) (unbroken_line l p.0) (unbroken_line m q.0) e in
+    let more = starts_lines ls ms z rest p.1 q.1 h.1 in
     (more.0, cc (one_line l m p.0 q.0 h.0, more.1))
 
 record IsStartOf (Ss Rs : List Atoms) (ls ms : List Line) : Type 0 where
@@ -121,28 +145,28 @@ record IsStartOf (Ss Rs : List Atoms) (ls ms : List Line) : Type 0 where
   pub lines : ms ≡ ls ++ more_lines
   pub all_answers : 0 < length ls → more_answers ≡ []
 
-starts_tail : (Ss Rs : List Atoms) (ls ms : List Line) (rest : List ℕ) → AllByRecursion IsSet Ss → AllByRecursion IsSet Rs → AllByRecursion IsLine ls → AllByRecursion IsLine ms
-    → lines answer_text Ss ++ (lines line_text ls ++ rest) ≡ lines answer_text Rs ++ (lines line_text ms ++ codes "0\n") → IsStartOf Ss Rs ls ms
-starts_tail [] [] ls ms rest a b p q e = let more = starts_lines ls ms rest p q e in record { more_answers = []; answers = refl; more_lines = more.0; lines = more.1; all_answers = λ lt. refl }
-starts_tail [] (R ∷ Rs) [] ms rest a b p q e = record { more_answers = R ∷ Rs; answers = refl; more_lines = ms; lines = refl; all_answers = λ lt. absurd (omega (arith, lt)) }
-starts_tail [] (R ∷ Rs) (l ∷ ls) ms rest a b p q e =
+starts_tail : (Ss Rs : List Atoms) (ls ms : List Line) (z : Bool) (rest : List ℕ) → AllByRecursion IsSet Ss → AllByRecursion IsSet Rs → AllByRecursion IsLine ls → AllByRecursion IsLine ms
+    → lines answer_text Ss ++ (lines line_text ls ++ rest) ≡ lines answer_text Rs ++ (lines line_text ms ++ line (last_word z)) → IsStartOf Ss Rs ls ms
+starts_tail [] [] ls ms z rest a b p q e = let more = starts_lines ls ms z rest p q e in record { more_answers = []; answers = refl; more_lines = more.0; lines = more.1; all_answers = λ lt. refl }
+starts_tail [] (R ∷ Rs) [] ms z rest a b p q e = record { more_answers = R ∷ Rs; answers = refl; more_lines = ms; lines = refl; all_answers = λ lt. absurd (omega (arith, lt)) }
+starts_tail [] (R ∷ Rs) (l ∷ ls) ms z rest a b p q e =
     absurd (answer_or_line R l (sym (same_first (line_text l) (answer_text R) (lines line_text ls) (lines answer_text Rs) rest
-    (lines line_text ms ++ codes "0\n") (unbroken_line l p.0) (unbroken_answer R b.0) e).0))
-starts_tail (S ∷ Ss) [] ls ms rest a b p q e = absurd (answer_among_lines S (lines answer_text Ss) (lines line_text ls ++ rest) ms a.0 q e)
-starts_tail (S ∷ Ss) (R ∷ Rs) ls ms rest a b p q e =
+    (lines line_text ms ++ line (last_word z)) (unbroken_line l p.0) (unbroken_answer R b.0) e).0))
+starts_tail (S ∷ Ss) [] ls ms z rest a b p q e = absurd (answer_among_lines S (lines answer_text Ss) (lines line_text ls ++ rest) ms z a.0 q e)
+starts_tail (S ∷ Ss) (R ∷ Rs) ls ms z rest a b p q e =
     let h = same_first (answer_text S) (answer_text R) (lines answer_text Ss) (lines answer_text Rs) (lines line_text ls ++ rest)
-    (lines line_text ms ++ codes "0\n") (unbroken_answer S a.0) (unbroken_answer R b.0) e in
-    let more = starts_tail Ss Rs ls ms rest a.1 b.1 p q h.1 in
+    (lines line_text ms ++ line (last_word z)) (unbroken_answer S a.0) (unbroken_answer R b.0) e in
+    let more = starts_tail Ss Rs ls ms z rest a.1 b.1 p q h.1 in
     record { more_answers = more.more_answers; answers = cc (one_answer S R a.0 b.0 h.0, more.answers); more_lines = more.more_lines; lines = more.lines; all_answers = more.all_answers }
 
 pub start_of : (p q : Proof) (rest : List ℕ) → IsProof p → IsProof q → front_of q ++ rest ≡ text_of p → IsStart q p
 start_of p q rest h k e =
-    let behind_one = behind_head _ _ (sym (regroup (codes "proof 2\n") (mode_line q.opt) (lines answer_text (changes_of q.answers)) (lines line_text q.lines) rest) ∙ e ∙ parts_of p) in
-    let more = starts_tail (changes_of q.answers) (changes_of p.answers) q.lines p.lines rest (changes_sets [] q.answers no_atoms k.answers)
-    (changes_sets [] p.answers no_atoms h.answers) k.lines h.lines (behind_mode q.opt p.opt _ _ behind_one) in
+    let behind_one = behind_head _ _ (sym (regroup (codes "proof 2\n") (mode_line q.sought) (lines answer_text (changes_of q.answers)) (lines line_text q.lines) rest) ∙ e ∙ parts_of p) in
+    let more = starts_tail (changes_of q.answers) (changes_of p.answers) q.lines p.lines p.part rest (changes_sets [] q.answers no_atoms k.answers)
+    (changes_sets [] p.answers no_atoms h.answers) k.lines h.lines (behind_mode q.sought p.sought _ _ behind_one) in
     let begun = begin_with [] q.answers p.answers more.more_answers k.answers h.answers more.answers in
     record {
-      mode = same_mode q.opt p.opt _ _ behind_one;
+      mode = same_mode q.sought p.sought _ _ behind_one;
       more_answers = begun.others;
       answers = begun.are;
       more_lines = more.more_lines;

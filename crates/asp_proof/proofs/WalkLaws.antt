@@ -8,11 +8,13 @@ use Rattle.asp_model.proofs.MemberLaws.{each_weaker, each-append, each-flat_map}
 use Rattle.asp_proof.specs.declared.proof.Line.{Line}
 use Rattle.asp_proof.specs.declared.proof.Line.TheVariants as kind
 use Rattle.asp_proof.specs.declared.proof.Proof.{Proof}
-use Rattle.asp_proof.specs.Texts.{natural_field, integer_field, counted_fields, loop_fields, learned_fields, answer_text, line_text, mode_line, text_of, line, lines}
+use Rattle.asp_proof.specs.declared.proof.Sought.{Sought}
+use Rattle.asp_proof.specs.declared.proof.Sought.TheVariants.{All, Best, Optima}
+use Rattle.asp_proof.specs.Texts.{natural_field, integer_field, counted_fields, loop_fields, learned_fields, answer_text, line_text, mode_line, last_word, text_of, line, lines}
 use Rattle.asp_proof.specs.Grammar.{IsAtom, IsLiteral, AreCounted, ArePlaces, IsSet, IsNogood, IsLine, IsProof, IsProofText, Begins, IsUnbroken, IsLines, IsFirstFault}
 use Rattle.asp_proof.specs.Fields.{IsNumber, IsCount, IsWhole}
 use Rattle.asp_proof.specs.Changes.{changes_of, last_of}
-use Rattle.asp_proof.specs.Walk.{proof_of, front_of, Ends, IsWalked, IsNextAnswer, Takes, IsRefused}
+use Rattle.asp_proof.specs.Walk.{proof_of, ended, front_of, Ends, IsWalked, IsNextAnswer, Takes, IsRefused}
 use Rattle.asp_proof.proofs.ChangeLaws.{changes_next, set_changed, no_atoms, last_set, changes_sets}
 use Rattle.asp_proof.proofs.CutLaws.{one_cut}
 use Rattle.asp_proof.proofs.FieldLaws.{no_feed}
@@ -60,8 +62,9 @@ unbroken_line (kind.Learned place nogood names) h = (
 )
 unbroken_line (kind.Cube cube) h = ((λ e. omega (arith, e)), unbroken_nogood cube h)
 
-pub zero_unbroken : IsUnbroken (codes "0")
-zero_unbroken = ((λ e. omega (arith, e)), tt)
+pub last_unbroken : (part : Bool) → IsUnbroken (last_word part)
+last_unbroken true = ((λ e. omega (arith, e)), tt)
+last_unbroken false = ((λ e. omega (arith, e)), tt)
 
 behind : (xs ys : List ℕ) → 10 ∷ xs ≡ 10 ∷ ys → xs ≡ ys
 behind xs ys e = cc
@@ -79,37 +82,38 @@ abbrev Next : List Line → List ℕ → List ℕ → Type 0
 Next entries bytes more =
     ((S : Atoms) × (entries ≡ []) × IsWhole IsSet answer_text bytes S × Ends entries more)
     ⊎ (((l : Line) × IsWhole IsLine line_text bytes l × ((others : List Line) → Ends others more))
-    ⊎ ((bytes ≡ codes "0") × (more ≡ [])))
+    ⊎ ((part : Bool) × (bytes ≡ last_word part) × (more ≡ [])))
 
-next_line : (entries more_lines : List Line) (bytes more : List ℕ) → IsUnbroken bytes → AllByRecursion IsLine more_lines →
-    lines line_text more_lines ++ codes "0\n" ≡ bytes ++ 10 ∷ more → Next entries bytes more
-next_line entries [] bytes more u h e =
-    let p = first_line (codes "0") bytes [] more zero_unbroken u e in
-    inr (inr (sym p.0, sym p.1))
-next_line entries (l ∷ ls) bytes more u h e =
-    let p = first_line (line_text l) bytes (lines line_text ls ++ codes "0\n") more (unbroken_line l h.0) u (sym (front_first (line_text l) (lines line_text ls) (codes "0\n")) ∙ e) in
-    inr (inl (l, record { is = h.0; same = p.0 }, λ others. record { more_changes = []; more_lines = ls; are_sets = tt; are_lines = h.1; in_order = λ lt. refl; same = p.1 }))
+next_line : (entries more_lines : List Line) (part : Bool) (bytes more : List ℕ) → IsUnbroken bytes → AllByRecursion IsLine more_lines →
+    lines line_text more_lines ++ line (last_word part) ≡ bytes ++ 10 ∷ more → Next entries bytes more
+next_line entries [] part bytes more u h e =
+    let p = first_line (last_word part) bytes [] more (last_unbroken part) u e in
+    inr (inr (part, sym p.0, sym p.1))
+next_line entries (l ∷ ls) part bytes more u h e =
+    let p = first_line (line_text l) bytes (lines line_text ls ++ line (last_word part)) more (unbroken_line l h.0) u
+    (sym (front_first (line_text l) (lines line_text ls) (line (last_word part))) ∙ e) in
+    inr (inl (l, record { is = h.0; same = p.0 }, λ others. record { more_changes = []; more_lines = ls; are_sets = tt; are_lines = h.1; in_order = λ lt. refl; part = part; same = p.1 }))
 
 none_yet : (entries : List Line) (S : Atoms) (Ss : List Atoms) → (0 < length entries → S ∷ Ss ≡ []) → entries ≡ []
 none_yet [] S Ss o = refl
 none_yet (l ∷ ls) S Ss o = let h = o (omega arith) in absurd cc
 
-next_from : (entries more_lines : List Line) (more_changes : List Atoms) (bytes more : List ℕ) → IsUnbroken bytes →
+next_from : (entries more_lines : List Line) (more_changes : List Atoms) (part : Bool) (bytes more : List ℕ) → IsUnbroken bytes →
     AllByRecursion IsSet more_changes → AllByRecursion IsLine more_lines → (0 < length entries → more_changes ≡ [])
-    → lines answer_text more_changes ++ (lines line_text more_lines ++ codes "0\n") ≡ bytes ++ 10 ∷ more → Next entries bytes more
-next_from entries ls [] bytes more u g h o e = next_line entries ls bytes more u h e
-next_from entries ls (S ∷ Ss) bytes more u g h o e =
-    let p = first_line (answer_text S) bytes (lines answer_text Ss ++ (lines line_text ls ++ codes "0\n")) more (unbroken_answer S g.0) u
-    (sym (front_first (answer_text S) (lines answer_text Ss) (lines line_text ls ++ codes "0\n")) ∙ e) in
+    → lines answer_text more_changes ++ (lines line_text more_lines ++ line (last_word part)) ≡ bytes ++ 10 ∷ more → Next entries bytes more
+next_from entries ls [] part bytes more u g h o e = next_line entries ls part bytes more u h e
+next_from entries ls (S ∷ Ss) part bytes more u g h o e =
+    let p = first_line (answer_text S) bytes (lines answer_text Ss ++ (lines line_text ls ++ line (last_word part))) more (unbroken_answer S g.0) u
+    (sym (front_first (answer_text S) (lines answer_text Ss) (lines line_text ls ++ line (last_word part))) ∙ e) in
     inl (
       S,
       none_yet entries S Ss o,
       record { is = g.0; same = p.0 },
-      record { more_changes = Ss; more_lines = ls; are_sets = g.1; are_lines = h; in_order = λ lt. let k = o lt in absurd cc; same = p.1 },
+      record { more_changes = Ss; more_lines = ls; are_sets = g.1; are_lines = h; in_order = λ lt. let k = o lt in absurd cc; part = part; same = p.1 },
     )
 
 next : (entries : List Line) (bytes more : List ℕ) → IsUnbroken bytes → Ends entries (bytes ++ 10 ∷ more) → Next entries bytes more
-next entries bytes more u e = next_from entries e.more_lines e.more_changes bytes more u e.are_sets e.are_lines e.in_order e.same
+next entries bytes more u e = next_from entries e.more_lines e.more_changes e.part bytes more u e.are_sets e.are_lines e.in_order e.same
 
 -- ---- lines of different kinds
 
@@ -118,31 +122,35 @@ answer_or_line S (kind.Loop place set nogood) e = omega (arith, first_bytes 97 1
 answer_or_line S (kind.Learned place nogood names) e = omega (arith, first_bytes 97 108 (counted_fields natural_field S) (learned_fields (place, (nogood, names))) e)
 answer_or_line S (kind.Cube cube) e = omega (arith, first_bytes 97 99 (counted_fields natural_field S) (counted_fields integer_field cube) e)
 
-pub answer_or_last : (S : Atoms) → answer_text S ≡ codes "0" → ⊥
-answer_or_last S e = omega (arith, first_bytes 97 48 (counted_fields natural_field S) [] e)
+pub answer_or_last : (S : Atoms) (part : Bool) → answer_text S ≡ last_word part → ⊥
+answer_or_last S true e = omega (arith, first_bytes 97 112 (counted_fields natural_field S) [] e)
+answer_or_last S false e = omega (arith, first_bytes 97 48 (counted_fields natural_field S) [] e)
 
-pub line_or_last : (l : Line) → line_text l ≡ codes "0" → ⊥
-line_or_last (kind.Loop place set nogood) e = omega (arith, first_bytes 111 48 (loop_fields (place, (set, nogood))) [] e)
-line_or_last (kind.Learned place nogood names) e = omega (arith, first_bytes 108 48 (learned_fields (place, (nogood, names))) [] e)
-line_or_last (kind.Cube cube) e = omega (arith, first_bytes 99 48 (counted_fields integer_field cube) [] e)
+pub line_or_last : (l : Line) (part : Bool) → line_text l ≡ last_word part → ⊥
+line_or_last (kind.Loop place set nogood) true e = omega (arith, first_bytes 111 112 (loop_fields (place, (set, nogood))) [] e)
+line_or_last (kind.Learned place nogood names) true e = omega (arith, first_bytes 108 112 (learned_fields (place, (nogood, names))) [] e)
+line_or_last (kind.Cube cube) true e = omega (arith, first_bytes 99 112 (counted_fields integer_field cube) [] e)
+line_or_last (kind.Loop place set nogood) false e = omega (arith, first_bytes 111 48 (loop_fields (place, (set, nogood))) [] e)
+line_or_last (kind.Learned place nogood names) false e = omega (arith, first_bytes 108 48 (learned_fields (place, (nogood, names))) [] e)
+line_or_last (kind.Cube cube) false e = omega (arith, first_bytes 99 48 (counted_fields integer_field cube) [] e)
 
 -- ---- one more line
 
 lines_more : {A : Type 0} (text : A → List ℕ) (xs : List A) (x : A) → lines text (xs ++ x ∷ []) ≡ lines text xs ++ line (text x)
 lines_more text xs x = flat_map-append (λ y. line (text y)) xs (x ∷ []) ∙ ap (λ (t : List ℕ). lines text xs ++ t) (append-nil (line (text x)))
 
-front_answer : (opt : Bool) (answers : List Atoms) (S D : Atoms) → changes_of (answers ++ S ∷ []) ≡ changes_of answers ++ D ∷ [] →
-    front_of (proof_of opt (answers ++ S ∷ []) []) ≡ front_of (proof_of opt answers []) ++ line (answer_text D)
-front_answer opt answers S D e =
-    let head = codes "proof 2\n" ++ mode_line opt in
+front_answer : (sought : Sought) (answers : List Atoms) (S D : Atoms) → changes_of (answers ++ S ∷ []) ≡ changes_of answers ++ D ∷ [] →
+    front_of (proof_of sought (answers ++ S ∷ []) []) ≡ front_of (proof_of sought answers []) ++ line (answer_text D)
+front_answer sought answers S D e =
+    let head = codes "proof 2\n" ++ mode_line sought in
     append-nil (head ++ lines answer_text (changes_of (answers ++ S ∷ [])))
     ∙ ap (λ (t : List ℕ). head ++ t) (ap (lines answer_text) e ∙ lines_more answer_text (changes_of answers) D)
     ∙ sym (append_assoc head (lines answer_text (changes_of answers)) (line (answer_text D)))
     ∙ ap (λ (t : List ℕ). t ++ line (answer_text D)) (sym (append-nil (head ++ lines answer_text (changes_of answers))))
 
-front_line : (opt : Bool) (answers : List Atoms) (entries : List Line) (l : Line) → front_of (proof_of opt answers (entries ++ l ∷ [])) ≡ front_of (proof_of opt answers entries) ++ line (line_text l)
-front_line opt answers entries l =
-    let head = codes "proof 2\n" ++ mode_line opt ++ lines answer_text (changes_of answers) in
+front_line : (sought : Sought) (answers : List Atoms) (entries : List Line) (l : Line) → front_of (proof_of sought answers (entries ++ l ∷ [])) ≡ front_of (proof_of sought answers entries) ++ line (line_text l)
+front_line sought answers entries l =
+    let head = codes "proof 2\n" ++ mode_line sought ++ lines answer_text (changes_of answers) in
     ap (λ (t : List ℕ). head ++ t) (lines_more line_text entries l) ∙ sym (append_assoc head (lines line_text entries) (line (line_text l)))
 
 -- a line behind a front
@@ -177,51 +185,51 @@ walk_on text n p q bytes after w u f goes = record {
 after_answer : (S : Atoms) (bytes more : List ℕ) → IsWhole IsSet answer_text bytes S → Next [] bytes more → Ends [] more
 after_answer S bytes more w (inl x) = x.3
 after_answer S bytes more w (inr (inl x)) = absurd (answer_or_line S x.0 (w.same ∙ sym x.1.same))
-after_answer S bytes more w (inr (inr x)) = absurd (answer_or_last S (w.same ∙ x.0))
+after_answer S bytes more w (inr (inr x)) = absurd (answer_or_last S x.0 (w.same ∙ x.1))
 
 after_line : (entries now : List Line) (l : Line) (bytes more : List ℕ) → IsWhole IsLine line_text bytes l → Next entries bytes more → Ends now more
 after_line entries now l bytes more w (inl x) = absurd (answer_or_line x.0 l (x.2.same ∙ sym w.same))
 after_line entries now l bytes more w (inr (inl x)) = x.2 now
-after_line entries now l bytes more w (inr (inr x)) = absurd (line_or_last l (w.same ∙ x.0))
+after_line entries now l bytes more w (inr (inr x)) = absurd (line_or_last l x.0 (w.same ∙ x.1))
 
-walk_answer : (text : List ℕ) (n : ℕ) (opt : Bool) (answers : List Atoms) (S : Atoms) (bytes after : List ℕ) →
-    IsWalked text n (proof_of opt answers []) (bytes ++ 10 ∷ after) → IsUnbroken bytes → IsNextAnswer answers bytes S
-    → IsWalked text (n + 1) (proof_of opt (answers ++ S ∷ []) []) after
-walk_answer text n opt answers S bytes after w u h =
+walk_answer : (text : List ℕ) (n : ℕ) (sought : Sought) (answers : List Atoms) (S : Atoms) (bytes after : List ℕ) →
+    IsWalked text n (proof_of sought answers []) (bytes ++ 10 ∷ after) → IsUnbroken bytes → IsNextAnswer answers bytes S
+    → IsWalked text (n + 1) (proof_of sought (answers ++ S ∷ []) []) after
+walk_answer text n sought answers S bytes after w u h =
     let set = subst IsSet (sym h.is) (set_changed (last_of answers) h.change (last_set [] answers no_atoms w.is.answers) h.whole.is) in
     let changes = changes_next [] answers S h.change h.whole.is.ascending h.is in
-    walk_on text n (proof_of opt answers []) (proof_of opt (answers ++ S ∷ []) []) bytes after w u
+    walk_on text n (proof_of sought answers []) (proof_of sought (answers ++ S ∷ []) []) bytes after w u
     (record {
       is = record { answers = each-append IsSet answers (S ∷ []) w.is.answers (set, tt); lines = tt };
       same =
-          front_answer opt answers S h.change changes ∙ ap (λ (t : List ℕ). front_of (proof_of opt answers []) ++ line t) h.whole.same;
+          front_answer sought answers S h.change changes ∙ ap (λ (t : List ℕ). front_of (proof_of sought answers []) ++ line t) h.whole.same;
     })
     (λ more x. after_answer h.change bytes more h.whole x)
 
-walk_line : (text : List ℕ) (n : ℕ) (opt : Bool) (answers : List Atoms) (entries : List Line) (l : Line) (bytes after : List ℕ) →
-    IsWalked text n (proof_of opt answers entries) (bytes ++ 10 ∷ after) → IsUnbroken bytes → IsWhole IsLine line_text bytes l
-    → IsWalked text (n + 1) (proof_of opt answers (entries ++ l ∷ [])) after
-walk_line text n opt answers entries l bytes after w u h =
-    walk_on text n (proof_of opt answers entries) (proof_of opt answers (entries ++ l ∷ [])) bytes after w u
+walk_line : (text : List ℕ) (n : ℕ) (sought : Sought) (answers : List Atoms) (entries : List Line) (l : Line) (bytes after : List ℕ) →
+    IsWalked text n (proof_of sought answers entries) (bytes ++ 10 ∷ after) → IsUnbroken bytes → IsWhole IsLine line_text bytes l
+    → IsWalked text (n + 1) (proof_of sought answers (entries ++ l ∷ [])) after
+walk_line text n sought answers entries l bytes after w u h =
+    walk_on text n (proof_of sought answers entries) (proof_of sought answers (entries ++ l ∷ [])) bytes after w u
     (record {
       is = record { answers = w.is.answers; lines = each-append IsLine entries (l ∷ []) w.is.lines (h.is, tt) };
       same =
-          front_line opt answers entries l ∙ ap (λ (t : List ℕ). front_of (proof_of opt answers entries) ++ line t) h.same;
+          front_line sought answers entries l ∙ ap (λ (t : List ℕ). front_of (proof_of sought answers entries) ++ line t) h.same;
     })
     (λ more x. after_line entries (entries ++ l ∷ []) l bytes more h x)
 
-pub walks : (text : List ℕ) (n : ℕ) (opt : Bool) (answers now_answers : List Atoms) (entries now_entries : List Line) (bytes after rest : List ℕ) →
-    IsWalked text n (proof_of opt answers entries) rest → bytes ++ 10 ∷ after ≡ rest → IsUnbroken bytes
-    → Takes bytes answers entries now_answers now_entries → IsWalked text (n + 1) (proof_of opt now_answers now_entries) after
-walks text n opt answers now_answers entries now_entries bytes after rest w e u (inl x) =
-    rw (x.2, x.3) (walk_answer text n opt answers x.0 bytes after (rw (x.1, ← e) at w) u x.4)
-walks text n opt answers now_answers entries now_entries bytes after rest w e u (inr x) =
-    rw (x.1, x.2) (walk_line text n opt answers entries x.0 bytes after (rw (← e) at w) u x.3)
+pub walks : (text : List ℕ) (n : ℕ) (sought : Sought) (answers now_answers : List Atoms) (entries now_entries : List Line) (bytes after rest : List ℕ) →
+    IsWalked text n (proof_of sought answers entries) rest → bytes ++ 10 ∷ after ≡ rest → IsUnbroken bytes
+    → Takes bytes answers entries now_answers now_entries → IsWalked text (n + 1) (proof_of sought now_answers now_entries) after
+walks text n sought answers now_answers entries now_entries bytes after rest w e u (inl x) =
+    rw (x.2, x.3) (walk_answer text n sought answers x.0 bytes after (rw (x.1, ← e) at w) u x.4)
+walks text n sought answers now_answers entries now_entries bytes after rest w e u (inr x) =
+    rw (x.1, x.2) (walk_line text n sought answers entries x.0 bytes after (rw (← e) at w) u x.3)
 
 -- ---- faults
 
 begun : (p : Proof) → IsProof p → Begins (front_of p)
-begun p h = record { rest = codes "0\n"; whole = record { proof = p; is = h; same = refl } }
+begun p h = record { rest = line (last_word p.part); whole = record { proof = p; is = h; same = refl } }
 
 fault : (text front bytes after : List ℕ) (n : ℕ) → front ++ (bytes ++ 10 ∷ after) ≡ text → IsLines n front → Begins front → IsUnbroken bytes →
     ((more : List ℕ) → IsProofText (front ++ (bytes ++ 10 ∷ more)) → ⊥) → IsFirstFault text (n + 1)
@@ -239,13 +247,13 @@ fault text front bytes after n e counted begins u never = record {
   whole = λ t. never after (proof_text _ _ (sym e) t);
 }
 
-never_next : (entries : List Line) (bytes more : List ℕ) → IsRefused bytes entries → bytes ≢ codes "0" → Next entries bytes more → ⊥
+never_next : (entries : List Line) (bytes more : List ℕ) → IsRefused bytes entries → ((part : Bool) → bytes ≡ last_word part → ⊥) → Next entries bytes more → ⊥
 never_next entries bytes more r z (inl x) = r.no_answer x.1 x.0 x.2
 never_next entries bytes more r z (inr (inl x)) = r.no_line x.0 x.1
-never_next entries bytes more r z (inr (inr x)) = z x.0
+never_next entries bytes more r z (inr (inr x)) = z x.0 x.1
 
 pub refused : (text : List ℕ) (n : ℕ) (p : Proof) (bytes after rest : List ℕ) → IsWalked text n p rest → bytes ++ 10 ∷ after ≡ rest →
-    IsUnbroken bytes → bytes ≢ codes "0" → IsRefused bytes p.lines → IsFirstFault text (n + 1)
+    IsUnbroken bytes → ((part : Bool) → bytes ≡ last_word part → ⊥) → IsRefused bytes p.lines → IsFirstFault text (n + 1)
 refused text n p bytes after rest w e u z r = fault text (front_of p) bytes after n (ap (λ (t : List ℕ). front_of p ++ t) e ∙ w.parted) w.counted (begun p w.is) u
     (λ more t. never_next p.lines bytes more r z (next p.lines bytes more u (w.only (bytes ++ 10 ∷ more) t)))
 
@@ -267,37 +275,43 @@ broken_off text n p rest w u = record {
   whole = λ t.
       let e = w.only rest (proof_text _ _ (sym w.parted) t) in
       let h = subst IsUnbroken (sym e.same) u in
-      (left_lacks (lines line_text e.more_lines) (codes "0\n") (left_lacks (lines answer_text e.more_changes) _ h)).1.0 refl;
+      (left_lacks (last_word e.part) (10 ∷ []) (left_lacks (lines line_text e.more_lines) (line (last_word e.part)) (left_lacks (lines answer_text e.more_changes) _ h))).0 refl;
 }
 
 -- ---- the last line
 
-over : (p : Proof) (text rest after : List ℕ) (n : ℕ) → IsWalked text n p rest → codes "0" ++ 10 ∷ after ≡ rest → (more : List ℕ) → IsProofText (text_of p ++ more) → more ≡ []
-over p text rest after n w e more t = only_end (next p.lines (codes "0") more zero_unbroken (w.only (codes "0" ++ 10 ∷ more) (proof_text _ _ (behind_front (front_of p) (codes "0") more) t)))
+over : (p : Proof) (part : Bool) (text rest : List ℕ) (n : ℕ) → IsWalked text n p rest → (more : List ℕ) → IsProofText (text_of (ended p part) ++ more) → more ≡ []
+over p part text rest n w more t = only_end (next p.lines (last_word part) more (last_unbroken part)
+    (w.only (last_word part ++ 10 ∷ more) (proof_text _ _ (behind_front (front_of p) (last_word part) more) t)))
   where
-    only_end : Next p.lines (codes "0") more → more ≡ []
-    only_end (inl x) = absurd (answer_or_last x.0 x.2.same)
-    only_end (inr (inl x)) = absurd (line_or_last x.0 x.1.same)
-    only_end (inr (inr x)) = x.1
+    only_end : Next p.lines (last_word part) more → more ≡ []
+    only_end (inl x) = absurd (answer_or_last x.0 part x.2.same)
+    only_end (inr (inl x)) = absurd (line_or_last x.0 part x.1.same)
+    only_end (inr (inr x)) = x.2
 
 nothing_behind : (t : List ℕ) (bytes : List ℕ) → line bytes ++ t ≡ [] → ⊥
 nothing_behind t [] e = absurd cc
 nothing_behind t (b ∷ bytes) e = absurd cc
 
-pub goes_on : (text : List ℕ) (n : ℕ) (p : Proof) (bytes after rest : List ℕ) → IsWalked text n p rest → bytes ++ 10 ∷ after ≡ rest → bytes ≡ codes "0" → after ≢ [] → IsFirstFault text (n + 2)
-goes_on text n p bytes after rest w e z more =
-    let whole : codes "0" ++ 10 ∷ after ≡ rest = ap (λ (t : List ℕ). t ++ 10 ∷ after) (sym z) ∙ e in
-    let parted = behind_front (front_of p) (codes "0") after ∙ ap (λ (t : List ℕ). front_of p ++ t) whole ∙ w.parted in
+pub ended_is : (p : Proof) (part : Bool) → IsProof p → IsProof (ended p part)
+ended_is p part h = record { answers = h.answers; lines = h.lines }
+
+pub goes_on : (text : List ℕ) (n : ℕ) (p : Proof) (part : Bool) (bytes after rest : List ℕ) → IsWalked text n p rest → bytes ++ 10 ∷ after ≡ rest →
+    bytes ≡ last_word part → after ≢ [] → IsFirstFault text (n + 2)
+goes_on text n p part bytes after rest w e z more =
+    let whole : last_word part ++ 10 ∷ after ≡ rest = ap (λ (t : List ℕ). t ++ 10 ∷ after) (sym z) ∙ e in
+    let parted = behind_front (front_of p) (last_word part) after ∙ ap (λ (t : List ℕ). front_of p ++ t) whole ∙ w.parted in
     record {
       before = n + 1;
       numbered = omega arith;
-      front = text_of p;
+      front = text_of (ended p part);
       rest = after;
       parted = parted;
-      lines_before = lines_and_one n (front_of p) (codes "0") w.counted zero_unbroken;
-      begins = record { rest = []; whole = record { proof = p; is = w.is; same = sym (append-nil (text_of p)) } };
-      with_it = λ other later v same b. nothing_behind b.rest other (over p text rest after n w whole (line other ++ b.rest) (proof_text _ _ (append_assoc (text_of p) (line other) b.rest) b.whole));
-      whole = λ t. more (over p text rest after n w whole after (proof_text _ _ (sym parted) t));
+      lines_before = lines_and_one n (front_of p) (last_word part) w.counted (last_unbroken part);
+      begins = record { rest = []; whole = record { proof = ended p part; is = ended_is p part w.is; same = sym (append-nil (text_of (ended p part))) } };
+      with_it = λ other later v same b. nothing_behind b.rest other
+          (over p part text rest n w (line other ++ b.rest) (proof_text _ _ (append_assoc (text_of (ended p part)) (line other) b.rest) b.whole));
+      whole = λ t. more (over p part text rest n w after (proof_text _ _ (sym parted) t));
     }
 
 -- ---- the first two lines
@@ -308,27 +322,38 @@ head = codes "proof 2\n"
 pub regroup : (h m a l z : List ℕ) → (((h ++ m) ++ a) ++ l) ++ z ≡ h ++ (m ++ (a ++ (l ++ z)))
 regroup h m a l z = simp append_assoc
 
-pub parts_of : (p : Proof) → text_of p ≡ head ++ (mode_line p.opt ++ (lines answer_text (changes_of p.answers) ++ (lines line_text p.lines ++ codes "0\n")))
-parts_of p = regroup head (mode_line p.opt) (lines answer_text (changes_of p.answers)) (lines line_text p.lines) (codes "0\n")
+pub parts_of : (p : Proof) → text_of p ≡ head ++ (mode_line p.sought ++ (lines answer_text (changes_of p.answers) ++ (lines line_text p.lines ++ line (last_word p.part))))
+parts_of p = regroup head (mode_line p.sought) (lines answer_text (changes_of p.answers)) (lines line_text p.lines) (line (last_word p.part))
 
 pub behind_head : (xs ys : List ℕ) → head ++ xs ≡ head ++ ys → xs ≡ ys
 behind_head xs ys e = cc
 
-pub behind_mode : (o q : Bool) (xs ys : List ℕ) → mode_line o ++ xs ≡ mode_line q ++ ys → xs ≡ ys
-behind_mode true true xs ys e = cc
-behind_mode false false xs ys e = cc
-behind_mode true false xs ys e = absurd (omega (arith, first_bytes 111 101 _ _ e))
-behind_mode false true xs ys e = absurd (omega (arith, first_bytes 101 111 _ _ e))
+-- the words of the two optimisations differ at their fourth byte
+fourth_bytes : (a b c x y : ℕ) (xs ys : List ℕ) → a ∷ b ∷ c ∷ x ∷ xs ≡ a ∷ b ∷ c ∷ y ∷ ys → x ≡ y
+fourth_bytes a b c x y xs ys e = cc
 
-pub same_mode : (o q : Bool) (xs ys : List ℕ) → mode_line o ++ xs ≡ mode_line q ++ ys → o ≡ q
-same_mode true true xs ys e = refl
-same_mode false false xs ys e = refl
-same_mode true false xs ys e = absurd (omega (arith, first_bytes 111 101 _ _ e))
-same_mode false true xs ys e = absurd (omega (arith, first_bytes 101 111 _ _ e))
+pub same_mode : (o q : Sought) (xs ys : List ℕ) → mode_line o ++ xs ≡ mode_line q ++ ys → o ≡ q
+same_mode All All xs ys e = refl
+same_mode All Best xs ys e = absurd (omega (arith, first_bytes 101 111 _ _ e))
+same_mode All Optima xs ys e = absurd (omega (arith, first_bytes 101 111 _ _ e))
+same_mode Best All xs ys e = absurd (omega (arith, first_bytes 111 101 _ _ e))
+same_mode Best Best xs ys e = refl
+same_mode Best Optima xs ys e = absurd (omega (arith, fourth_bytes 111 112 116 10 105 _ _ e))
+same_mode Optima All xs ys e = absurd (omega (arith, first_bytes 111 101 _ _ e))
+same_mode Optima Best xs ys e = absurd (omega (arith, fourth_bytes 111 112 116 105 10 _ _ e))
+same_mode Optima Optima xs ys e = refl
+
+same_behind : (o : Sought) (xs ys : List ℕ) → mode_line o ++ xs ≡ mode_line o ++ ys → xs ≡ ys
+same_behind All xs ys e = cc
+same_behind Best xs ys e = cc
+same_behind Optima xs ys e = cc
+
+pub behind_mode : (o q : Sought) (xs ys : List ℕ) → mode_line o ++ xs ≡ mode_line q ++ ys → xs ≡ ys
+behind_mode o q xs ys e = same_behind o xs ys (e ∙ ap (λ (m : Sought). mode_line m ++ ys) (sym (same_mode o q xs ys e)))
 
 -- what a proof's text has behind its first line
 behind_first : (rest : List ℕ) → IsProofText (head ++ rest) → (p : Proof) × IsProof p ×
-    (mode_line p.opt ++ (lines answer_text (changes_of p.answers) ++ (lines line_text p.lines ++ codes "0\n")) ≡ rest)
+    (mode_line p.sought ++ (lines answer_text (changes_of p.answers) ++ (lines line_text p.lines ++ line (last_word p.part))) ≡ rest)
 behind_first rest t = (t.proof, t.is, behind_head _ rest (sym (parts_of t.proof) ∙ t.same))
 
 pub head_unbroken : IsUnbroken (codes "proof 2")
@@ -346,22 +371,28 @@ head_unbroken = (
   ),
 )
 
-abbrev pub mode_word : Bool → List ℕ
-mode_word true = codes "opt"
-mode_word false = codes "enum"
+abbrev pub mode_word : Sought → List ℕ
+mode_word All = codes "enum"
+mode_word Best = codes "opt"
+mode_word Optima = codes "optima"
 
-pub word_unbroken : (o : Bool) → IsUnbroken (mode_word o)
-word_unbroken true = ((λ e. omega (arith, e)), ((λ e. omega (arith, e)), ((λ e. omega (arith, e)), tt)))
-word_unbroken false = ((λ e. omega (arith, e)), ((λ e. omega (arith, e)), ((λ e. omega (arith, e)), ((λ e. omega (arith, e)), tt))))
+pub word_unbroken : (o : Sought) → IsUnbroken (mode_word o)
+word_unbroken All = ((λ e. omega (arith, e)), ((λ e. omega (arith, e)), ((λ e. omega (arith, e)), ((λ e. omega (arith, e)), tt))))
+word_unbroken Best = ((λ e. omega (arith, e)), ((λ e. omega (arith, e)), ((λ e. omega (arith, e)), tt)))
+word_unbroken Optima = (
+  (λ e. omega (arith, e)),
+  ((λ e. omega (arith, e)), ((λ e. omega (arith, e)), ((λ e. omega (arith, e)), ((λ e. omega (arith, e)), ((λ e. omega (arith, e)), tt))))),
+)
 
-pub mode_break : (o : Bool) (xs : List ℕ) → mode_line o ++ xs ≡ mode_word o ++ 10 ∷ xs
-mode_break true xs = refl
-mode_break false xs = refl
+pub mode_break : (o : Sought) (xs : List ℕ) → mode_line o ++ xs ≡ mode_word o ++ 10 ∷ xs
+mode_break All xs = refl
+mode_break Best xs = refl
+mode_break Optima xs = refl
 
 head_line : IsLines 1 head
 head_line = record { parts = codes "proof 2" ∷ []; counted = refl; unbroken = (head_unbroken, tt); same = refl }
 
-pub no_mode : (text rest : List ℕ) → head ++ rest ≡ text → ((o : Bool) (xs : List ℕ) → mode_line o ++ xs ≡ rest → ⊥) → IsFirstFault text 2
+pub no_mode : (text rest : List ℕ) → head ++ rest ≡ text → ((o : Sought) (xs : List ℕ) → mode_line o ++ xs ≡ rest → ⊥) → IsFirstFault text 2
 no_mode text rest e none = record {
   before = 1;
   numbered = refl;
@@ -369,28 +400,29 @@ no_mode text rest e none = record {
   rest = rest;
   parted = e;
   lines_before = head_line;
-  begins = record { rest = mode_line false ++ codes "0\n"; whole = record { proof = proof_of false [] []; is = record { answers = tt; lines = tt }; same = refl } };
+  begins = record { rest = mode_line All ++ codes "0\n"; whole = record { proof = proof_of All [] []; is = record { answers = tt; lines = tt }; same = refl } };
   with_it = λ bytes after u same b.
       let p = behind_first (bytes ++ 10 ∷ b.rest) (proof_text _ _ (behind_front head bytes b.rest) b.whole) in
-      let h = first_line (mode_word p.0.opt) bytes _ b.rest (word_unbroken p.0.opt) u (sym (mode_break p.0.opt _) ∙ p.2) in
-      none p.0.opt after (mode_break p.0.opt after ∙ ap (λ (t : List ℕ). t ++ 10 ∷ after) h.0 ∙ same);
-  whole = λ t. let p = behind_first rest (proof_text _ _ (sym e) t) in none p.0.opt _ p.2;
+      let h = first_line (mode_word p.0.sought) bytes _ b.rest (word_unbroken p.0.sought) u (sym (mode_break p.0.sought _) ∙ p.2) in
+      none p.0.sought after (mode_break p.0.sought after ∙ ap (λ (t : List ℕ). t ++ 10 ∷ after) h.0 ∙ same);
+  whole = λ t. let p = behind_first rest (proof_text _ _ (sym e) t) in none p.0.sought _ p.2;
 }
 
-two_lines : (o : Bool) → IsLines 2 (front_of (proof_of o [] []))
-two_lines true = record { parts = codes "proof 2" ∷ codes "opt" ∷ []; counted = refl; unbroken = (head_unbroken, (word_unbroken true, tt)); same = refl }
-two_lines false = record { parts = codes "proof 2" ∷ codes "enum" ∷ []; counted = refl; unbroken = (head_unbroken, (word_unbroken false, tt)); same = refl }
+two_lines : (o : Sought) → IsLines 2 (front_of (proof_of o [] []))
+two_lines All = record { parts = codes "proof 2" ∷ codes "enum" ∷ []; counted = refl; unbroken = (head_unbroken, (word_unbroken All, tt)); same = refl }
+two_lines Best = record { parts = codes "proof 2" ∷ codes "opt" ∷ []; counted = refl; unbroken = (head_unbroken, (word_unbroken Best, tt)); same = refl }
+two_lines Optima = record { parts = codes "proof 2" ∷ codes "optima" ∷ []; counted = refl; unbroken = (head_unbroken, (word_unbroken Optima, tt)); same = refl }
 
 pub start_regroup : (h m rest : List ℕ) → ((((h ++ m) ++ []) ++ []) ++ rest) ≡ h ++ (m ++ rest)
 start_regroup h m rest = simp (append_assoc, append-nil)
 
-pub starts : (text body rest : List ℕ) (opt : Bool) → head ++ body ≡ text → mode_line opt ++ rest ≡ body → IsWalked text 2 (proof_of opt [] []) rest
-starts text body rest opt e m = record {
+pub starts : (text body rest : List ℕ) (sought : Sought) → head ++ body ≡ text → mode_line sought ++ rest ≡ body → IsWalked text 2 (proof_of sought [] []) rest
+starts text body rest sought e m = record {
   is = record { answers = tt; lines = tt };
-  parted = start_regroup head (mode_line opt) rest ∙ ap (λ (t : List ℕ). head ++ t) m ∙ e;
-  counted = two_lines opt;
+  parted = start_regroup head (mode_line sought) rest ∙ ap (λ (t : List ℕ). head ++ t) m ∙ e;
+  counted = two_lines sought;
   only = λ more t.
-      let p = behind_first (mode_line opt ++ more) (proof_text _ _ (start_regroup head (mode_line opt) more) t) in
+      let p = behind_first (mode_line sought ++ more) (proof_text _ _ (start_regroup head (mode_line sought) more) t) in
       record {
         more_changes = changes_of p.0.answers;
         more_lines = p.0.lines;
@@ -398,6 +430,7 @@ starts text body rest opt e m = record {
         are_lines =
             p.1.lines;
         in_order = λ lt. absurd (omega (arith, lt));
-        same = behind_mode p.0.opt opt _ more p.2;
+        part = p.0.part;
+        same = behind_mode p.0.sought sought _ more p.2;
       };
 }

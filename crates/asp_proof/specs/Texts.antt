@@ -6,6 +6,8 @@ use Rattle.asp_proof.specs.Changes.{changes_of}
 use Rattle.asp_proof.specs.declared.proof.Line.{Line}
 use Rattle.asp_proof.specs.declared.proof.Line.TheVariants as kind
 use Rattle.asp_proof.specs.declared.proof.Proof.{Proof}
+use Rattle.asp_proof.specs.declared.proof.Sought.{Sought}
+use Rattle.asp_proof.specs.declared.proof.Sought.TheVariants as sought
 
 -- ---- fields, each behind a blank
 
@@ -54,8 +56,14 @@ line_text (kind.Loop place set nogood) = codes "o" ++ loop_fields (place, (set, 
 line_text (kind.Learned place nogood names) = codes "l" ++ learned_fields (place, (nogood, names))
 line_text (kind.Cube literals) = codes "c" ++ literals_fields literals
 
-abbrev pub mode_line : Bool → List ℕ
-mode_line opt = if opt then codes "opt\n" else codes "enum\n"
+abbrev pub mode_line : Sought → List ℕ
+mode_line sought.All = codes "enum\n"
+mode_line sought.Best = codes "opt\n"
+mode_line sought.Optima = codes "optima\n"
+
+-- the last line, where the answers are a part of what was sought, and where they are all of it
+abbrev pub last_word : Bool → List ℕ
+last_word part = if part then codes "p" else codes "0"
 
 abbrev pub text_of : Proof → List ℕ
-text_of p = codes "proof 2\n" ++ mode_line p.opt ++ lines answer_text (changes_of p.answers) ++ lines line_text p.lines ++ codes "0\n"
+text_of p = codes "proof 2\n" ++ mode_line p.sought ++ lines answer_text (changes_of p.answers) ++ lines line_text p.lines ++ line (last_word p.part)

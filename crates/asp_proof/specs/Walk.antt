@@ -1,21 +1,26 @@
 -- A text of which some lines were taken.
-use Rattle.std.specs.Prelude.{◌≡◌, ◌⊎◌, ℕ, ◌<◌, Bool, List, [], ◌∷◌, ◌++◌, length, codes}
+use Rattle.std.specs.Prelude.{◌≡◌, ◌⊎◌, ℕ, ◌<◌, Bool, false, List, [], ◌∷◌, ◌++◌, length, codes}
 use Rattle.std.specs.List.{AllByRecursion}
-use Rattle.asp_proof.specs.Texts.{lines}
+use Rattle.asp_proof.specs.Texts.{line, lines}
 use Rattle.asp_model.specs.Sets.{Atoms}
 use Rattle.asp_proof.specs.declared.proof.Line.{Line}
 use Rattle.asp_proof.specs.declared.proof.Proof.{Proof}
-use Rattle.asp_proof.specs.Texts.{answer_text, line_text, mode_line}
+use Rattle.asp_proof.specs.declared.proof.Sought.{Sought}
+use Rattle.asp_proof.specs.Texts.{answer_text, line_text, mode_line, last_word}
 use Rattle.asp_proof.specs.Changes.{changed, changes_of, last_of}
 use Rattle.asp_proof.specs.Grammar.{IsSet, IsLine, IsProof, IsLines, IsProofText}
 use Rattle.asp_proof.specs.Fields.{IsNone, IsWhole}
 
-abbrev pub proof_of : Bool → List Atoms → List Line → Proof
-proof_of opt answers entries = record { opt = opt; answers = answers; lines = entries }
+abbrev pub proof_of : Sought → List Atoms → List Line → Proof
+proof_of sought answers entries = record { sought = sought; answers = answers; lines = entries; part = false }
 
--- the lines that were taken
+-- the same proof, which says of its answers whether they are a part of what was sought
+abbrev pub ended : Proof → Bool → Proof
+ended p part = record p { part = part }
+
+-- the lines that were taken, and not the last one
 abbrev pub front_of : Proof → List ℕ
-front_of p = codes "proof 2\n" ++ mode_line p.opt ++ lines answer_text (changes_of p.answers) ++ lines line_text p.lines
+front_of p = codes "proof 2\n" ++ mode_line p.sought ++ lines answer_text (changes_of p.answers) ++ lines line_text p.lines
 
 -- what ends a proof's text whose lines so far are these: more answers, if there is no further line yet, more lines, and the last one
 pub record Ends (entries : List Line) (rest : List ℕ) : Type 0 where
@@ -24,7 +29,8 @@ pub record Ends (entries : List Line) (rest : List ℕ) : Type 0 where
   pub are_sets : AllByRecursion IsSet more_changes
   pub are_lines : AllByRecursion IsLine more_lines
   pub in_order : 0 < length entries → more_changes ≡ []
-  pub same : lines answer_text more_changes ++ (lines line_text more_lines ++ codes "0\n") ≡ rest
+  pub part : Bool
+  pub same : lines answer_text more_changes ++ (lines line_text more_lines ++ line (last_word part)) ≡ rest
 
 -- so many lines are the front of a proof's text, and what a proof's text has after them is what may come next
 pub record IsBegun (count : ℕ) (p : Proof) : Type 0 where
@@ -34,7 +40,7 @@ pub record IsBegun (count : ℕ) (p : Proof) : Type 0 where
 
 -- one proof begins as another does
 pub record IsStart (q p : Proof) : Type 0 where
-  pub mode : q.opt ≡ p.opt
+  pub mode : q.sought ≡ p.sought
   pub more_answers : List Atoms
   pub answers : p.answers ≡ q.answers ++ more_answers
   pub more_lines : List Line

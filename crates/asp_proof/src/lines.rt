@@ -1,11 +1,12 @@
 //! A line of a proof, without its line feed.
 ghost use Rattle.std.specs.Prelude.{◌≡◌, ◌∷◌, Bool, IfOk, MatchBool, MatchOption, codes};
+ghost use Rattle.asp_proof.specs.declared.proof.Sought.{Sought};
 ghost use Rattle.asp_proof.specs.Grammar.{Both, IsSet, IsNogood, ArePlaces, IsLoopSet, IsLoop, IsLearned, IsLine};
-ghost use Rattle.asp_proof.specs.Texts.{natural_field, counted_fields, atoms_fields, literals_fields, two_fields, loop_fields, learned_fields, answer_text, line_text, mode_line, line as with_feed};
+ghost use Rattle.asp_proof.specs.Texts.{natural_field, counted_fields, atoms_fields, literals_fields, two_fields, loop_fields, learned_fields, answer_text, line_text, mode_line, last_word, line as with_feed};
 ghost use Rattle.asp_proof.specs.Fields.{IsAt, IsMissing, IsNone, IsWhole};
 
 use crate::fields::{after, atoms, literals, natural, places};
-use crate::proof::Line;
+use crate::proof::{Line, Sought};
 use asp_model::interp::Interp;
 use asp_model::seq::Seq;
 use std::alloc::{AllocError, Global};
@@ -17,22 +18,31 @@ pub fn is_head(line: &[u8]) -> bool
     line == b"proof 2".as_slice()
 }
 
-/// Whether a proof ends with this line.
-pub fn is_last(line: &[u8]) -> bool
-    ensures { MatchBool result (line.now ≡ codes "0") (line.now ≡ codes "0" → ⊥) }
+/// Whether the answers of a proof that ends with this line are a part of what was sought. None where no proof ends with it.
+pub fn last(line: &[u8]) -> Option<bool>
+    ensures { MatchOption result ((part : Bool) → line.now ≡ last_word part → ⊥) (λ part. line.now ≡ last_word part) }
 {
-    line == b"0".as_slice()
-}
-
-/// Whether one answer that none betters is sought, by the line that says so.
-pub fn mode(line: &[u8]) -> Option<bool>
-    ensures { MatchOption result ((opt : Bool) → mode_line opt ≡ with_feed line.now → ⊥) (λ opt. mode_line opt ≡ with_feed line.now) }
-{
-    if line == b"enum".as_slice() {
+    if line == b"0".as_slice() {
         return Some(false);
     }
-    if line == b"opt".as_slice() {
+    if line == b"p".as_slice() {
         return Some(true);
+    }
+    None
+}
+
+/// Which answers are sought, by the line that says so.
+pub fn mode(line: &[u8]) -> Option<Sought>
+    ensures { MatchOption result ((sought : Sought) → mode_line sought ≡ with_feed line.now → ⊥) (λ sought. mode_line sought ≡ with_feed line.now) }
+{
+    if line == b"enum".as_slice() {
+        return Some(Sought::All);
+    }
+    if line == b"opt".as_slice() {
+        return Some(Sought::Best);
+    }
+    if line == b"optima".as_slice() {
+        return Some(Sought::Optima);
     }
     None
 }

@@ -6,10 +6,10 @@ ghost use Rattle.asp_model.specs.Sets.{IsAscending};
 ghost use Rattle.asp_proof.specs.Changes.{changed, changes_of};
 ghost use Rattle.asp_proof.specs.Texts.{natural_field, integer_field, counted_fields, line, lines};
 ghost use Rattle.asp_buffer.specs.Out.{Puts, out};
-ghost use Rattle.asp_proof.specs.Texts.{atoms_fields, literals_fields, loop_fields, learned_fields, answer_text, line_text, mode_line, text_of};
+ghost use Rattle.asp_proof.specs.Texts.{atoms_fields, literals_fields, loop_fields, learned_fields, answer_text, line_text, mode_line, last_word, text_of};
 
 use crate::changes::{Turn, count_changed, first_of};
-use crate::proof::{Line, Proof};
+use crate::proof::{Line, Proof, Sought};
 use asp_buffer::{Waiting, flush, put, put_number};
 use asp_io::{Failed, Sink};
 use asp_model::interp::Interp;
@@ -274,10 +274,20 @@ fn put_lines<K: Sink>(sink: &mut K, waiting: &mut Waiting, entries: &[Line]) -> 
     Ok(())
 }
 
-fn mode_line(opt: bool) -> &'static [u8]
-    ensures { result.now ≡ mode_line opt }
+fn mode_line(sought: Sought) -> &'static [u8]
+    ensures { result.now ≡ mode_line sought }
 {
-    if opt { b"opt\n" } else { b"enum\n" }
+    match sought {
+        Sought::All => b"enum\n",
+        Sought::Best => b"opt\n",
+        Sought::Optima => b"optima\n",
+    }
+}
+
+fn last_line(part: bool) -> &'static [u8]
+    ensures { result.now ≡ line (last_word part) }
+{
+    if part { b"p\n" } else { b"0\n" }
 }
 
 fn put_proof<K: Sink>(sink: &mut K, waiting: &mut Waiting, proof: &Proof) -> Result<(), Failed>
@@ -285,10 +295,10 @@ fn put_proof<K: Sink>(sink: &mut K, waiting: &mut Waiting, proof: &Proof) -> Res
         (out (K.held sink.new) (K.faults sink.new) waiting.new) result (text_of proof.now) }
 {
     put(sink, waiting, b"proof 2\n")?;
-    put(sink, waiting, mode_line(proof.opt))?;
+    put(sink, waiting, mode_line(proof.sought))?;
     put_answers(sink, waiting, proof.answers.as_slice())?;
     put_lines(sink, waiting, proof.lines.as_slice())?;
-    put(sink, waiting, b"0\n")
+    put(sink, waiting, last_line(proof.part))
 }
 
 /// Writes the text of a proof. It takes no memory. After an error a front of the text is out.

@@ -65,6 +65,13 @@ impl Recorder {
         }
     }
 
+    /// Forgets all that was written down: from now on it is as new.
+    pub fn clear(&self) {
+        self.lines.set(None);
+        self.places.set(None);
+        self.waiting.set(None);
+    }
+
     // The lines so far, which are to be put back. None before the first.
     pub(crate) fn take(&self) -> Option<Vec<Line>> {
         self.lines.take()

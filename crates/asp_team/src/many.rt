@@ -1,5 +1,5 @@
 //! A run of many workers.
-ghost use Rattle.std.specs.Prelude.{◌≡◌, ℕ, ◌^◌, ◌<◌, ◌≤◌, Bool, List, ◌++◌, true, false, length, None, Some, IfOk, OnOk};
+ghost use Rattle.std.specs.Prelude.{◌≡◌, ℕ, ◌^◌, ◌<◌, ◌≤◌, Bool, List, ◌++◌, true, length, None, Some, IfOk, OnOk};
 ghost use Rattle.asp_vault.specs.Seats.{view};
 ghost use Rattle.asp_book.specs.Books.{board};
 ghost use Rattle.asp_core.specs.declared.event.Event.{Event};
@@ -26,7 +26,7 @@ use asp_counts::counts::Counts;
 use asp_counts::tallies::{Tallies, WorkerCounts, sum_of};
 use asp_counts::watch::Watch;
 use asp_crew::finish::finish_program;
-use asp_crew::proofs::with_proof;
+use asp_crew::proofs::with_ties_and_proof;
 use asp_crew::reported::reported;
 use asp_crew::ties::with_ties;
 use asp_crew_laws::report::Report;
@@ -52,7 +52,7 @@ pub struct Plan {
     pub workers: u32,
     /// How many units there are for all of them.
     pub budget: u64,
-    /// Whether the proof of a finished run is wanted. All optima are not asked for then.
+    /// Whether a proof is wanted, of a run that is finished or found as many answers as were asked for.
     pub proof: bool,
     /// Whether several workers tell one another nogoods by a row of slots, in place of blocks under a lock.
     pub row: bool,
@@ -205,7 +205,7 @@ fn ended<W: Watch>(
     }
 }
 
-// The same, with the proof if one is wanted, and else a second search where all optima are asked for.
+// The same, with a second search where all optima are asked for, and with a proof if one is wanted.
 fn finished<W: Watch>(
     alloc: Global,
     compiled: &Compiled,
@@ -221,7 +221,6 @@ fn finished<W: Watch>(
     requires home { (n : ℕ) → 0 < n → n ≤ (view lead.seat).splits → IsHome (view lead.seat) n }
     requires some { 0 < (view lead.seat).splits }
     requires about { (view lead.seat).about ≡ Some (task_of compiled.now plan.ask plan.budget) }
-    requires apart { plan.proof ≡ true → plan.ask.all_optima ≡ false }
     ensures report { IfOk result (IsReport compiled.now plan.ask plan.budget) }
     ensures proof { IfOk result (HasProof plan.proof) }
     ensures core { IfOk result (HasCore compiled.now) }
@@ -231,10 +230,26 @@ fn finished<W: Watch>(
 {
     let (report, recorder) = ended(alloc, compiled, plan, shared, lead, deeds, watch)?;
     if plan.proof {
-        with_proof(alloc, report, recorder)
+        with_ties_and_proof(
+            alloc,
+            compiled,
+            plan.ask,
+            report,
+            recorder,
+            &mut deeds.sum,
+            watch,
+        )
     } else {
         mem::drop(recorder);
-        with_ties(alloc, compiled, plan.ask, report, &mut deeds.sum, watch)
+        with_ties(
+            alloc,
+            compiled,
+            plan.ask,
+            report,
+            &mut deeds.sum,
+            watch,
+            None,
+        )
     }
 }
 
@@ -251,7 +266,6 @@ fn worked<R: Threads + Wait + Sync, G: Gate + Sync, H: Halt + Sync, W: Watch + D
 ) -> (Result<Report, AllocError>, W)
     requires team { IsTeam compiled.now plan.ask plan.budget team }
     requires some { 0 < length team.workers.items }
-    requires apart { plan.proof ≡ true → plan.ask.all_optima ≡ false }
     ensures report { IfOk result.0 (IsReport compiled.now plan.ask plan.budget) }
     ensures proof { IfOk result.0 (HasProof plan.proof) }
     ensures core { IfOk result.0 (HasCore compiled.now) }
@@ -290,7 +304,6 @@ pub fn solve_with<R: Threads + Wait + Sync, G: Gate + Sync, H: Halt + Sync, W: W
     watch: W,
 ) -> (Result<Report, AllocError>, W)
     requires count { (1 ≤ plan.workers) × (plan.workers ≤ 64) }
-    requires apart { plan.proof ≡ true → plan.ask.all_optima ≡ false }
     ensures report { IfOk result.0 (IsReport compiled.now plan.ask plan.budget) }
     ensures proof { IfOk result.0 (HasProof plan.proof) }
     ensures core { IfOk result.0 (HasCore compiled.now) }
@@ -312,7 +325,7 @@ pub fn solve_with<R: Threads + Wait + Sync, G: Gate + Sync, H: Halt + Sync, W: W
     }
 }
 
-/// A run of so many workers, 1 to 64, none of whom is stopped. A proof and all optima are not asked for together.
+/// A run of so many workers, 1 to 64, none of whom is stopped.
 pub fn solve<R: Threads + Wait + Sync, G: Gate + Sync, W: Watch + Drop>(
     rt: &R,
     alloc: Global,
@@ -323,7 +336,6 @@ pub fn solve<R: Threads + Wait + Sync, G: Gate + Sync, W: Watch + Drop>(
     watch: W,
 ) -> (Result<Report, AllocError>, W)
     requires count { (1 ≤ plan.workers) × (plan.workers ≤ 64) }
-    requires apart { plan.proof ≡ true → plan.ask.all_optima ≡ false }
     ensures report { IfOk result.0 (IsReport compiled.now plan.ask plan.budget) }
     ensures proof { IfOk result.0 (HasProof plan.proof) }
     ensures core { IfOk result.0 (HasCore compiled.now) }

@@ -578,7 +578,7 @@ wrote given a report end model Tells is_sent plain telling w sent =
     let s = w.solved.says in
     let R = with_known s.known told in
     let mode = mode_of given.mode p in
-    let none : done.proof ≡ None = no-proof done.results.end done.results done.proof (subst (λ wanted. HasProof wanted done) plain w.solved.proof) in
+    let none : done.proof ≡ None = no-proof done.results.end (is_some done.second) done.results done.proof (subst (λ wanted. HasProof wanted done) plain w.solved.proof) in
     let same : report_text q told (layout_of given) ≡ text_for given.form given q (found mode end R.results.answers R.results.best R.results.known) =
     ap (λ proof. text_by proof q told.results (layout_of given)) none ∙ text-of given.form q told.results (is_brief given) given.names mode end w.solved.is.mode_is w.end_is
     ∙ text-same given.form given.names (is_brief given) q mode end told.results.answers told.results.best told.results.known s.known (is_named given)

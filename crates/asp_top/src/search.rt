@@ -124,7 +124,6 @@ fn solved_by_crew<R: Threads + Wait + Sync, G: Gate + Sync, W: Watch + Drop>(
     watch: W,
 ) -> (Result<Report, AllocError>, W)
     requires crew { IsCrew options.now.workers }
-    requires apart { options.now.proof ≡ true → ask.all_optima ≡ false }
     ensures report { IfOk result.0 (IsReport compiled.now ask options.now.budget) }
     ensures proof { IfOk result.0 (HasProof options.now.proof) }
     ensures workers { OnOk result.0 (AreNumbered options.now.workers deeds.new.workers.items) }

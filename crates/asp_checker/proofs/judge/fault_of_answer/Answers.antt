@@ -13,5 +13,12 @@ returns-then-not-are_atoms c = (c.if-not-is_in_order.ensures.yes refl, sym c.if-
 pub returns-then-not-member : goal.returns-then-not-member
 returns-then-not-member c = (c.if-not-is_in_order.ensures.yes refl, sym c.if-not-are_atoms.ensures, c.in_ok-member.ensures.no c.if-not-member.true)
 
+pub returns-then-not-alike : goal.returns-then-not-alike
+returns-then-not-alike c = (c.if-not-is_in_order.ensures.yes refl, c.in_ok-member.ensures.yes c.if-not-member.false, c.in_ok-alike.ensures.no c.if-not-alike.true)
+
 pub returns : goal.returns
-returns c = record { order = c.if-not-is_in_order.ensures.yes refl; member = c.in_ok-member.ensures.yes c.if-not-member.false }
+returns c = record {
+  order = c.if-not-is_in_order.ensures.yes refl;
+  member = c.in_ok-member.ensures.yes c.if-not-member.false;
+  alike = c.in_ok-alike.ensures.yes c.if-not-alike.false;
+}

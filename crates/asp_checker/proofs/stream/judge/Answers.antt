@@ -18,7 +18,7 @@ returns-then-not-next-clause-says g c =
 pub returns-in-Some-clause-says : goal.returns-in-Some-clause-says
 returns-in-Some-clause-says g c =
     head_goes c.args.compiled.now (g.S.Source.left c.args.source.now) (g.S.Source.left c.next_line.new.source) c.args.reader.now
-    c.next_line.new.reader c.in-Some.opt c.judge_body.result c.requires.head (rw c.if-not-next.false at c.in_ok-next.ensures.next)
+    c.next_line.new.reader c.in-Some.sought c.judge_body.result c.requires.head (rw c.if-not-next.false at c.in_ok-next.ensures.next)
     (rw c.line.ensures at c.in-Some.ensures) c.judge_body.ensures.says
 
 pub returns-in-None-clause-says : goal.returns-in-None-clause-says

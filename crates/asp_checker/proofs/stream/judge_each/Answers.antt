@@ -20,14 +20,14 @@ lines-init g c =
       of = c.requires.kept;
       of_placed = rw c.requires.placed tt;
       root = subst (λ (Ss : List Atoms). IsRoot p (known_with p Ss c.args.rows.now.kept.items c.args.bound.now) c.args.values.now) (sym c.avoided-listed.ensures) c.requires.root;
-      so_far = so_far_first p c.args.opt c.args.answers.now k (g.S.Source.left c.args.source.now) c.args.reader.now c.requires.begun c.requires.unbroken c.requires.no_answer;
+      so_far = so_far_first p c.args.sought c.args.answers.now k (g.S.Source.left c.args.source.now) c.args.reader.now c.requires.begun c.requires.unbroken c.requires.no_answer;
       quiet = refl;
     }
 
 pub returns-in_err-came_to-clause-says : goal.returns-in_err-came_to-clause-says
 returns-in_err-came_to-clause-says g c =
     let p = err_from_is_err_and c.from_residual.result c.from_residual.ensures.1 in
-    rw (p.1, p.2) (no_memory c.args.compiled.now (g.S.Source.left c.args.source.now) (front_of (proof_of c.args.opt c.args.answers.now []) ++ held c.args.reader.now))
+    rw (p.1, p.2) (no_memory c.args.compiled.now (g.S.Source.left c.args.source.now) (front_of (proof_of c.args.sought c.args.answers.now []) ++ held c.args.reader.now))
 
 pub judge_last-requires-clause-last : goal.judge_last-requires-clause-last
 judge_last-requires-clause-last g c = rw (c.in-Last.is, c.line-bytes.ensures) at c.in_ok-came_to.ensures
@@ -42,7 +42,7 @@ returns-in-Last-clause-says g c =
     (ap (λ (Ss : List Atoms). known_with p Ss c.args.rows.now.kept.items c.args.bound.now) c.avoided-listed.ensures ∙ c.requires.known)
     c.requires.placed in
     let number = length c.args.answers.now + c.lines.at + 3 in
-    so_far_last p c.args.opt c.args.answers.now k known c.lines.whole c.lines.at number (g.S.Source.left c.args.source.now)
+    so_far_last p c.args.sought c.args.answers.now k known c.lines.whole c.lines.at number (g.S.Source.left c.args.source.now)
     (g.S.Source.left c.lines.source) _ c.lines.reader c.judge_last.result c.requires.sound c.requires.right at_first refl c.lines.invariant.so_far
     c.judge_last.ensures.says
 
@@ -57,7 +57,7 @@ returns-in-Refused-clause-says g c =
     c.requires.placed in
     let number = length c.args.answers.now + c.lines.at + 3 in
     let h = rw (c.in-Refused.is, c.line-bytes.ensures) at c.in_ok-came_to.ensures in
-    rw c.refused.ensures (so_far_refused p c.args.opt c.args.answers.now k known c.lines.whole c.lines.at number (g.S.Source.left c.args.source.now)
+    rw c.refused.ensures (so_far_refused p c.args.sought c.args.answers.now k known c.lines.whole c.lines.at number (g.S.Source.left c.args.source.now)
     (g.S.Source.left c.lines.source) _ c.lines.reader c.requires.right at_first c.lines.invariant.so_far h.0 h.1 refl)
 
 pub returns-in-Wrong-clause-says : goal.returns-in-Wrong-clause-says
@@ -71,7 +71,7 @@ returns-in-Wrong-clause-says g c =
     c.requires.placed in
     let number = length c.args.answers.now + c.lines.at + 3 in
     let h = rw (c.in-Wrong.is, c.line-bytes.ensures) at c.in_ok-came_to.ensures in
-    so_far_wrong p c.args.opt c.args.answers.now k known c.lines.whole c.lines.at number (g.S.Source.left c.args.source.now)
+    so_far_wrong p c.args.sought c.args.answers.now k known c.lines.whole c.lines.at number (g.S.Source.left c.args.source.now)
     (g.S.Source.left c.lines.source) _ c.lines.reader h.0 c.in-Wrong.why c.requires.right at_first c.lines.invariant.so_far h.1 h.2 refl
 
 pub returns-in_err-next-clause-says : goal.returns-in_err-next-clause-says
@@ -81,7 +81,7 @@ returns-in_err-next-clause-says g c =
     let known = stock (known_with p c.avoided-listed.result.now c.lines.rows.kept.items c.args.bound.now) c.lines.rows.placed.items in
     let h = rw (c.in-Right.is, c.line-bytes.ensures) at c.in_ok-came_to.ensures in
     let e = err_from_is_err_and c.from_residual-in_err-next.result c.from_residual-in_err-next.ensures.1 in
-    rw (e.1, e.2) (so_far_failed p c.args.opt c.args.answers.now k known c.lines.whole c.lines.at (g.S.Source.left c.args.source.now)
+    rw (e.1, e.2) (so_far_failed p c.args.sought c.args.answers.now k known c.lines.whole c.lines.at (g.S.Source.left c.args.source.now)
     (g.S.Source.left c.lines.source) (g.S.Source.left c.next_line.new.source) _ c.lines.reader c.next_line.new.reader h.0
     c.in_err-next.field-0.0 c.lines.invariant.so_far h.1 c.in_err-next.ensures.next)
 
@@ -103,7 +103,7 @@ returns-then-not-next-clause-says g c =
     c.requires.placed in
     let number = length c.args.answers.now + c.lines.at + 3 in
     let h = rw (c.in-Right.is, c.line-bytes.ensures) at c.in_ok-came_to.ensures in
-    rw c.refused-then-not-next.ensures (so_far_broken p c.args.opt c.args.answers.now k known c.lines.whole c.lines.at number
+    rw c.refused-then-not-next.ensures (so_far_broken p c.args.sought c.args.answers.now k known c.lines.whole c.lines.at number
     (g.S.Source.left c.args.source.now) (g.S.Source.left c.lines.source) (g.S.Source.left c.next_line.new.source) _ c.lines.reader
     c.next_line.new.reader h.0 c.requires.right at_first c.lines.invariant.so_far h.1 h.2.literals h.2.confirmed refl
     (rw c.if-not-next.true at c.in_ok-next.ensures.next))
@@ -119,7 +119,7 @@ lines-preserved g c =
       of = h.2.of;
       of_placed = h.2.of_placed;
       root = h.2.root;
-      so_far = so_far_next p c.args.opt c.args.answers.now k known now c.lines.whole c.in-Right.closing c.either-whole.result c.lines.at
+      so_far = so_far_next p c.args.sought c.args.answers.now k known now c.lines.whole c.in-Right.closing c.either-whole.result c.lines.at
           (g.S.Source.left c.args.source.now) (g.S.Source.left c.lines.source) (g.S.Source.left c.next_line.new.source) _ c.lines.reader
           c.next_line.new.reader h.0 c.lines.invariant.so_far h.1 h.2.literals h.2.confirmed h.2.known h.2.closing_is c.either-whole.ensures
           (rw c.if-not-next.false at c.in_ok-next.ensures.next);
@@ -127,4 +127,4 @@ lines-preserved g c =
     }
 
 pub returns-clause-says : goal.returns-clause-says
-returns-clause-says g c = no_memory c.args.compiled.now (g.S.Source.left c.args.source.now) (front_of (proof_of c.args.opt c.args.answers.now []) ++ held c.args.reader.now)
+returns-clause-says g c = no_memory c.args.compiled.now (g.S.Source.left c.args.source.now) (front_of (proof_of c.args.sought c.args.answers.now []) ++ held c.args.reader.now)

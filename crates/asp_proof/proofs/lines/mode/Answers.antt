@@ -6,3 +6,4 @@ pub returns : goal.returns
 returns c = no_word c.args.line.now
     (rw c.if-eq.false at (last_or_not c.eq.result c.args.line.now c.as_slice.result.now _ c.eq.ensures c.as_slice.ensures))
     (rw c.if-eq-2.false at (last_or_not c.eq-2.result c.args.line.now c.as_slice-2.result.now _ c.eq-2.ensures c.as_slice-2.ensures))
+    (rw c.if-eq-3.false at (last_or_not c.eq-3.result c.args.line.now c.as_slice-3.result.now _ c.eq-3.ensures c.as_slice-3.ensures))

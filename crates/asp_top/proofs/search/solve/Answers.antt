@@ -27,4 +27,4 @@ returns-in-Ok-clause-counted g c = counted-by _ c.layout_of.result c.program-pro
 })
 
 pub solve_alone-requires : goal.solve_alone-requires
-solve_alone-requires g c = λ e. rw c.ask_of-ask.ensures ((c.requires e).0, unsought c.args.options.now.mode _ (c.requires e).1)
+solve_alone-requires g c = λ e. rw c.ask_of-ask.ensures (unsought c.args.options.now.mode _ (c.requires e))

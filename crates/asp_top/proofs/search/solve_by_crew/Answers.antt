@@ -1,4 +1,4 @@
-use Rattle.std.proofs.Common.{◌≡◌, ◌∙◌, false, ap, length, subst, sym}
+use Rattle.std.proofs.Common.{◌∙◌, ap, length, subst, sym}
 use Rattle.std.specs.Prelude.{IfSome}
 use Rattle.asp_model.specs.declared.program.Program.{Program}
 use Rattle.asp_model.specs.declared.results.Ask.{Ask}
@@ -30,6 +30,3 @@ returns-in-Ok-clause-counted g c = counted-by _ c.layout_of.result c.program-pro
   numbered = subst (AreNumbered c.args.options.now.workers) (sym c.of.ensures.workers)
       (from-ok (λ _. AreNumbered c.args.options.now.workers c.solved_by_crew-solved.new.deeds.workers.items) _ c.in-Ok.report c.in-Ok.is c.solved_by_crew-solved.ensures.workers);
 })
-
-pub solved_by_crew-solved-requires-clause-apart : goal.solved_by_crew-solved-requires-clause-apart
-solved_by_crew-solved-requires-clause-apart g c = λ lifetimes outlives e. subst (λ (a : Ask). a.all_optima ≡ false) (sym c.ask_of-ask.ensures) (c.requires.apart e).0
