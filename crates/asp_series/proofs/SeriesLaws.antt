@@ -36,7 +36,7 @@ use Rattle.asp_series.specs.Asking.{AsksOn, Breaks, CloseMeans, Ends, IsAt, IsAt
 use Rattle.asp_prepare.specs.Meaning.{has_model, mode_of}
 use Rattle.asp_prepare.specs.Naming.{asked, searched, set_aside}
 use Rattle.asp_prepare.specs.Told.{found_with}
-use Rattle.asp_series.specs.Series.{Answered, AreAnswered, Asks, EndsAs, IsAnsweredBy, IsSentOn, IsWrittenOf, TellsFaults, about, all_done, answered_text, any_model, closing_in, end_by, is_done, is_open, is_refuted, models_of, opening_in, query_in, series_text, sums_of, whole_text}
+use Rattle.asp_series.specs.Series.{Answered, AreAnswered, Asks, EndsAs, IsAnsweredBy, IsSentOn, IsWrittenOf, TellsClosed, TellsFaults, about, all_done, answered_text, any_model, closing_in, end_by, is_done, is_open, is_refuted, models_of, opening_in, query_in, series_text, sums_of, whole_text}
 use Rattle.asp_series.proofs.AskLaws.{listed-of, plain, says-of}
 use Rattle.asp_prepare.proofs.ToldLaws.{listed-entry, listed-text}
 
@@ -302,6 +302,34 @@ closed-asks given s held held' held'' w w' w'' c mode (WriteFault closed) throug
       cause = subst (λ (n : ℕ). Rose n w'') at.quiet means.1;
     }
 closed-asks given s held held' held'' w w' w'' c mode end through is means = ended given s held held' held'' w w' w'' c mode end through is means
+
+-- what stands after the last query was written
+pub closing-means : (form : Form) (mode : Mode) (c : Course) (sums : Sums) (held held' : Option (List ℕ)) (w w' : ℕ) (end : SeriesEnd) → sums ≡ sums_at mode c
+    → end ≡ end_of c.done c.any → Appends held held' (closing_in form sums) → w' ≡ w → CloseMeans form mode c held held' w w' end
+closing-means form mode c sums held held' w w' end same is text quiet =
+    subst (CloseMeans form mode c held held' w w') (sym is) (by c.done c.any refl refl)
+  where
+    written : Appends held held' (closing_in form (sums_at mode c))
+    written = subst (λ (x : Sums). Appends held held' (closing_in form x)) same text
+
+    so : (done any : Bool) → done ≡ c.done → any ≡ c.any → end_of done any ≡ end_of c.done c.any
+    so done any p q = ap (λ (b : Bool). end_of b any) p ∙ ap (λ (b : Bool). end_of c.done b) q
+
+    by : (done any : Bool) → done ≡ c.done → any ≡ c.any → CloseMeans form mode c held held' w w' (end_of done any)
+    by true true p q = (so true true p q, written, quiet)
+    by true false p q = (so true false p q, written, quiet)
+    by false true p q = (so false true p q, written, quiet)
+    by false false p q = (so false false p q, written, quiet)
+
+-- it doesn't say that the sink failed
+pub closing-closed : (done any : Bool) (end : SeriesEnd) (is_closed : Bool) → end ≡ end_of done any → TellsClosed end is_closed
+closing-closed done any end is_closed is = subst (λ (e : SeriesEnd). TellsClosed e is_closed) (sym is) (by done any)
+  where
+    by : (done any : Bool) → TellsClosed (end_of done any) is_closed
+    by true true = tt
+    by true false = tt
+    by false true = tt
+    by false false = tt
 
 -- ---- the whole series
 -- the text after the opening is all that is left of the whole

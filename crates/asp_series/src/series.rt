@@ -124,25 +124,11 @@ fn write_query<K: Sink>(
     ensures { Writes (K.held sink.old) (K.held sink.new) (K.faults sink.old) (K.faults sink.new) result
         (query_in options.now.form options.now program.now query.entry.outputs.now query.entry.number results.now (option_map (λ core. core.now) query.entry.core) query.entry.minimal) }
 {
+    let brief = options.quiet;
+    let names = options.names;
     match options.form {
-        Form::Text => print_query(
-            alloc,
-            sink,
-            program,
-            query,
-            results,
-            options.quiet,
-            options.names,
-        ),
-        Form::Json => print_entry(
-            alloc,
-            sink,
-            program,
-            query,
-            results,
-            options.quiet,
-            options.names,
-        ),
+        Form::Text => print_query(alloc, sink, program, query, results, brief, names),
+        Form::Json => print_entry(alloc, sink, program, query, results, brief, names),
     }
 }
 
