@@ -50,9 +50,9 @@ _aspenum() {
             --split) given+=(--mode --models --opt-all --workers --log --budget --output --quiet --names --proof --queries --core-min --stats --progress) ;;
             --opt-all) given+=(--split --queries) ;;
             --quiet) given+=(--split --proof) ;;
-            --output) given+=(--split --proof --make --queries) ;;
+            --output) given+=(--split --proof --make) ;;
             --make) given+=(--output --queries) ;;
-            --queries) given+=(--split --proof --opt-all --output --make --models --stats) ;;
+            --queries) given+=(--split --proof --opt-all --make --models --stats) ;;
             --models | --stats) given+=(--split --queries) ;;
             --mode | --workers | --log | --budget | --names | --core-min | --progress) given+=(--split) ;;
         esac

@@ -33,6 +33,8 @@ for text in examples/*.aspif examples/*.smodels examples/*.series; do
     status=30
     grep -q UNSATISFIABLE "$expected" && ! grep -qx SATISFIABLE "$expected" && status=20
     grep -q 'LIMIT REACHED' "$expected" && status=11
+    # the last line of JSON tells how all of it ended
+    case $words in *json*) tail -n 1 "$expected" | grep -q '"Result":"UNSATISFIABLE"' && status=20 || status=30 ;; esac
     # shellcheck disable=SC2086
     "$program" $words < "$text" > "$given" 2> "$notes"
     check "$text" "$status" "$expected" "$?" "$given"

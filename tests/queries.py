@@ -7,15 +7,17 @@ Each program has five queries. What is written for a query has to be what the re
 query's literals assumed; in an optimisation the closing lines, cost and count. There has to be a core exactly where there is
 no answer: some of the program's assumptions and the query's literals, by ascending atoms and each once, such that the program
 without its own assumptions and with these has no answer. A core that is called minimal must have answers without each of its
-literals, and with --core-min each has to be. Before that one series is asked whose second query has no end for a test: the first
+literals, and with --core-min each has to be. As JSON, with names or without, each series has to say what the lines say. Before that one series is asked whose second query has no end for a test: the first
 one's results have to be there.
 """
+import json
 import random
 import subprocess
 import sys
 import threading
 
 import compare
+import json_output
 import reference
 
 
@@ -68,6 +70,38 @@ def pieces(whole):
     return [piece.partition("\n") for piece in found[1:]]
 
 
+def lines_of(told):
+    """The text that says what the JSON says of each query."""
+    lines = []
+    for entry in told["Call"]:
+        alone = {"Call": [entry], "Models": entry["Models"], "Result": entry["Result"]}
+        lines += [f"Query: {entry['Query']}\n", json_output.lines_of(alone, 10, False)]
+        if "Core" in entry:
+            word = {"yes": "Minimal core:", "unknown": "Core:"}[entry["Minimal"]]
+            lines.append("".join([word, *(f" {literal}" for literal in entry["Core"]), "\n"]))
+    return "".join(lines)
+
+
+def sums_fault(told, status):
+    """What the JSON says of all queries together, and isn't so."""
+    models = [entry["Models"] for entry in told["Call"]]
+    more = any(one["More"] == "yes" for one in models)
+    words = {30: ("SATISFIABLE", "OPTIMUM FOUND"), 20: ("UNSATISFIABLE",), 10: ("SATISFIABLE",), 1: ("UNKNOWN",)}
+    if told["Calls"] != len(models) or told["Models"] != {"Number": sum(one["Number"] for one in models), "More": "yes" if more else "no"}:
+        return "sums"
+    return None if told["Result"] in words[status] and more == (status in (1, 10)) else "result"
+
+
+def json_differs(words, source):
+    """Whether the JSON of a series and its lines say different things."""
+    plain = compare.run(words, source)
+    made = compare.run([*words, "--output", "json"], source)
+    told = json.loads(made.stdout)
+    if (made.returncode, lines_of(told)) != (plain.returncode, plain.stdout.decode()):
+        return f"as JSON {made.stdout!r}, {plain.stdout!r}"
+    return sums_fault(told, made.returncode)
+
+
 def differs(program, text, asked, mode):
     words = ["--mode", mode, "--queries"]
     source = text + "".join(map(statement, asked)) + "0\n"
@@ -94,7 +128,7 @@ def differs(program, text, asked, mode):
                 return f"query {number}: {cores[0]}: {fault}"
     if done.returncode != (30 if any_model else 20):
         return f"status {done.returncode}"
-    return None
+    return next(filter(None, (json_differs(program + words + more, source) for more in ([], ["--names"], ["--budget", "3"], ["--quiet"]))), None)
 
 
 def pigeons(count):

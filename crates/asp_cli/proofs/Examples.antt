@@ -443,10 +443,10 @@ queries_of_a_ring = refl
 queries_of_parts : words_give (codes "aspenum" ∷ codes "--queries" ∷ codes "--split=2" ∷ []) ≡ misuse (rivals Queries Split)
 queries_of_parts = refl
 
-queries_as_json : words_give (codes "aspenum" ∷ codes "--queries" ∷ codes "--output=json" ∷ []) ≡ misuse (rivals Queries Output)
+queries_as_json : words_give (codes "aspenum" ∷ codes "--queries" ∷ codes "--output=json" ∷ []) ≡ options (record standard { queries = true; form = Json })
 queries_as_json = refl
 
-json_of_queries : words_give (codes "aspenum" ∷ codes "--output=json" ∷ codes "--queries" ∷ []) ≡ misuse (rivals Output Queries)
+json_of_queries : words_give (codes "aspenum" ∷ codes "--output=json" ∷ codes "--queries" ∷ []) ≡ options (record standard { queries = true; form = Json })
 json_of_queries = refl
 
 counts_of_queries : words_give (codes "aspenum" ∷ codes "--queries" ∷ codes "--stats" ∷ []) ≡ misuse (rivals Queries Stats)

@@ -176,9 +176,9 @@ fn rivals_of(name: Name) -> &'static [Name]
         ],
         Name::OptAll => &[Name::Split, Name::Queries],
         Name::Quiet => &[Name::Proof, Name::Split],
-        Name::Output => &[Name::Make, Name::Proof, Name::Split, Name::Queries],
+        Name::Output => &[Name::Make, Name::Proof, Name::Split],
         Name::Make => &[Name::Output],
-        Name::Queries => &[Name::Proof, Name::OptAll, Name::Output, Name::Stats],
+        Name::Queries => &[Name::Proof, Name::OptAll, Name::Stats],
         Name::Stats => &[Name::Split, Name::Queries],
         Name::Split => &[
             Name::Mode,

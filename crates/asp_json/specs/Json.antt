@@ -111,11 +111,15 @@ abbrev pub result_text : Found → ℕ → List ℕ
 result_text r k = codes ",\"Result\":\"" ++ result_word r.end r.mode k ++ codes "\""
 
 abbrev pub models_text : Found → ℕ → List ℕ
-models_text r k = codes ",\"Models\":{\"Number\":" ++ decimal k ++ codes ",\"More\":\"" ++ more r.end ++ codes "\"" ++ best_text r.mode r k ++ codes "}}\n"
+models_text r k = codes ",\"Models\":{\"Number\":" ++ decimal k ++ codes ",\"More\":\"" ++ more r.end ++ codes "\"" ++ best_text r.mode r k ++ codes "}"
+
+-- what is said of the run, and of the answers together
+abbrev pub summary_text : Found → List (List ℕ) → ℕ → List ℕ
+summary_text r texts k = known_text r.mode r texts ++ result_text r k ++ models_text r k
 
 -- what follows the answers
 abbrev pub closing_text : Found → List (List ℕ) → ℕ → List ℕ
-closing_text r texts k = known_text r.mode r texts ++ result_text r k ++ models_text r k
+closing_text r texts k = summary_text r texts k ++ codes "}\n"
 
 -- with these texts where consequences are told
 abbrev pub json_with : Program → Found → List (List ℕ) → Bool → List ℕ

@@ -409,8 +409,8 @@ fn put_bests<K: Sink>(
     }
 }
 
-// Puts out the answers that were recorded.
-fn put_found<K: Sink>(
+/// Puts out the answers that were recorded.
+pub(crate) fn put_found<K: Sink>(
     alloc: Global,
     sink: &mut K,
     waiting: &mut Waiting,

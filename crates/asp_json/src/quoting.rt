@@ -78,8 +78,12 @@ fn put_byte<K: Sink>(sink: &mut K, waiting: &mut Waiting, byte: u8) -> Result<()
     put(sink, waiting, escaped(byte).as_slice())
 }
 
-// Puts out what stands for a text.
-fn put_escaped<K: Sink>(sink: &mut K, waiting: &mut Waiting, text: &[u8]) -> Result<(), Failed>
+/// Puts out what stands for a text within quotes.
+pub(crate) fn put_escaped<K: Sink>(
+    sink: &mut K,
+    waiting: &mut Waiting,
+    text: &[u8],
+) -> Result<(), Failed>
     ensures { Puts (out (K.held sink.old) (K.faults sink.old) waiting.old)
         (out (K.held sink.new) (K.faults sink.new) waiting.new) result (flat_map escaped text.now) }
 {

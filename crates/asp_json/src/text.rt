@@ -4,7 +4,7 @@ ghost use Rattle.std.specs.Io.KnownBytes.{Appends};
 ghost use Rattle.asp_io.specs.Causes.{AppendsFront, Rose};
 ghost use Rattle.asp_model.specs.Texts.{found_count, shown};
 ghost use Rattle.asp_buffer.specs.Out.{Puts, out};
-ghost use Rattle.asp_json.specs.Json.{array, best_text, closing_text, consequences_text, costs_text, json_text, known_text, known_texts, models_text, more, optimum_text, proven, proven_count, reasoning_key, result_text, result_word};
+ghost use Rattle.asp_json.specs.Json.{array, best_text, closing_text, consequences_text, costs_text, json_text, known_text, known_texts, models_text, more, optimum_text, proven, proven_count, reasoning_key, result_text, result_word, summary_text};
 ghost use Rattle.asp_json.specs.Quoting.{quoted};
 
 use crate::answers::{put_call, put_costs, put_texts};
@@ -18,7 +18,8 @@ use asp_print::found_count;
 use asp_rows::sets::Sets;
 use std::alloc::Global;
 
-fn result_word(end: End, mode: Mode, count: usize) -> &'static [u8]
+/// What is said of a run that recorded so many answers.
+pub(crate) fn result_word(end: End, mode: Mode, count: u128) -> &'static [u8]
     ensures { result.now ≡ result_word end mode count }
 {
     match (end, mode) {
@@ -118,7 +119,11 @@ fn put_result<K: Sink>(
         (out (K.held sink.new) (K.faults sink.new) waiting.new) result (result_text results.now count) }
 {
     put(sink, waiting, b",\"Result\":\"")?;
-    put(sink, waiting, result_word(results.end, results.mode, count))?;
+    put(
+        sink,
+        waiting,
+        result_word(results.end, results.mode, count as u128),
+    )?;
     put(sink, waiting, b"\"")
 }
 
@@ -208,7 +213,7 @@ fn put_best<K: Sink>(
     }
 }
 
-fn put_count<K: Sink>(sink: &mut K, waiting: &mut Waiting, count: usize) -> Result<(), Failed>
+fn put_count<K: Sink>(sink: &mut K, waiting: &mut Waiting, count: u128) -> Result<(), Failed>
     ensures { Puts (out (K.held sink.old) (K.faults sink.old) waiting.old)
         (out (K.held sink.new) (K.faults sink.new) waiting.new) result
         (codes ",\"Models\":{\"Number\":" ++ decimal count ++ codes ",\"More\":\"") }
@@ -218,12 +223,12 @@ fn put_count<K: Sink>(sink: &mut K, waiting: &mut Waiting, count: usize) -> Resu
     put(sink, waiting, b",\"More\":\"")
 }
 
-// Puts out how many answers were recorded, and whether there may be more.
-fn put_more<K: Sink>(
+/// Puts out how many answers were recorded, and whether there may be more.
+pub(crate) fn put_more<K: Sink>(
     sink: &mut K,
     waiting: &mut Waiting,
     end: End,
-    count: usize,
+    count: u128,
 ) -> Result<(), Failed>
     ensures { Puts (out (K.held sink.old) (K.faults sink.old) waiting.old)
         (out (K.held sink.new) (K.faults sink.new) waiting.new) result
@@ -244,9 +249,25 @@ fn put_models<K: Sink>(
     ensures { Puts (out (K.held sink.old) (K.faults sink.old) waiting.old)
         (out (K.held sink.new) (K.faults sink.new) waiting.new) result (models_text results.now count) }
 {
-    put_more(sink, waiting, results.end, count)?;
+    put_more(sink, waiting, results.end, count as u128)?;
     put_best(sink, waiting, results, count)?;
-    put(sink, waiting, b"}}\n")
+    put(sink, waiting, b"}")
+}
+
+/// Puts out what is said of the run, and of the answers together.
+pub(crate) fn put_summary<K: Sink>(
+    sink: &mut K,
+    waiting: &mut Waiting,
+    program: &Program,
+    results: &Results<Sets>,
+    count: usize,
+) -> Result<(), Failed>
+    ensures { Puts (out (K.held sink.old) (K.faults sink.old) waiting.old)
+        (out (K.held sink.new) (K.faults sink.new) waiting.new) result (summary_text results.now (known_texts program.now results.now.known) count) }
+{
+    put_known(sink, waiting, program, results)?;
+    put_result(sink, waiting, results, count)?;
+    put_models(sink, waiting, results, count)
 }
 
 // Puts out what follows the answers.
@@ -260,9 +281,8 @@ fn put_closing<K: Sink>(
     ensures { Puts (out (K.held sink.old) (K.faults sink.old) waiting.old)
         (out (K.held sink.new) (K.faults sink.new) waiting.new) result (closing_text results.now (known_texts program.now results.now.known) count) }
 {
-    put_known(sink, waiting, program, results)?;
-    put_result(sink, waiting, results, count)?;
-    put_models(sink, waiting, results, count)
+    put_summary(sink, waiting, program, results, count)?;
+    put(sink, waiting, b"}\n")
 }
 
 fn put_json<K: Sink>(

@@ -1,6 +1,6 @@
 -- What was found of what is left of a program, told with what was set aside: it is what was asked of the program, and its text.
 use Rattle.std.proofs.Common.{◌≡◌, ℕ, ◌+◌, Bool, true, false, not, ◌&&◌, ◌||◌, cond, List, [], ◌∷◌, ◌++◌, map, filter, length, refl, sym, ap, ◌∙◌, subst, ℤ, Contains}
-use Rattle.std.specs.Prelude.{Option, None, Some, IfSome, option_map, is_some, codes, decimal}
+use Rattle.std.specs.Prelude.{nat_lt, Option, None, Some, IfSome, option_map, is_some, codes, decimal}
 use Rattle.std.specs.List.{join_with_byte}
 use Rattle.std.proofs.lemmas.List.{length-map}
 use Rattle.asp_model.specs.declared.program.Minimize.{Minimize}
@@ -18,6 +18,7 @@ use Rattle.asp_model.specs.Found.{Found}
 use Rattle.asp_model.specs.Asked.{reasoning_of}
 use Rattle.asp_model.specs.Sound.{IsSound}
 use Rattle.asp_model.specs.Texts.{answer_lines, answers_from, best_answers, best_cost_line, bests, closing_lines, ended_line, found_count, recorded, shown}
+use Rattle.asp_print.specs.Shown.{separator}
 use Rattle.asp_print.specs.Named.{known_line, named_line, printed_text, sums_line}
 use Rattle.asp_named.specs.Named.{named}
 use Rattle.asp_prepare.specs.Naming.{ask_of, asked, is_json, is_named, is_settled, prepared_of, searched, set_aside}
@@ -41,8 +42,9 @@ use Rattle.asp_crew_laws.specs.Proofs.{HasProof, HasProofAt}
 use Rattle.asp_cli.specs.declared.Options.{Options}
 use Rattle.asp_prepare.specs.Meaning.{has_model, has_model_in, mode_by, mode_of}
 use Rattle.asp_prepare.specs.Told.{SaysOf, ShowsAs, found_with, report_text, report_with, text_by, text_in, told_with, with_known, without_names}
-use Rattle.asp_json.specs.Json.{array, best_costs, best_text, call_text, closing_text, json_text, known_text, known_texts, models_text, more, optimum_text, recorded_text, result_text, witness, witnesses}
+use Rattle.asp_json.specs.Json.{array, best_costs, best_text, call_text, closing_text, json_text, known_text, known_texts, models_text, more, optimum_text, recorded_text, result_text, summary_text, witness, witnesses}
 use Rattle.asp_json.specs.Quoting.{quoted}
+use Rattle.asp_json.specs.Entries.{entry_answers, entry_results, entry_start, is_listed}
 use Rattle.asp_cli.specs.declared.Form.{Form}
 use Rattle.asp_cli.specs.declared.Form.TheVariants.{Text, Json}
 use Rattle.asp_prepare.specs.declared.layout.Layout.{Layout}
@@ -277,21 +279,43 @@ best_text-with F Enum r k = refl
 best_text-with F Opt r k = optimum-with F r.end k r.best
 best_text-with F (Consequences w) r k = refl
 
-closing-with : (F : Aside) (r : Found) (texts : List (List ℕ)) (k : ℕ) → closing_text (told F r) texts k ≡ closing_text (found_with F r) texts k
-closing-with F r texts k =
+summary-with : (F : Aside) (r : Found) (texts : List (List ℕ)) (k : ℕ) → summary_text (told F r) texts k ≡ summary_text (found_with F r) texts k
+summary-with F r texts k =
     ap (λ (xs : List ℕ). xs ++ result_text r k ++ models_text (told F r) k) (known_text-with F r.mode r texts)
     ∙ ap (λ (xs : List ℕ). known_text r.mode (found_with F r) texts ++ result_text r k
-    ++ (codes ",\"Models\":{\"Number\":" ++ decimal k ++ codes ",\"More\":\"" ++ more r.end ++ codes "\"" ++ xs ++ codes "}}\n"))
+    ++ (codes ",\"Models\":{\"Number\":" ++ decimal k ++ codes ",\"More\":\"" ++ more r.end ++ codes "\"" ++ xs ++ codes "}"))
     (best_text-with F r.mode r k)
+
+-- what is said of what is left, of the program
+summary-left : (p : Program) (r : Found) →
+    summary_text (told (aside_of p) r) (known_texts (rest p) (option_map (restored (aside_of p)) r.known)) (found_count r.mode (told (aside_of p) r))
+    ≡ summary_text (found_with (aside_of p) r) (known_texts p (option_map (restored (aside_of p)) r.known)) (found_count r.mode (found_with (aside_of p) r))
+summary-left p r =
+    let F = aside_of p in
+    let texts = known_texts (rest p) (option_map (restored F) r.known) in
+    summary-with F r texts (found_count r.mode (told F r)) ∙ ap (summary_text (found_with F r) texts) (count-with F r.mode r)
+    ∙ ap (λ (ts : List (List ℕ)). summary_text (found_with F r) ts (found_count r.mode (found_with F r))) (texts-again p r.known)
 
 json-left : (p : Program) (r : Found) (brief : Bool) → json_text (rest p) (told (aside_of p) r) brief ≡ json_text p (found_with (aside_of p) r) brief
 json-left p r brief =
     let F = aside_of p in
     let texts = known_texts (rest p) (option_map (restored F) r.known) in
     ap (λ (xs : List ℕ). codes "{\"Solver\":\"aspenum\",\"Call\":[{" ++ cond brief [] xs ++ codes "}]" ++ closing_text (told F r) texts (found_count r.mode (told F r))) (recorded_text-left p r.mode r)
-    ∙ ap (λ (xs : List ℕ). call_text p (found_with F r) brief ++ xs)
-    (closing-with F r texts (found_count r.mode (told F r)) ∙ ap (closing_text (found_with F r) texts) (count-with F r.mode r)
-    ∙ ap (λ (ts : List (List ℕ)). closing_text (found_with F r) ts (found_count r.mode (found_with F r))) (texts-again p r.known))
+    ∙ ap (λ (xs : List ℕ). call_text p (found_with F r) brief ++ (xs ++ codes "}\n")) (summary-left p r)
+
+-- the entry of a query
+listed-with : (F : Aside) (mode : Mode) (r : Found) → is_listed mode (told F r) ≡ is_listed mode (found_with F r)
+listed-with F Enum r = ap (nat_lt 0) (count-with F Enum r)
+listed-with F Opt r = ap (nat_lt 0) (count-with F Opt r)
+listed-with F (Consequences w) r = refl
+
+entry-left : (p : Program) (number : ℕ) (r : Found) (brief : Bool) → entry_results (rest p) number (told (aside_of p) r) brief ≡ entry_results p number (found_with (aside_of p) r) brief
+entry-left p number r brief =
+    let F = aside_of p in
+    let summary = summary_text (told F r) (known_texts (rest p) (option_map (restored F) r.known)) (found_count r.mode (told F r)) in
+    ap (λ (b : Bool). entry_start number ++ cond brief [] (separator 44 b ++ recorded_text (rest p) r.mode (told F r)) ++ summary) (listed-with F r.mode r)
+    ∙ ap (λ (xs : List ℕ). entry_start number ++ cond brief [] (separator 44 (is_listed r.mode (found_with F r)) ++ xs) ++ summary) (recorded_text-left p r.mode r)
+    ∙ ap (λ (xs : List ℕ). entry_start number ++ entry_answers p (found_with F r) brief ++ xs) (summary-left p r)
 
 text_in-left : (form : Form) (p : Program) (r : Found) (brief names : Bool) → text_in form (rest p) (told (aside_of p) r) brief names ≡ text_in form p (found_with (aside_of p) r) brief names
 text_in-left Text p r brief names = text-left p r brief names
@@ -368,6 +392,27 @@ listed-text given p r brief names listed = by (asked given p) (is_settled given)
     by : (q : Program) (b : Bool) → printed_text (cond b (rest q) q) r brief names ≡ printed_text q (found_with (cond b (aside_of q) none_aside) r) brief names
     by q true = lines-told (rest q) (aside_of q) r r.mode brief names listed ∙ text-left q r brief names
     by q false = ap (λ (x : Found). printed_text q x brief names) (sym (same-found r))
+
+-- the entry of a list doesn't tell what is known
+entry-told : (p : Program) (F : Aside) (r : Found) (mode : Mode) (number : ℕ) (brief : Bool) → reasoning_of mode ≡ None
+    → entry_start number ++ cond brief [] (separator 44 (is_listed mode r) ++ recorded_text p mode r)
+    ++ (known_text mode r (known_texts p r.known) ++ result_text r (found_count mode r)
+    ++ (codes ",\"Models\":{\"Number\":" ++ decimal (found_count mode r) ++ codes ",\"More\":\"" ++ more r.end ++ codes "\"" ++ best_text mode r (found_count mode r) ++ codes "}"))
+    ≡ entry_start number ++ cond brief [] (separator 44 (is_listed mode (told F r)) ++ recorded_text p mode (told F r))
+    ++ (known_text mode (told F r) (known_texts p (option_map (restored F) r.known)) ++ result_text r (found_count mode (told F r))
+    ++ (codes ",\"Models\":{\"Number\":" ++ decimal (found_count mode (told F r)) ++ codes ",\"More\":\"" ++ more r.end ++ codes "\"" ++ best_text mode (told F r) (found_count mode (told F r)) ++ codes "}"))
+entry-told p F r Enum number brief listed = refl
+entry-told p F r Opt number brief listed = refl
+entry-told p F r (Consequences w) number brief listed = absurd (let no : Some w ≡ None = listed in let f : ⊥ = cc in f)
+
+-- the entry of a list, as it was found
+pub listed-entry : (given : Options) (p : Program) (number : ℕ) (r : Found) (brief : Bool) → reasoning_of r.mode ≡ None →
+    entry_results (searched given p) number r brief ≡ entry_results (asked given p) number (found_with (set_aside given p) r) brief
+listed-entry given p number r brief listed = by (asked given p) (is_settled given)
+  where
+    by : (q : Program) (b : Bool) → entry_results (cond b (rest q) q) number r brief ≡ entry_results q number (found_with (cond b (aside_of q) none_aside) r) brief
+    by q true = entry-told (rest q) (aside_of q) r r.mode number brief listed ∙ entry-left q number r brief
+    by q false = ap (λ (x : Found). entry_results q number x brief) (sym (same-found r))
 
 -- what is said without names
 pub told-plain : (given : Options) (p : Program) (ask : Ask) (r : Report) (end : End) → IsSound (asked given p) → SaysReport (searched given p) (without_names ask) r end

@@ -1,20 +1,28 @@
 -- Queries that are answered one after another.
-use Rattle.std.proofs.Common.{◌≡◌, ◌∙◌, ℕ, ◌+◌, ◌-◌, ◌<◌, ◌≤◌, zero, suc, Bool, true, false, not, ◌&&◌, ◌||◌, List, [], ◌∷◌, ◌++◌, length, drop, get_or, refl, sym, ap, subst, arith}
-use Rattle.std.specs.Prelude.{ℤ, Option, None, Some, Result, Ok, Err, IfErr, IfSome, OnOk}
-use Rattle.std.specs.Io.KnownBytes.{Appends, Keeps}
+use Rattle.std.proofs.Common.{◌≡◌, ◌∙◌, ℕ, ◌+◌, ◌-◌, ◌*◌, ◌<◌, ◌≤◌, zero, suc, Bool, true, false, not, ◌&&◌, ◌||◌, List, [], ◌∷◌, ◌++◌, length, drop, get_or, refl, sym, ap, subst, arith}
+use Rattle.std.specs.Prelude.{ℤ, Option, None, Some, Result, Ok, Err, IfSome, codes}
+use Rattle.std.specs.Io.KnownBytes.{Appends}
 use Rattle.std.proofs.KnownBytes.{Appends-kept, Appends-trans}
 use Rattle.std.proofs.lemmas.Bool.{false≢true}
 use Rattle.std.proofs.lemmas.List.{append-nil, append_assoc, length-append}
 use Rattle.asp_io.specs.Causes.{AppendsFront, Rose}
-use Rattle.asp_buffer.proofs.OutLaws.{drop_turn, front-after}
+use Rattle.asp_buffer.proofs.OutLaws.{drop_turn, front-after, front-more}
 use Rattle.std.specs.List.{AllByRecursion}
 use Rattle.asp_vars.proofs.PlaceLaws.{at_each}
+use Rattle.asp_model.specs.declared.program.Output.{Output}
 use Rattle.asp_model.specs.declared.program.Program.{Program}
+use Rattle.asp_model.specs.declared.results.Mode.{Mode}
+use Rattle.asp_model.specs.Asked.{reasoning_of}
+use Rattle.asp_model.specs.Found.{Found}
 use Rattle.asp_model.specs.Sound.{IsSound}
-use Rattle.asp_print.specs.Named.{printed_text}
+use Rattle.asp_model.specs.Texts.{found_count}
 use Rattle.asp_print.specs.Queries.{core_line, query_line}
 use Rattle.asp_read.specs.declared.series.Series.{Series}
 use Rattle.asp_read.specs.Queries.{with_query}
+use Rattle.asp_json.specs.declared.entries.Sums.{Sums}
+use Rattle.asp_json.specs.Entries.{core_text}
+use Rattle.asp_cli.specs.declared.Form.{Form}
+use Rattle.asp_cli.specs.declared.Form.TheVariants.{Text, Json}
 use Rattle.asp_cli.specs.declared.Options.{Options}
 use Rattle.asp_cli.specs.Found.{seeks_consequences}
 use Rattle.asp_series.specs.declared.ask.Sought.{Sought}
@@ -23,15 +31,14 @@ use Rattle.asp_prepare.specs.declared.prepared.Prepared.{Prepared}
 use Rattle.asp_series.specs.declared.series.Course.{Course}
 use Rattle.asp_series.specs.declared.series.Reply.{Reply}
 use Rattle.asp_series.specs.declared.end.SeriesEnd.{SeriesEnd}
-use Rattle.asp_series.specs.declared.end.SeriesEnd.TheVariants.{All, NoModel, Partial, Unknown, Memory, WriteFault}
-use Rattle.asp_series.specs.Asking.{Breaks, EndMeans, GoesOn, IsAt, IsReason, IsReply, IsSought, StepMeans, answered_of, literals_in, minimal_in, reply_text, spent_in}
-use Rattle.asp_prepare.specs.Meaning.{has_model}
-use Rattle.asp_prepare.specs.Naming.{set_aside}
+use Rattle.asp_series.specs.declared.end.SeriesEnd.TheVariants.{Memory, WriteFault}
+use Rattle.asp_series.specs.Asking.{AsksOn, Breaks, CloseMeans, Ends, IsAt, IsAtQuery, IsReason, IsReply, IsSought, IsThrough, StepMeans, StopMeans, answered_of, end_of, gone_on, literals_in, minimal_in, most_recorded, reply_text, rest_text, spent_in, sums_at}
+use Rattle.asp_prepare.specs.Meaning.{has_model, mode_of}
+use Rattle.asp_prepare.specs.Naming.{asked, searched, set_aside}
 use Rattle.asp_prepare.specs.Told.{found_with}
-use Rattle.asp_series.specs.Series.{Answered, AreAnswered, Asks, IsAnsweredBy, IsSentOn, TellsClosed, TellsFaults, about, all_done, answered_text, any_model, is_done, is_open, is_refuted, series_text, text_of}
-use Rattle.asp_faults.proofs.WriteLaws.{front-all}
+use Rattle.asp_series.specs.Series.{Answered, AreAnswered, Asks, EndsAs, IsAnsweredBy, IsSentOn, IsWrittenOf, TellsClosed, TellsFaults, about, all_done, answered_text, any_model, closing_in, end_by, is_done, is_open, is_refuted, models_of, opening_in, query_in, series_text, sums_of, whole_text}
 use Rattle.asp_series.proofs.AskLaws.{listed-of, plain, says-of}
-use Rattle.asp_prepare.proofs.ToldLaws.{listed-text}
+use Rattle.asp_prepare.proofs.ToldLaws.{listed-entry, listed-text}
 
 -- ---- a reply
 spends : (c : Option Core) (spent left units all : ℕ) → spent + left ≡ units → all ≡ spent + spent_in c → IfSome (literals_in c) (λ core. minimal_in c ≡ false → spent_in c ≡ left)
@@ -59,39 +66,30 @@ reply-is given p query units s c left spent e sound sought rest reason all =
       };
     }
 
+-- the text of what was found of what is left
+same-text : (form : Form) (given : Options) (q : Program) (os : List Output) (number : ℕ) (r : Found) (core : Option (List ℤ)) (minimal : Bool) → reasoning_of r.mode ≡ None
+    → query_in form given (searched given q) os number r core minimal ≡ query_in form given (asked given q) os number (found_with (set_aside given q) r) core minimal
+same-text Text given q os number r core minimal listed =
+    ap (λ (text : List ℕ). query_line number ++ text ++ core_line given.names os core minimal) (listed-text given q r given.quiet given.names listed)
+same-text Json given q os number r core minimal listed =
+    ap (λ (text : List ℕ). text ++ (core_text given.names os core minimal ++ codes "}")) (listed-entry given q number r given.quiet listed)
+
 -- what is written of it
 pub text-answered : (given : Options) (p : Program) (query : List ℤ) (units number : ℕ) (y : Reply) → seeks_consequences (Some given.mode) ≡ false → IsReply given p query units y
     → reply_text given p number y ≡ answered_text given p query number (answered_of y)
 text-answered given p query units number y e reply =
     let q = with_query p query in
     let r = y.sought.report.results in
-    let line : List ℕ → List ℕ = λ (text : List ℕ). query_line number ++ text ++ core_line given.names p.outputs (literals_in y.core) (minimal_in y.core) in
-    ap (λ (x : Prepared). line (printed_text x.compiled r given.quiet given.names)) reply.sought.prepared
-    ∙ ap line (listed-text given q r given.quiet given.names (listed-of given q r e reply.answered.is.mode_is))
-    ∙ ap (λ (x : Program). line (printed_text x (found_with (set_aside given q) r) given.quiet given.names)) (plain given q e)
+    let of : Program → Found → List ℕ = λ (x : Program) (f : Found). query_in given.form given x p.outputs number f (literals_in y.core) (minimal_in y.core) in
+    ap (λ (x : Prepared). of x.compiled r) reply.sought.prepared
+    ∙ same-text given.form given q p.outputs number r (literals_in y.core) (minimal_in y.core) (listed-of given q r e reply.answered.is.mode_is)
+    ∙ ap (λ (x : Program). of x (found_with (set_aside given q) r)) (plain given q e)
 
 -- ---- one query
-pub step-means : (given : Options) (p : Program) (query : List ℤ) (number : ℕ) (c : Course) (held held' : Option (List ℕ)) (w w' : ℕ) (x : Answered) (result : Result Course SeriesEnd)
-    → IsAnsweredBy given p query c.left x → Appends held held' (answered_text given p query number x) → w' ≡ w → GoesOn c x result → StepMeans given p query number c held held' w w' result
-step-means given p query number c held held' w w' x (Ok d) is text quiet goes = (record { x = x; is = is; text = text; goes = goes }, quiet)
-step-means given p query number c held held' w w' x (Err Partial) is text quiet goes = (record { x = x; is = is; text = text; goes = goes }, quiet)
-step-means given p query number c held held' w w' x (Err Unknown) is text quiet goes = (record { x = x; is = is; text = text; goes = goes }, quiet)
-step-means given p query number c held held' w w' x (Err end) is text quiet goes = absurd goes
-
--- what follows a reply doesn't say that the sink failed
-pub goes-closed : (c : Course) (x : Answered) (result : Result Course SeriesEnd) (is_closed : Bool) → GoesOn c x result → IfErr result (λ s. TellsClosed s is_closed)
-goes-closed c x (Ok d) is_closed goes = tt
-goes-closed c x (Err Partial) is_closed goes = tt
-goes-closed c x (Err Unknown) is_closed goes = tt
-goes-closed c x (Err end) is_closed goes = absurd goes
-
-pub goes-sent : (result : Result Course SeriesEnd) (is_sent : Bool) → is_sent ≡ true → IfErr result (λ s. IsSentOn s is_sent)
-goes-sent (Ok d) is_sent sent = tt
-goes-sent (Err s) is_sent sent = λ written. sent
-
-pub goes-sent_on : (result : Result Course SeriesEnd) (is_sent : Bool) → is_sent ≡ true → OnOk result (is_sent ≡ true)
-goes-sent_on (Ok d) is_sent sent = sent
-goes-sent_on (Err s) is_sent sent = tt
+pub step-means : (given : Options) (p : Program) (query : List ℤ) (number : ℕ) (c d : Course) (held held' : Option (List ℕ)) (w w' : ℕ) (x : Answered)
+    → IsAnsweredBy given p query c.left x → Appends held held' (answered_text given p query number x) → w' ≡ w → d ≡ gone_on c number x →
+    StepMeans given p query number c held held' w w' (Ok d)
+step-means given p query number c d held held' w w' x is text quiet goes = (record { x = x; is = is; text = text; goes = goes }, quiet)
 
 -- a front of the text of a reply was written
 pub breaks : (given : Options) (p : Program) (query : List ℤ) (number : ℕ) (c : Course) (held held' : Option (List ℕ)) (w w' : ℕ) (y : Reply)
@@ -169,142 +167,242 @@ model-push (y ∷ xs) x = by (has_model y.done.results) (model-push xs x)
     by true h = refl
     by false h = h
 
+models-push : (xs : List Answered) (x : Answered) → models_of (xs ++ x ∷ []) ≡ models_of xs + found_count x.done.results.mode x.done.results
+models-push [] x = let e : found_count x.done.results.mode x.done.results + 0 ≡ 0 + found_count x.done.results.mode x.done.results = omega arith in e
+models-push (y ∷ xs) x =
+    let h = models-push xs x in
+    let e : found_count y.done.results.mode y.done.results + models_of (xs ++ x ∷ [])
+        ≡ (found_count y.done.results.mode y.done.results + models_of xs) + found_count x.done.results.mode x.done.results = omega (arith, h) in
+    e
+
 -- the place of the next query
 next-at : (count : ℕ) (queries : List (List ℤ)) (xs : List Answered) (query : List ℤ) (rest : List (List ℤ)) → length xs ≡ count →
     drop count queries ≡ query ∷ rest → drop (length xs) queries ≡ query ∷ rest
 next-at count queries xs query rest is at = ap (λ (n : ℕ). drop n queries) is ∙ at
 
 -- the text with one more
-text-more : (given : Options) (s : Series) (count : ℕ) (query : List ℤ) (rest : List (List ℤ)) (held held' held'' : Option (List ℕ)) (w w' : ℕ)
-    (c : Course) (x : Answered) → (at : IsAt given s.program s.queries held held' w w' count c)
-    → drop count s.queries ≡ query ∷ rest → text_of given s (at.xs ++ x ∷ []) ≡ text_of given s at.xs ++ answered_text given s.program query (count + 1) x
-text-more given s count query rest held held' held'' w w' c x at next =
-    text-push given s.program s.queries query rest given.budget 1 at.xs x c.left (next-at count s.queries at.xs query rest at.count_is next) at.answered
-    ∙ ap (λ (k : ℕ). text_of given s at.xs ++ answered_text given s.program query k x) (let e = at.count_is in let f : 1 + length at.xs ≡ count + 1 = omega (arith, e) in f)
+text-more : (given : Options) (s : Series) (count : ℕ) (query : List ℤ) (rest : List (List ℤ)) (xs : List Answered) (left : ℕ) (x : Answered) → length xs ≡ count
+    → AreAnswered given s.program s.queries given.budget xs left → drop count s.queries ≡ query ∷ rest
+    → series_text given s.program s.queries 1 (xs ++ x ∷ []) ≡ series_text given s.program s.queries 1 xs ++ answered_text given s.program query (count + 1) x
+text-more given s count query rest xs left x is are next =
+    text-push given s.program s.queries query rest given.budget 1 xs x left (next-at count s.queries xs query rest is next) are
+    ∙ ap (λ (k : ℕ). series_text given s.program s.queries 1 xs ++ answered_text given s.program query k x) (let f : 1 + length xs ≡ count + 1 = omega (arith, is) in f)
 
-some-more : (given : Options) (s : Series) (count : ℕ) (query : List ℤ) (rest : List (List ℤ)) (held held' : Option (List ℕ)) (w w' : ℕ) (c : Course)
-    (x : Answered) → (at : IsAt given s.program s.queries held held' w w' count c)
-    → drop count s.queries ≡ query ∷ rest → IsAnsweredBy given s.program query c.left x → AreAnswered given s.program s.queries given.budget (at.xs ++ x ∷ []) (c.left - x.spent)
-some-more given s count query rest held held' w w' c x at next is =
-    answered-push given s.program s.queries query rest given.budget at.xs x c.left (next-at count s.queries at.xs query rest at.count_is next) at.answered at.done is
-
+-- one more query was answered
 pub at-more : (given : Options) (s : Series) (count : ℕ) (query : List ℤ) (rest : List (List ℤ)) (held held' held'' : Option (List ℕ)) (w w' w'' : ℕ)
-    (c d : Course) → IsAt given s.program s.queries held held' w w' count c
-    → drop count s.queries ≡ query ∷ rest → StepMeans given s.program query (count + 1) c held' held'' w' w'' (Ok d) → IsAt given s.program s.queries held held'' w w'' (count + 1) d
-at-more given s count query rest held held' held'' w w' w'' c d at next step =
+    (c d : Course) → IsAtQuery given s.program s.queries held held' w w' count c → drop count s.queries ≡ query ∷ rest
+    → StepMeans given s.program query (count + 1) c held' held'' w' w'' (Ok d) → d.models ≤ (count + 1) * most_recorded
+    → IsAt given s.program s.queries held held'' w w'' d × (d.calls ≡ count + 1)
+at-more given s count query rest held held' held'' w w' w'' c d before next step few =
+    let at = before.at in
     let x = step.0.x in
-    let is = step.0.goes.1 in
+    let is : length at.xs ≡ count = at.calls ∙ before.count_is in
+    let done : all_done at.xs ≡ true = at.done ∙ before.finished in
+    subst (λ (e : Course). IsAt given s.program s.queries held held'' w w'' e × (e.calls ≡ count + 1)) (sym step.0.goes) (
+      record {
+        xs = at.xs ++ x ∷ [];
+        answered = answered-push given s.program s.queries query rest given.budget at.xs x c.left (next-at count s.queries at.xs query rest is next) at.answered done step.0.is;
+        calls = length-append at.xs (x ∷ []) ∙ (let f : length at.xs + 1 ≡ count + 1 = omega (arith, is) in f);
+        done = done-push at.xs x done;
+        any = model-push at.xs x ∙ ap (λ (b : Bool). b || has_model x.done.results) at.any;
+        models = models-push at.xs x ∙ ap (λ (n : ℕ). n + found_count x.done.results.mode x.done.results) at.models;
+        few = subst (λ (e : Course). e.models ≤ (count + 1) * most_recorded) step.0.goes few;
+        text = subst (Appends held held'') (sym (text-more given s count query rest at.xs c.left x is at.answered next)) (Appends-trans held held' held'' _ _ at.text step.0.text);
+        quiet = step.1 ∙ at.quiet;
+      },
+      refl,
+    )
+
+-- the next query may be asked
+pub at-next : (given : Options) (s : Series) (count : ℕ) (held held'' : Option (List ℕ)) (w w'' : ℕ) (d : Course)
+    → IsAt given s.program s.queries held held'' w w'' d × (d.calls ≡ count + 1) → d.done ≡ true → IsAtQuery given s.program s.queries held held'' w w'' (count + 1) d
+at-next given s count held held'' w w'' d h done = record { at = h.0; finished = done; count_is = h.1 }
+
+-- the last one that was begun isn't finished
+pub at-open : (given : Options) (s : Series) (count : ℕ) (held held'' : Option (List ℕ)) (w w'' : ℕ) (d : Course)
+    → IsAt given s.program s.queries held held'' w w'' d × (d.calls ≡ count + 1) → d.done ≡ false → IsThrough given s.program s.queries held held'' w w'' d
+at-open given s count held held'' w w'' d h open = record { at = h.0; every = λ done. absurd (false≢true (sym open ∙ done)) }
+
+-- all queries were answered
+pub at-end : (given : Options) (s : Series) (held held'' : Option (List ℕ)) (w w'' : ℕ) (count : ℕ) (d : Course)
+    → IsAtQuery given s.program s.queries held held'' w w'' count d → count ≡ length s.queries → IsThrough given s.program s.queries held held'' w w'' d
+at-end given s held held'' w w'' count d h is = record { at = h.at; every = λ done. h.count_is ∙ is }
+
+-- memory ran out, or the sink failed, at a query
+pub at-stops : (given : Options) (s : Series) (count : ℕ) (query : List ℤ) (rest : List (List ℤ)) (held held' held'' : Option (List ℕ)) (w w' w'' : ℕ)
+    (c : Course) (end : SeriesEnd) → IsAtQuery given s.program s.queries held held' w w' count c
+    → drop count s.queries ≡ query ∷ rest → StepMeans given s.program query (count + 1) c held' held'' w' w'' (Err end) → StopMeans given s held held'' w w'' end
+at-stops given s count query rest held held' held'' w w' w'' c Memory before next step =
+    let at = before.at in
+    (
+      record { xs = at.xs; some = record { left = c.left; answered = at.answered }; text = Appends-kept held held' held'' _ at.text step.0 },
+      step.1 ∙ at.quiet,
+    )
+at-stops given s count query rest held held' held'' w w' w'' c (WriteFault closed) before next step =
+    let at = before.at in
+    let x = step.x in
+    let is : length at.xs ≡ count = at.calls ∙ before.count_is in
     record {
       xs = at.xs ++ x ∷ [];
-      answered = subst (λ (y : Course). AreAnswered given s.program s.queries given.budget (at.xs ++ x ∷ []) y.left) (sym is)
-          (some-more given s count query rest held held' w w' c x at next step.0.is);
-      count_is = length-append at.xs (x ∷ []) ∙ ap (λ (n : ℕ). n + 1) at.count_is;
-      done = done-push at.xs x at.done ∙ step.0.goes.0;
-      any = model-push at.xs x ∙ ap (λ (b : Bool). b || has_model x.done.results) at.any ∙ sym (ap (λ (y : Course). y.any) is);
-      text = subst (Appends held held'') (sym (text-more given s count query rest held held' held'' w w' c x at next)) (Appends-trans held held' held'' _ _ at.text step.0.text);
-      quiet = step.1 ∙ at.quiet;
-    }
-
--- the end at a query
-pub at-stops : (given : Options) (s : Series) (count : ℕ) (query : List ℤ) (rest : List (List ℤ)) (held held' held'' : Option (List ℕ)) (w w' w'' : ℕ)
-    (c : Course) (end : SeriesEnd) → IsAt given s.program s.queries held held' w w' count c
-    → drop count s.queries ≡ query ∷ rest → StepMeans given s.program query (count + 1) c held' held'' w' w'' (Err end) → Asks given s held held'' w w'' end
-at-stops given s count query rest held held' held'' w w' w'' c Partial at next step =
-    let x = step.0.x in
-    record {
-      means = record {
-        xs = at.xs ++ x ∷ [];
-        written = record {
-          some = record { left = c.left - x.spent; answered = some-more given s count query rest held held' w w' c x at next step.0.is };
-          text = subst (Appends held held'') (sym (text-more given s count query rest held held' held'' w w' c x at next)) (Appends-trans held held' held'' _ _ at.text step.0.text);
-        };
-        unfinished = done-push at.xs x at.done ∙ step.0.goes.0;
-        model_is = model-push at.xs x ∙ ap (λ (b : Bool). b || has_model x.done.results) at.any ∙ step.0.goes.1;
+      some = record {
+        left = c.left - x.spent;
+        answered = answered-push given s.program s.queries query rest given.budget at.xs x c.left (next-at count s.queries at.xs query rest is next) at.answered (at.done ∙ before.finished) step.is;
       };
-      later = let a = step.1 in let b = at.quiet in omega (arith, a, b);
+      text = front-more held held'' _ _ (subst (AppendsFront held held'') (sym (text-more given s count query rest at.xs c.left x is at.answered next))
+          (front-after held held' held'' _ _ at.text step.text));
+      cause = subst (λ (n : ℕ). Rose n w'') at.quiet step.cause;
     }
-at-stops given s count query rest held held' held'' w w' w'' c Unknown at next step =
-    let x = step.0.x in
-    record {
-      means = record {
-        xs = at.xs ++ x ∷ [];
-        written = record {
-          some = record { left = c.left - x.spent; answered = some-more given s count query rest held held' w w' c x at next step.0.is };
-          text = subst (Appends held held'') (sym (text-more given s count query rest held held' held'' w w' c x at next)) (Appends-trans held held' held'' _ _ at.text step.0.text);
-        };
-        unfinished = done-push at.xs x at.done ∙ step.0.goes.0;
-        model_is = model-push at.xs x ∙ ap (λ (b : Bool). b || has_model x.done.results) at.any ∙ step.0.goes.1;
-      };
-      later = let a = step.1 in let b = at.quiet in omega (arith, a, b);
-    }
-at-stops given s count query rest held held' held'' w w' w'' c Memory at next step = record {
-  means = record { xs = at.xs; written = record { some = record { left = c.left; answered = at.answered }; text = Appends-kept held held' held'' _ at.text step.0 } };
-  later = let a = step.1 in let b = at.quiet in omega (arith, a, b);
-}
-at-stops given s count query rest held held' held'' w w' w'' c (WriteFault closed) at next step =
-    let x = step.x in
-    let b = at.quiet in
-    let rose = step.cause in
-    record {
-      means = record {
-        xs = at.xs ++ x ∷ [];
-        some = record { left = c.left - x.spent; answered = some-more given s count query rest held held' w w' c x at next step.is };
-        text = subst (AppendsFront held held'') (sym (text-more given s count query rest held held' held'' w w' c x at next)) (front-after held held' held'' _ _ at.text step.text);
-        cause = subst (λ (n : ℕ). Rose n w'') b rose;
-      };
-      later = let l = step.later in omega (arith, b, l);
-    }
-at-stops given s count query rest held held' held'' w w' w'' c end at next step = absurd step
+at-stops given s count query rest held held' held'' w w' w'' c end before next step = absurd step
 
 -- ---- the end of a series
-pub settled : (given : Options) (s : Series) (held held' held'' : Option (List ℕ)) (w w' w'' : ℕ) (c : Course) (end : SeriesEnd) → IsAt given s.program s.queries held held' w w' (length s.queries) c
-    → Keeps held' held'' → w' ≤ w'' → EndMeans c.any w' w'' end → Asks given s held held'' w w'' end
-settled given s held held' held'' w w' w'' c All at kept later means = record {
-  means = record {
-    xs = at.xs;
-    written = record { some = record { left = c.left; answered = at.answered }; text = Appends-kept held held' held'' _ at.text kept };
-    every = at.count_is;
-    done = at.done;
-    model_is = at.any ∙ means.0;
-  };
-  later = let a = at.quiet in omega (arith, a, later);
+pub stop-asks : (given : Options) (s : Series) (held held' : Option (List ℕ)) (w w' : ℕ) (end : SeriesEnd) → StopMeans given s held held' w w' end → AsksOn given s held held' w w' end
+stop-asks given s held held' w w' Memory stops = stops
+stop-asks given s held held' w w' (WriteFault closed) stops = stops
+stop-asks given s held held' w w' end stops = absurd stops
+
+pub stop-unsent : (given : Options) (s : Series) (held held' : Option (List ℕ)) (w w' : ℕ) (is_sent : Bool) (end : SeriesEnd) → StopMeans given s held held' w w' end → IsSentOn end is_sent
+stop-unsent given s held held' w w' is_sent Memory stops = λ written. absurd (false≢true written)
+stop-unsent given s held held' w w' is_sent (WriteFault closed) stops = λ written. absurd (false≢true written)
+stop-unsent given s held held' w w' is_sent end stops = absurd stops
+
+-- what is said of the queries together
+same-sums : (mode : Mode) (xs : List Answered) (c : Course) → length xs ≡ c.calls → all_done xs ≡ c.done → models_of xs ≡ c.models → sums_at mode c ≡ sums_of mode xs
+same-sums mode xs c calls done models =
+    ap (λ (b : Bool). let s : Sums = record { end = end_by b; mode = mode; models = c.models; calls = c.calls } in s) (sym done)
+    ∙ ap (λ (n : ℕ). let s : Sums = record { end = end_by (all_done xs); mode = mode; models = n; calls = c.calls } in s) (sym models)
+    ∙ ap (λ (n : ℕ). let s : Sums = record { end = end_by (all_done xs); mode = mode; models = models_of xs; calls = n } in s) (sym calls)
+
+ended : (given : Options) (s : Series) (held held' held'' : Option (List ℕ)) (w w' w'' : ℕ) (c : Course) (mode : Mode) (end : SeriesEnd)
+    → IsThrough given s.program s.queries held held' w w' c → mode ≡ mode_of given.mode s.program
+    → (end ≡ end_of c.done c.any) × Appends held' held'' (closing_in given.form (sums_at mode c)) × (w'' ≡ w') → Ends given s held held'' end × (w'' ≡ w)
+ended given s held held' held'' w w' w'' c mode end through is means =
+    let at = through.at in
+    let sums : sums_at mode c ≡ sums_of (mode_of given.mode s.program) at.xs = ap (λ (m : Mode). sums_at m c) is ∙ same-sums (mode_of given.mode s.program) at.xs c at.calls at.done at.models in
+    (
+      record {
+        xs = at.xs;
+        some = record { left = c.left; answered = at.answered };
+        text = Appends-trans held held' held'' _ _ at.text (subst (λ (x : Sums). Appends held' held'' (closing_in given.form x)) sums means.1);
+        every = λ done. at.calls ∙ through.every (sym at.done ∙ done);
+        end_is = means.0 ∙ (ap (λ (b : Bool). end_of b c.any) (sym at.done) ∙ ap (λ (b : Bool). end_of (all_done at.xs) b) (sym at.any));
+      },
+      means.2 ∙ at.quiet,
+    )
+
+pub closed-asks : (given : Options) (s : Series) (held held' held'' : Option (List ℕ)) (w w' w'' : ℕ) (c : Course) (mode : Mode) (end : SeriesEnd)
+    → IsThrough given s.program s.queries held held' w w' c → mode ≡ mode_of given.mode s.program → CloseMeans given.form mode c held' held'' w' w'' end → AsksOn given s held held'' w w'' end
+closed-asks given s held held' held'' w w' w'' c mode Memory through is means = absurd means
+closed-asks given s held held' held'' w w' w'' c mode (WriteFault closed) through is means =
+    let at = through.at in
+    let sums : sums_at mode c ≡ sums_of (mode_of given.mode s.program) at.xs = ap (λ (m : Mode). sums_at m c) is ∙ same-sums (mode_of given.mode s.program) at.xs c at.calls at.done at.models in
+    record {
+      xs = at.xs;
+      some = record { left = c.left; answered = at.answered };
+      text = front-after held held' held'' _ _ at.text (subst (λ (x : Sums). AppendsFront held' held'' (closing_in given.form x)) sums means.0);
+      cause = subst (λ (n : ℕ). Rose n w'') at.quiet means.1;
+    }
+closed-asks given s held held' held'' w w' w'' c mode end through is means = ended given s held held' held'' w w' w'' c mode end through is means
+
+-- what stands after the last query was written
+pub closing-means : (form : Form) (mode : Mode) (c : Course) (sums : Sums) (held held' : Option (List ℕ)) (w w' : ℕ) (end : SeriesEnd) → sums ≡ sums_at mode c
+    → end ≡ end_of c.done c.any → Appends held held' (closing_in form sums) → w' ≡ w → CloseMeans form mode c held held' w w' end
+closing-means form mode c sums held held' w w' end same is text quiet =
+    subst (CloseMeans form mode c held held' w w') (sym is) (by c.done c.any refl refl)
+  where
+    written : Appends held held' (closing_in form (sums_at mode c))
+    written = subst (λ (x : Sums). Appends held held' (closing_in form x)) same text
+
+    so : (done any : Bool) → done ≡ c.done → any ≡ c.any → end_of done any ≡ end_of c.done c.any
+    so done any p q = ap (λ (b : Bool). end_of b any) p ∙ ap (λ (b : Bool). end_of c.done b) q
+
+    by : (done any : Bool) → done ≡ c.done → any ≡ c.any → CloseMeans form mode c held held' w w' (end_of done any)
+    by true true p q = (so true true p q, written, quiet)
+    by true false p q = (so true false p q, written, quiet)
+    by false true p q = (so false true p q, written, quiet)
+    by false false p q = (so false false p q, written, quiet)
+
+-- it doesn't say that the sink failed
+pub closing-closed : (done any : Bool) (end : SeriesEnd) (is_closed : Bool) → end ≡ end_of done any → TellsClosed end is_closed
+closing-closed done any end is_closed is = subst (λ (e : SeriesEnd). TellsClosed e is_closed) (sym is) (by done any)
+  where
+    by : (done any : Bool) → TellsClosed (end_of done any) is_closed
+    by true true = tt
+    by true false = tt
+    by false true = tt
+    by false false = tt
+
+-- ---- the whole series
+-- the text after the opening is all that is left of the whole
+whole-text : (given : Options) (s : Series) (xs : List Answered) → opening_in given.form ++ rest_text given s xs ≡ whole_text given s xs
+whole-text given s xs = sym (append_assoc (opening_in given.form) (series_text given s.program s.queries 1 xs) (closing_in given.form (sums_of (mode_of given.mode s.program) xs)))
+
+written : (given : Options) (s : Series) (held held' held'' : Option (List ℕ)) (end : SeriesEnd) → Appends held held' (opening_in given.form) → (e : Ends given s held' held'' end) →
+    IsWrittenOf given s held held'' e.xs
+written given s held held' held'' end opening e =
+    record { some = e.some; text = subst (Appends held held'') (whole-text given s e.xs) (Appends-trans held held' held'' _ _ opening e.text) }
+
+ends-by : (given : Options) (s : Series) (held held'' : Option (List ℕ)) (w w'' : ℕ) (xs : List Answered) (done any : Bool) → IsWrittenOf given s held held'' xs
+    → (all_done xs ≡ true → length xs ≡ length s.queries) → all_done xs ≡ done → any_model xs ≡ any → EndsAs given s held held'' w w'' (end_of done any)
+ends-by given s held held'' w w'' xs true true written every done any = record { xs = xs; written = written; every = every done; done = done; model_is = any }
+ends-by given s held held'' w w'' xs true false written every done any = record { xs = xs; written = written; every = every done; done = done; model_is = any }
+ends-by given s held held'' w w'' xs false true written every done any = record { xs = xs; written = written; unfinished = done; model_is = any }
+ends-by given s held held'' w w'' xs false false written every done any = record { xs = xs; written = written; unfinished = done; model_is = any }
+
+ends-as : (given : Options) (s : Series) (held held' held'' : Option (List ℕ)) (w w' w'' : ℕ) (end : SeriesEnd)
+    → Appends held held' (opening_in given.form) → Ends given s held' held'' end × (w'' ≡ w') → w' ≡ w → Asks given s held held'' w w'' end
+ends-as given s held held' held'' w w' w'' end opening e quiet = record {
+  means = subst (EndsAs given s held held'' w w'') (sym e.0.end_is)
+      (ends-by given s held held'' w w'' e.0.xs (all_done e.0.xs) (any_model e.0.xs) (written given s held held' held'' end opening e.0) e.0.every refl refl);
+  later = let a = e.1 in omega (arith, a, quiet);
 }
-settled given s held held' held'' w w' w'' c NoModel at kept later means = record {
-  means = record {
-    xs = at.xs;
-    written = record { some = record { left = c.left; answered = at.answered }; text = Appends-kept held held' held'' _ at.text kept };
-    every = at.count_is;
-    done = at.done;
-    model_is = at.any ∙ means.0;
-  };
-  later = let a = at.quiet in omega (arith, a, later);
+
+-- the opening was written, and the queries asked
+pub asks-on : (given : Options) (s : Series) (held held' held'' : Option (List ℕ)) (w w' w'' : ℕ) (end : SeriesEnd)
+    → Appends held held' (opening_in given.form) → w' ≡ w → AsksOn given s held' held'' w' w'' end → Asks given s held held'' w w'' end
+asks-on given s held held' held'' w w' w'' Memory opening quiet on = record {
+  means = record { xs = on.0.xs; some = on.0.some; text = Appends-trans held held' held'' _ _ opening on.0.text };
+  later = let a = on.1 in omega (arith, a, quiet);
 }
-settled given s held held' held'' w w' w'' c (WriteFault closed) at kept later means = record {
-  means = record {
-    xs = at.xs;
-    some = record { left = c.left; answered = at.answered };
-    text = front-all held held'' _ (Appends-kept held held' held'' _ at.text kept);
-    cause = subst (λ (n : ℕ). Rose n w'') at.quiet means;
-  };
-  later = let a = at.quiet in omega (arith, a, later);
-}
-settled given s held held' held'' w w' w'' c end at kept later means = absurd means
+asks-on given s held held' held'' w w' w'' (WriteFault closed) opening quiet on =
+    let rose : Rose w w'' = subst (λ (n : ℕ). Rose n w'') quiet on.cause in
+    record {
+      means = record {
+        xs = on.xs;
+        some = on.some;
+        text = subst (AppendsFront held held'') (whole-text given s on.xs) (front-after held held' held'' _ _ opening on.text);
+        cause = rose;
+      };
+      later = omega (arith, rose);
+    }
+asks-on given s held held' held'' w w' w'' end opening quiet on = ends-as given s held held' held'' w w' w'' end opening on quiet
 
 -- a fault of the sink is told
-pub asks-flushed : (given : Options) (s : Series) (count : ℕ) (held held' held'' : Option (List ℕ)) (w w' w'' : ℕ) (c : Course) (query : List ℤ)
-    (number : ℕ) (end : SeriesEnd) → IsAt given s.program s.queries held held' w w' count c
-    → StepMeans given s.program query number c held' held'' w' w'' (Err end) → TellsFaults w w'' end
-asks-flushed given s count held held' held'' w w' w'' c query number Partial at step = λ kept. step.1 ∙ at.quiet
-asks-flushed given s count held held' held'' w w' w'' c query number Unknown at step = λ kept. step.1 ∙ at.quiet
-asks-flushed given s count held held' held'' w w' w'' c query number Memory at step = λ kept. step.1 ∙ at.quiet
-asks-flushed given s count held held' held'' w w' w'' c query number (WriteFault closed) at step = λ kept. absurd (kept (closed, refl))
-asks-flushed given s count held held' held'' w w' w'' c query number end at step = absurd step
+pub asks-flushed : (given : Options) (s : Series) (held held' : Option (List ℕ)) (w w' w'' : ℕ) (end : SeriesEnd)
+    → w' ≡ w → AsksOn given s held held' w' w'' end → TellsFaults w w'' end
+asks-flushed given s held held' w w' w'' Memory quiet on = λ kept. on.1 ∙ quiet
+asks-flushed given s held held' w w' w'' (WriteFault closed) quiet on = λ kept. absurd (kept (closed, refl))
+asks-flushed given s held held' w w' w'' end quiet on = λ kept. on.1 ∙ quiet
 
-pub end-flushed : (any : Bool) (w w' w'' : ℕ) (end : SeriesEnd) → w' ≡ w → EndMeans any w' w'' end → TellsFaults w w'' end
-end-flushed any w w' w'' All quiet means = λ kept. means.1 ∙ quiet
-end-flushed any w w' w'' NoModel quiet means = λ kept. means.1 ∙ quiet
-end-flushed any w w' w'' (WriteFault closed) quiet means = λ kept. absurd (kept (closed, refl))
-end-flushed any w w' w'' end quiet means = absurd means
+-- the opening wasn't written
+pub unopened : (given : Options) (s : Series) (held held' : Option (List ℕ)) (w w' : ℕ) (closed : Bool)
+    → AppendsFront held held' (opening_in given.form) → Rose w w' → w ≤ w' → Asks given s held held' w w' (WriteFault closed)
+unopened given s held held' w w' closed front rose later = record {
+  means = record {
+    xs = [];
+    some = record { left = given.budget; answered = nothing-answered given s.program s.queries given.budget };
+    text = front-more held held' _ _ (subst (AppendsFront held held') (ap (λ (t : List ℕ). opening_in given.form ++ t) (sym (nothing-said given s.program s.queries))) (front-more held held' _ [] front));
+    cause = rose;
+  };
+  later = later;
+}
+  where
+    nothing-answered : (given : Options) (p : Program) (queries : List (List ℤ)) (units : ℕ) → AreAnswered given p queries units [] units
+    nothing-answered given p [] units = refl
+    nothing-answered given p (q ∷ queries) units = refl
+
+    nothing-said : (given : Options) (p : Program) (queries : List (List ℤ)) → series_text given p queries 1 [] ≡ []
+    nothing-said given p [] = refl
+    nothing-said given p (q ∷ queries) = refl
 
 -- ---- the next of the queries
 pub next-query : (queries read : List (List ℤ)) (i : ℕ) (x y : List ℤ) → read ≡ queries → i < length read → x ≡ get_or read i x → y ≡ x → drop i queries ≡ y ∷ drop (i + 1) queries

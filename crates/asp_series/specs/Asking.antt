@@ -1,21 +1,25 @@
 -- What the functions say that ask the queries of a series.
-use Rattle.std.specs.Prelude.{◌≡◌, ℕ, ◌-◌, ◌≤◌, Bool, true, false, ◌||◌, List, [], length, ℤ, Option, None, Some, Result, Ok, Err, IfSome, option_map}
+use Rattle.std.specs.Prelude.{◌≡◌, ℕ, ◌+◌, ◌-◌, ◌*◌, ◌≤◌, Bool, true, false, ◌||◌, List, [], ◌++◌, length, ℤ, Option, None, Some, Result, Ok, Err, IfSome, option_map}
 use Rattle.std.specs.Io.KnownBytes.{Appends, Keeps}
 use Rattle.asp_io.specs.Causes.{AppendsFront, Rose}
 use Rattle.asp_model.specs.declared.program.Program.{Program}
 use Rattle.asp_model.specs.declared.results.Ask.{Ask}
 use Rattle.asp_model.specs.declared.results.End.{End}
 use Rattle.asp_model.specs.declared.results.End.TheVariants.{Finished, Limited, Unfinished}
+use Rattle.asp_model.specs.declared.results.Mode.{Mode}
 use Rattle.asp_model.specs.declared.results.Mode.TheVariants.{Enum}
 use Rattle.asp_model.specs.Holding.{all_hold}
 use Rattle.asp_model.specs.Models.{is_stable}
 use Rattle.asp_model.specs.Sets.{Atoms}
 use Rattle.asp_model.specs.Sound.{IsSound}
+use Rattle.asp_model.specs.Texts.{found_count}
+use Rattle.asp_read.specs.declared.series.Series.{Series}
 use Rattle.asp_read.specs.Queries.{with_query}
 use Rattle.asp_unsat.specs.Cores.{IsCore, is_listed}
 use Rattle.asp_cli.specs.declared.Options.{Options}
 use Rattle.asp_cli.specs.Found.{seeks_consequences}
-use Rattle.asp_print.specs.Queries.{query_text}
+use Rattle.asp_json.specs.declared.entries.Sums.{Sums}
+use Rattle.asp_cli.specs.declared.Form.{Form}
 use Rattle.asp_crew_laws.specs.Reports.{IsReport}
 use Rattle.asp_crew_laws.specs.Proofs.{HasProof}
 use Rattle.asp_series.specs.declared.ask.Sought.{Sought}
@@ -29,9 +33,9 @@ use Rattle.asp_series.specs.declared.series.Course.{Course}
 use Rattle.asp_series.specs.declared.series.Reply.{Reply}
 use Rattle.asp_series.specs.declared.end.SeriesEnd.{SeriesEnd}
 use Rattle.asp_series.specs.declared.end.SeriesEnd.TheVariants.{All, NoModel, Partial, Unknown, Memory, WriteFault}
-use Rattle.asp_prepare.specs.Meaning.{has_model}
+use Rattle.asp_prepare.specs.Meaning.{has_model, mode_of}
 use Rattle.asp_prepare.specs.Naming.{prepared_of}
-use Rattle.asp_series.specs.Series.{Answered, AreAnswered, HasCore, IsAnsweredBy, IsMinimal, about, all_done, answered_text, any_model, is_done, series_text, without}
+use Rattle.asp_series.specs.Series.{Answered, AreAnswered, AreSome, HasCore, IsAnsweredBy, IsMinimal, about, all_done, answered_text, any_model, closing_in, end_by, is_done, models_of, query_in, series_text, sums_of, without}
 
 -- ---- a search
 -- what was prepared was searched
@@ -146,27 +150,29 @@ answered_of y = record { done = y.sought.report; core = literals_in y.core; mini
 
 -- the text of a reply to the query with this number
 abbrev pub reply_text : Options → Program → ℕ → Reply → List ℕ
-reply_text given p number y =
-    query_text y.sought.prepared.compiled p.outputs number y.sought.report.results (literals_in y.core) (minimal_in y.core) given.quiet given.names
+reply_text given p number y = query_in given.form given y.sought.prepared.compiled p.outputs number y.sought.report.results (literals_in y.core) (minimal_in y.core)
 
 -- the reply to a query
 pub record IsReply (given : Options) (p : Program) (query : List ℤ) (units : ℕ) (y : Reply) : Type 0 where
   pub sought : IsSought given (with_query p query) (about given (with_query p query)) units y.sought
   pub answered : IsAnsweredBy given p query units (answered_of y)
 
--- what follows a reply: the next query where it is finished, and else the end
-abbrev pub GoesOn : Course → Answered → Result Course SeriesEnd → Type 0
-GoesOn c x (Ok d) = (is_done x.done.results.end ≡ true) × (d ≡ record { left = c.left - x.spent; any = c.any || has_model x.done.results })
-GoesOn c x (Err Partial) = (is_done x.done.results.end ≡ false) × ((c.any || has_model x.done.results) ≡ true)
-GoesOn c x (Err Unknown) = (is_done x.done.results.end ≡ false) × ((c.any || has_model x.done.results) ≡ false)
-GoesOn c x (Err end) = ⊥
+-- how far a series is after the query with this number was answered
+abbrev pub gone_on : Course → ℕ → Answered → Course
+gone_on c number x = record {
+  left = c.left - x.spent;
+  any = c.any || has_model x.done.results;
+  done = is_done x.done.results.end;
+  models = c.models + found_count x.done.results.mode x.done.results;
+  calls = number;
+}
 
 -- a query was answered, written and sent on
-pub record Steps (given : Options) (p : Program) (query : List ℤ) (number : ℕ) (c : Course) (held held' : Option (List ℕ)) (result : Result Course SeriesEnd) : Type 0 where
+pub record Steps (given : Options) (p : Program) (query : List ℤ) (number : ℕ) (c : Course) (held held' : Option (List ℕ)) (d : Course) : Type 0 where
   pub x : Answered
   pub is : IsAnsweredBy given p query c.left x
   pub text : Appends held held' (answered_text given p query number x)
-  pub goes : GoesOn c x result
+  pub goes : d ≡ gone_on c number x
 
 -- a query was answered, and a front of its text written
 pub record Breaks (given : Options) (p : Program) (query : List ℤ) (number : ℕ) (c : Course) (held held' : Option (List ℕ)) (writes writes' : ℕ) : Type 0 where
@@ -178,26 +184,89 @@ pub record Breaks (given : Options) (p : Program) (query : List ℤ) (number : �
 
 -- what a query led to
 abbrev pub StepMeans : Options → Program → List ℤ → ℕ → Course → Option (List ℕ) → Option (List ℕ) → ℕ → ℕ → Result Course SeriesEnd → Type 0
-StepMeans given p query number c held held' writes writes' (Ok d) = Steps given p query number c held held' (Ok d) × (writes' ≡ writes)
-StepMeans given p query number c held held' writes writes' (Err Partial) = Steps given p query number c held held' (Err Partial) × (writes' ≡ writes)
-StepMeans given p query number c held held' writes writes' (Err Unknown) = Steps given p query number c held held' (Err Unknown) × (writes' ≡ writes)
+StepMeans given p query number c held held' writes writes' (Ok d) = Steps given p query number c held held' d × (writes' ≡ writes)
 StepMeans given p query number c held held' writes writes' (Err Memory) = Keeps held held' × (writes' ≡ writes)
 StepMeans given p query number c held held' writes writes' (Err (WriteFault closed)) = Breaks given p query number c held held' writes writes'
 StepMeans given p query number c held held' writes writes' (Err end) = ⊥
 
--- the sink was flushed after the last query
-abbrev pub EndMeans : Bool → ℕ → ℕ → SeriesEnd → Type 0
-EndMeans any writes writes' All = (any ≡ true) × (writes' ≡ writes)
-EndMeans any writes writes' NoModel = (any ≡ false) × (writes' ≡ writes)
-EndMeans any writes writes' (WriteFault closed) = Rose writes writes'
-EndMeans any writes writes' end = ⊥
+-- the end of a series that is so far
+abbrev pub end_of : Bool → Bool → SeriesEnd
+end_of true true = All
+end_of true false = NoModel
+end_of false true = Partial
+end_of false false = Unknown
 
--- the first of the queries were answered and finished, and their texts are out
-pub record IsAt (given : Options) (p : Program) (queries : List (List ℤ)) (held held' : Option (List ℕ)) (writes writes' : ℕ) (count : ℕ) (c : Course) : Type 0 where
+-- what is said of the queries together
+abbrev pub sums_at : Mode → Course → Sums
+sums_at mode c = record { end = end_by c.done; mode = mode; models = c.models; calls = c.calls }
+
+-- what stands after the last query was written, and the sink flushed
+abbrev pub CloseMeans : Form → Mode → Course → Option (List ℕ) → Option (List ℕ) → ℕ → ℕ → SeriesEnd → Type 0
+CloseMeans form mode c held held' writes writes' Memory = ⊥
+CloseMeans form mode c held held' writes writes' (WriteFault closed) = AppendsFront held held' (closing_in form (sums_at mode c)) × Rose writes writes'
+CloseMeans form mode c held held' writes writes' end = (end ≡ end_of c.done c.any) × Appends held held' (closing_in form (sums_at mode c)) × (writes' ≡ writes)
+
+-- at most so many answers are recorded of a query
+abbrev pub most_recorded : ℕ
+most_recorded = 18446744073709551615
+
+-- the first of the queries were answered, and their texts are out
+pub record IsAt (given : Options) (p : Program) (queries : List (List ℤ)) (held held' : Option (List ℕ)) (writes writes' : ℕ) (c : Course) : Type 0 where
   pub xs : List Answered
   pub answered : AreAnswered given p queries given.budget xs c.left
-  pub count_is : length xs ≡ count
-  pub done : all_done xs ≡ true
+  pub calls : length xs ≡ c.calls
+  pub done : all_done xs ≡ c.done
   pub any : any_model xs ≡ c.any
+  pub models : models_of xs ≡ c.models
+  pub few : c.models ≤ c.calls * most_recorded
   pub text : Appends held held' (series_text given p queries 1 xs)
   pub quiet : writes' ≡ writes
+
+-- so many were, and all of them are finished
+pub record IsAtQuery (given : Options) (p : Program) (queries : List (List ℤ)) (held held' : Option (List ℕ)) (writes writes' : ℕ) (count : ℕ) (c : Course) : Type 0 where
+  pub at : IsAt given p queries held held' writes writes' c
+  pub finished : c.done ≡ true
+  pub count_is : c.calls ≡ count
+
+-- all of them were, unless one isn't finished
+pub record IsThrough (given : Options) (p : Program) (queries : List (List ℤ)) (held held' : Option (List ℕ)) (writes writes' : ℕ) (c : Course) : Type 0 where
+  pub at : IsAt given p queries held held' writes writes' c
+  pub every : c.done ≡ true → c.calls ≡ length queries
+
+-- ---- after the opening
+-- what follows the opening: the texts of the queries, and what stands after them
+abbrev pub rest_text : Options → Series → List Answered → List ℕ
+rest_text given s xs = series_text given s.program s.queries 1 xs ++ closing_in given.form (sums_of (mode_of given.mode s.program) xs)
+
+-- memory ran out after some queries
+pub record Stops (given : Options) (s : Series) (held held' : Option (List ℕ)) : Type 0 where
+  pub xs : List Answered
+  pub some : AreSome given s xs
+  pub text : Appends held held' (series_text given s.program s.queries 1 xs)
+
+-- the sink failed at the text of some queries
+pub record Fails (given : Options) (s : Series) (held held' : Option (List ℕ)) (writes writes' : ℕ) : Type 0 where
+  pub xs : List Answered
+  pub some : AreSome given s xs
+  pub text : AppendsFront held held' (rest_text given s xs)
+  pub cause : Rose writes writes'
+
+-- all that was to be asked was, and its text written whole
+pub record Ends (given : Options) (s : Series) (held held' : Option (List ℕ)) (end : SeriesEnd) : Type 0 where
+  pub xs : List Answered
+  pub some : AreSome given s xs
+  pub text : Appends held held' (rest_text given s xs)
+  pub every : all_done xs ≡ true → length xs ≡ length s.queries
+  pub end_is : end ≡ end_of (all_done xs) (any_model xs)
+
+-- what each end says, after the opening was written
+abbrev pub AsksOn : Options → Series → Option (List ℕ) → Option (List ℕ) → ℕ → ℕ → SeriesEnd → Type 0
+AsksOn given s held held' writes writes' Memory = Stops given s held held' × (writes' ≡ writes)
+AsksOn given s held held' writes writes' (WriteFault closed) = Fails given s held held' writes writes'
+AsksOn given s held held' writes writes' end = Ends given s held held' end × (writes' ≡ writes)
+
+-- why the queries were not gone through: memory ran out, or the sink failed
+abbrev pub StopMeans : Options → Series → Option (List ℕ) → Option (List ℕ) → ℕ → ℕ → SeriesEnd → Type 0
+StopMeans given s held held' writes writes' Memory = Stops given s held held' × (writes' ≡ writes)
+StopMeans given s held held' writes writes' (WriteFault closed) = Fails given s held held' writes writes'
+StopMeans given s held held' writes writes' end = ⊥

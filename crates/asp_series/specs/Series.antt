@@ -3,18 +3,25 @@ use Rattle.std.specs.Prelude.{◌≡◌, ℕ, ◌+◌, ◌-◌, ◌≤◌, Bool,
 use Rattle.std.specs.Ordering.{int_eq}
 use Rattle.std.specs.Io.KnownBytes.{Appends}
 use Rattle.asp_io.specs.Causes.{AppendsFront, Rose}
+use Rattle.asp_model.specs.declared.program.Output.{Output}
 use Rattle.asp_model.specs.declared.program.Program.{Program}
 use Rattle.asp_model.specs.declared.results.Ask.{Ask}
 use Rattle.asp_model.specs.declared.results.End.{End}
 use Rattle.asp_model.specs.declared.results.End.TheVariants.{Finished, Limited, Unfinished}
+use Rattle.asp_model.specs.declared.results.Mode.{Mode}
 use Rattle.asp_model.specs.Found.{Found}
 use Rattle.asp_model.specs.Holding.{all_hold}
 use Rattle.asp_model.specs.Models.{is_stable}
 use Rattle.asp_model.specs.Sets.{Atoms}
+use Rattle.asp_model.specs.Texts.{found_count}
 use Rattle.asp_read.specs.declared.series.Series.{Series}
 use Rattle.asp_read.specs.Queries.{with_query}
 use Rattle.asp_unsat.specs.Cores.{IsCore, is_listed}
 use Rattle.asp_print.specs.Queries.{query_text}
+use Rattle.asp_json.specs.declared.entries.Sums.{Sums}
+use Rattle.asp_json.specs.Entries.{entry_text, opening_text, sums_text}
+use Rattle.asp_cli.specs.declared.Form.{Form}
+use Rattle.asp_cli.specs.declared.Form.TheVariants.{Text, Json}
 use Rattle.asp_cli.specs.declared.Options.{Options}
 use Rattle.asp_crew_laws.specs.declared.report.Report.{Report}
 use Rattle.asp_crew_laws.specs.Reports.{IsReport, Says as SaysReport}
@@ -72,10 +79,15 @@ pub record IsAnsweredBy (given : Options) (p : Program) (query : List ℤ) (unit
   pub plain : given.core_min ≡ false → x.spent ≡ x.done.spent
   pub least : given.core_min ≡ true → IfSome x.core (λ core. x.minimal ≡ false → x.spent ≡ units)
 
--- the text of what was found of the query with this number
+-- the text of what was found of the query with this number, and of its core, in the form that was asked for
+abbrev pub query_in : Form → Options → Program → List Output → ℕ → Found → Option (List ℤ) → Bool → List ℕ
+query_in Text given p os number r core minimal = query_text p os number r core minimal given.quiet given.names
+query_in Json given p os number r core minimal = entry_text p os number r core minimal given.quiet given.names
+
+-- the same of the program
 abbrev pub answered_text : Options → Program → List ℤ → ℕ → Answered → List ℕ
 answered_text given p query number x =
-    query_text (with_query p query) p.outputs number (found_with (set_aside given (with_query p query)) x.done.results) x.core x.minimal given.quiet given.names
+    query_in given.form given (with_query p query) p.outputs number (found_with (set_aside given (with_query p query)) x.done.results) x.core x.minimal
 
 -- ---- one after another
 abbrev pub is_open : Answered → Bool
@@ -98,6 +110,11 @@ abbrev pub any_model : List Answered → Bool
 any_model [] = false
 any_model (x ∷ xs) = has_model x.done.results || any_model xs
 
+-- how many answers were recorded of all of them
+abbrev pub models_of : List Answered → ℕ
+models_of [] = 0
+models_of (x ∷ xs) = found_count x.done.results.mode x.done.results + models_of xs
+
 -- the texts of the queries that were answered, of which the first has this number
 abbrev pub series_text : Options → Program → List (List ℤ) → ℕ → List Answered → List ℕ
 series_text given p queries number [] = []
@@ -109,13 +126,36 @@ pub record AreSome (given : Options) (s : Series) (xs : List Answered) : Type 0 
   pub left : ℕ
   pub answered : AreAnswered given s.program s.queries given.budget xs left
 
-abbrev pub text_of : Options → Series → List Answered → List ℕ
-text_of given s xs = series_text given s.program s.queries 1 xs
+-- what stands before the text of the first query
+abbrev pub opening_in : Form → List ℕ
+opening_in Text = []
+opening_in Json = opening_text
 
--- exactly the texts of the queries that were answered were written
+-- what is said of queries together: they are finished where each of them is
+abbrev pub end_by : Bool → End
+end_by true = Finished
+end_by false = Unfinished
+
+abbrev pub sums_of : Mode → List Answered → Sums
+sums_of mode xs = record { end = end_by (all_done xs); mode = mode; models = models_of xs; calls = length xs }
+
+-- what stands after the text of the last query
+abbrev pub closing_in : Form → Sums → List ℕ
+closing_in Text sums = []
+closing_in Json sums = sums_text sums
+
+-- the text of the queries that were answered, as far as the last of them
+abbrev pub text_of : Options → Series → List Answered → List ℕ
+text_of given s xs = opening_in given.form ++ series_text given s.program s.queries 1 xs
+
+-- the whole text
+abbrev pub whole_text : Options → Series → List Answered → List ℕ
+whole_text given s xs = text_of given s xs ++ closing_in given.form (sums_of (mode_of given.mode s.program) xs)
+
+-- exactly the text of the queries that were answered was written
 pub record IsWrittenOf (given : Options) (s : Series) (held held' : Option (List ℕ)) (xs : List Answered) : Type 0 where
   pub some : AreSome given s xs
-  pub text : Appends held held' (text_of given s xs)
+  pub text : Appends held held' (whole_text given s xs)
 
 -- Every query was answered and finished, and one has a model or none.
 pub record IsSettled (given : Options) (s : Series) (held held' : Option (List ℕ)) (model : Bool) : Type 0 where
@@ -132,16 +172,17 @@ pub record IsSpent (given : Options) (s : Series) (held held' : Option (List ℕ
   pub unfinished : all_done xs ≡ false
   pub model_is : any_model xs ≡ model
 
--- Memory ran out after some queries, whose texts were written whole.
+-- Memory ran out after some queries, whose texts were written whole, and nothing after them.
 pub record IsFront (given : Options) (s : Series) (held held' : Option (List ℕ)) : Type 0 where
   pub xs : List Answered
-  pub written : IsWrittenOf given s held held' xs
+  pub some : AreSome given s xs
+  pub text : Appends held held' (text_of given s xs)
 
--- A front of the texts of some queries was written, and a fault counted.
+-- A front of the text of some queries was written, and a fault counted.
 pub record IsCut (given : Options) (s : Series) (held held' : Option (List ℕ)) (writes writes' : ℕ) : Type 0 where
   pub xs : List Answered
   pub some : AreSome given s xs
-  pub text : AppendsFront held held' (text_of given s xs)
+  pub text : AppendsFront held held' (whole_text given s xs)
   pub cause : Rose writes writes'
 
 -- what each end of a series says of it

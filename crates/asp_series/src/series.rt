@@ -1,23 +1,26 @@
 //! A series of queries: each is a run of its own, with the units that those before it left.
-ghost use Rattle.std.specs.Prelude.{◌≡◌, ◌≤◌, IfErr, IfOk, OnOk, false, length, option_map, true, Some};
-ghost use Rattle.std.specs.Io.KnownBytes.{Keeps};
+ghost use Rattle.std.specs.Prelude.{◌≡◌, ◌≤◌, ◌-◌, ◌*◌, IfErr, IfOk, OnOk, false, option_map, true, Some};
 ghost use Rattle.asp_cli.specs.Found.{seeks_consequences};
 ghost use Rattle.asp_read.specs.Queries.{IsSoundSeries};
-ghost use Rattle.asp_series.specs.Asking.{EndMeans, GoesOn, IsAskable, IsAt, IsReply, StepMeans, answered_of, literals_in, minimal_in, reply_text, spent_in};
+ghost use Rattle.asp_series.specs.Asking.{AsksOn, CloseMeans, IsAskable, IsReply, IsThrough, StepMeans, StopMeans, answered_of, end_of, gone_on, literals_in, minimal_in, most_recorded, reply_text, spent_in, sums_at};
 ghost use Rattle.asp_faults.specs.Writing.{Writes};
-ghost use Rattle.asp_series.specs.Series.{Asks, IsSentOn, TellsClosed, TellsFaults};
+ghost use Rattle.asp_series.specs.Series.{Asks, IsSentOn, TellsClosed, TellsFaults, closing_in, is_done, opening_in, query_in};
 
 use crate::ask::{Asking, Sought, about, seek};
 use crate::cores::{Core, core_of};
 use crate::end::SeriesEnd;
-use asp_cli::Options;
+use asp_cli::{Form, Options};
 use asp_counts::counts::Counts;
 use asp_counts::watch::Watch;
 use asp_io::{Failed, Sink};
-use asp_model::results::End;
+use asp_json::{Sums, print_entry, print_opening, print_sums};
+use asp_model::program::Program;
+use asp_model::results::{End, Mode, Results};
+use asp_prepare::asked::mode_of;
 use asp_prepare::told::has_model;
-use asp_print::{Query, print_query};
+use asp_print::{Query, found_count, print_query};
 use asp_read::Series;
+use asp_rows::sets::Sets;
 use std::alloc::{AllocError, Global};
 use std::mem;
 
@@ -39,6 +42,12 @@ pub struct Course {
     pub left: u64,
     /// Whether a query had a model.
     pub any: bool,
+    /// Whether all queries that were begun are finished.
+    pub done: bool,
+    /// How many answers were recorded.
+    pub models: u128,
+    /// How many queries were begun.
+    pub calls: u64,
 }
 
 fn spent_in(core: &Option<Core>) -> u64
@@ -103,6 +112,26 @@ fn is_minimal(core: &Option<Core>) -> bool
     }
 }
 
+// Writes the text of a query's results in the form that was asked for.
+fn write_query<K: Sink>(
+    alloc: Global,
+    options: &Options,
+    program: &Program,
+    query: Query<'_>,
+    results: &Results<Sets>,
+    sink: &mut K,
+) -> Result<(), Failed>
+    ensures { Writes (K.held sink.old) (K.held sink.new) (K.faults sink.old) (K.faults sink.new) result
+        (query_in options.now.form options.now program.now query.entry.outputs.now query.entry.number results.now (option_map (λ core. core.now) query.entry.core) query.entry.minimal) }
+{
+    let brief = options.quiet;
+    let names = options.names;
+    match options.form {
+        Form::Text => print_query(alloc, sink, program, query, results, brief, names),
+        Form::Json => print_entry(alloc, sink, program, query, results, brief, names),
+    }
+}
+
 // Writes the text of a query's results.
 fn write_reply<K: Sink>(
     alloc: Global,
@@ -119,14 +148,13 @@ fn write_reply<K: Sink>(
         minimal: is_minimal(&reply.core),
         outputs: &asking.program.outputs,
     };
-    print_query(
+    write_query(
         alloc,
-        sink,
+        asking.options,
         reply.sought.prepared.compiled.program(),
         query,
         &reply.sought.report.results,
-        asking.options.quiet,
-        asking.options.names,
+        sink,
     )
 }
 
@@ -145,22 +173,31 @@ fn tell<K: Sink>(
     sink.flush()
 }
 
-// What follows a reply: the next query, or the end where the units are spent.
-fn go_on(course: Course, reply: &Reply) -> Result<Course, SeriesEnd>
-    requires { reply.now.spent ≤ course.left }
-    ensures { GoesOn course (answered_of reply.now) result }
+fn is_done(end: End) -> bool
+    ensures { result ≡ is_done end }
 {
-    let any = course.any || has_model(&reply.sought.report.results);
-    match reply.sought.report.results.end {
-        End::Finished => Ok(Course {
-            left: course.left - reply.spent,
-            any,
-        }),
-        _ => Err(if any {
-            SeriesEnd::Partial
-        } else {
-            SeriesEnd::Unknown
-        }),
+    match end {
+        End::Finished => true,
+        End::Limited | End::Unfinished => false,
+    }
+}
+
+// How far a series is after the query with this number was answered.
+fn gone_on(course: Course, number: u64, reply: &Reply) -> Course
+    requires paid { reply.now.spent ≤ course.left }
+    requires few { course.models ≤ (number - 1) * most_recorded }
+    requires first { 1 ≤ number }
+    ensures gone { result ≡ gone_on course number (answered_of reply.now) }
+    ensures few { result.models ≤ number * most_recorded }
+{
+    let results = &reply.sought.report.results;
+    let found = found_count(results);
+    Course {
+        left: course.left - reply.spent,
+        any: course.any || has_model(results),
+        done: is_done(results.end),
+        models: course.models + found as u128,
+        calls: number,
     }
 }
 
@@ -175,13 +212,16 @@ fn hand_over<K: Sink>(
 ) -> Result<Course, SeriesEnd>
     requires plain { seeks_consequences (Some asking.now.options.now.mode) ≡ false }
     requires reply { IsReply asking.now.options.now asking.now.program.now asking.now.literals.now course.left reply.now }
+    requires few { course.models ≤ (number - 1) * most_recorded }
+    requires first { 1 ≤ number }
+    ensures few { IfOk result (λ d. d.models ≤ number * most_recorded) }
     ensures means { StepMeans asking.now.options.now asking.now.program.now asking.now.literals.now number course (K.held sink.old) (K.held sink.new) (K.faults sink.old) (K.faults sink.new) result }
     ensures sent_on { OnOk result (K.is_sent sink.new ≡ true) }
     ensures sent { IfErr result (λ s. IsSentOn s (K.is_sent sink.new)) }
     ensures closed { IfErr result (λ s. TellsClosed s (K.is_closed sink.new)) }
 {
     match tell(alloc, asking, number, reply, sink) {
-        Ok(()) => go_on(course, reply),
+        Ok(()) => Ok(gone_on(course, number, reply)),
         Err(Failed) => Err(SeriesEnd::WriteFault(sink.is_closed())),
     }
 }
@@ -198,6 +238,9 @@ fn step<K: Sink, W: Watch>(
 ) -> Result<Course, SeriesEnd>
     requires askable { IsAskable asking.now.options.now asking.now.program.now asking.now.literals.now }
     requires units { course.left ≡ asking.now.units }
+    requires few { course.models ≤ (number - 1) * most_recorded }
+    requires first { 1 ≤ number }
+    ensures few { IfOk result (λ d. d.models ≤ number * most_recorded) }
     ensures means { StepMeans asking.now.options.now asking.now.program.now asking.now.literals.now number course (K.held sink.old) (K.held sink.new) (K.faults sink.old) (K.faults sink.new) result }
     ensures sent_on { OnOk result (K.is_sent sink.new ≡ true) }
     ensures sent { IfErr result (λ s. IsSentOn s (K.is_sent sink.new)) }
@@ -214,7 +257,7 @@ fn step<K: Sink, W: Watch>(
     }
 }
 
-// Asks the queries, one after another.
+// Asks the queries, one after another, up to one that isn't finished.
 fn ask_each<K: Sink, W: Watch>(
     alloc: Global,
     options: &Options,
@@ -225,16 +268,17 @@ fn ask_each<K: Sink, W: Watch>(
 ) -> Result<Course, SeriesEnd>
     requires plain { seeks_consequences (Some options.now.mode) ≡ false }
     requires sound { IsSoundSeries series.now }
-    ensures asked { IfOk result (IsAt options.now series.now.program series.now.queries (K.held sink.old) (K.held sink.new) (K.faults sink.old) (K.faults sink.new) (length series.now.queries)) }
-    ensures stops { IfErr result (λ s. Asks options.now series.now (K.held sink.old) (K.held sink.new) (K.faults sink.old) (K.faults sink.new) s) }
-    ensures flushed { IfErr result (λ s. TellsFaults (K.faults sink.old) (K.faults sink.new) s) }
-    ensures sent { IfErr result (λ s. IsSentOn s (K.is_sent sink.new)) }
+    ensures asked { IfOk result (IsThrough options.now series.now.program series.now.queries (K.held sink.old) (K.held sink.new) (K.faults sink.old) (K.faults sink.new)) }
+    ensures stops { IfErr result (λ s. StopMeans options.now series.now (K.held sink.old) (K.held sink.new) (K.faults sink.old) (K.faults sink.new) s) }
     ensures closed { IfErr result (λ s. TellsClosed s (K.is_closed sink.new)) }
     ensures heard { W.IsAfter watch.old watch.new }
 {
     let mut course = Course {
         left: options.budget,
         any: false,
+        done: true,
+        models: 0,
+        calls: 0,
     };
     let queries = series.queries.as_slice();
     for i in 0..queries.len() {
@@ -245,28 +289,112 @@ fn ask_each<K: Sink, W: Watch>(
             units: course.left,
         };
         match step(alloc, &asking, i as u64 + 1, course, sink, counts, watch) {
-            Ok(next) => course = next,
+            Ok(next) => {
+                if !next.done {
+                    return Ok(next);
+                }
+                course = next;
+            }
             Err(end) => return Err(end),
         }
     }
     Ok(course)
 }
 
-// The end of a series whose queries were all finished.
-fn end<K: Sink>(any: bool, sink: &mut K) -> SeriesEnd
-    ensures kept { Keeps (K.held sink.old) (K.held sink.new) }
+// The end of a series that is so far.
+fn end_of(course: Course) -> SeriesEnd
+    ensures { result ≡ end_of course.done course.any }
+{
+    match (course.done, course.any) {
+        (true, true) => SeriesEnd::All,
+        (true, false) => SeriesEnd::NoModel,
+        (false, true) => SeriesEnd::Partial,
+        (false, false) => SeriesEnd::Unknown,
+    }
+}
+
+// What is said of the queries together.
+fn sums_at(mode: Mode, course: Course) -> Sums
+    ensures { result ≡ sums_at mode course }
+{
+    Sums {
+        end: if course.done {
+            End::Finished
+        } else {
+            End::Unfinished
+        },
+        mode,
+        models: course.models,
+        calls: course.calls,
+    }
+}
+
+// Writes what stands before the text of the first query.
+fn write_opening<K: Sink>(form: Form, sink: &mut K) -> Result<(), Failed>
+    ensures { Writes (K.held sink.old) (K.held sink.new) (K.faults sink.old) (K.faults sink.new) result (opening_in form) }
+{
+    match form {
+        Form::Text => Ok(()),
+        Form::Json => print_opening(sink),
+    }
+}
+
+// Writes what stands after the text of the last query.
+fn write_closing<K: Sink>(form: Form, sums: &Sums, sink: &mut K) -> Result<(), Failed>
+    ensures { Writes (K.held sink.old) (K.held sink.new) (K.faults sink.old) (K.faults sink.new) result (closing_in form sums.now) }
+{
+    match form {
+        Form::Text => Ok(()),
+        Form::Json => print_sums(sink, sums),
+    }
+}
+
+// The same, and flushes the sink.
+fn tell_closing<K: Sink>(form: Form, sums: &Sums, sink: &mut K) -> Result<(), Failed>
+    ensures writes { Writes (K.held sink.old) (K.held sink.new) (K.faults sink.old) (K.faults sink.new) result (closing_in form sums.now) }
+    ensures sent { OnOk result (K.is_sent sink.new ≡ true) }
+{
+    write_closing(form, sums, sink)?;
+    sink.flush()
+}
+
+// Writes what stands after the text of the last query, and says how the series ended.
+fn close<K: Sink>(form: Form, mode: Mode, course: Course, sink: &mut K) -> SeriesEnd
+    ensures means { CloseMeans form mode course (K.held sink.old) (K.held sink.new) (K.faults sink.old) (K.faults sink.new) result }
     ensures later { K.faults sink.old ≤ K.faults sink.new }
-    ensures means { EndMeans any (K.faults sink.old) (K.faults sink.new) result }
     ensures sent { IsSentOn result (K.is_sent sink.new) }
     ensures closed { TellsClosed result (K.is_closed sink.new) }
 {
-    match sink.flush() {
-        Ok(()) => if any {
-            SeriesEnd::All
-        } else {
-            SeriesEnd::NoModel
-        },
+    match tell_closing(form, &sums_at(mode, course), sink) {
+        Ok(()) => end_of(course),
         Err(Failed) => SeriesEnd::WriteFault(sink.is_closed()),
+    }
+}
+
+// Asks the queries, one after another, and writes what stands after the last one's text.
+fn ask_and_close<K: Sink, W: Watch>(
+    alloc: Global,
+    options: &Options,
+    series: &Series,
+    sink: &mut K,
+    counts: &mut Counts,
+    watch: &mut W,
+) -> SeriesEnd
+    requires plain { seeks_consequences (Some options.now.mode) ≡ false }
+    requires sound { IsSoundSeries series.now }
+    ensures asks { AsksOn options.now series.now (K.held sink.old) (K.held sink.new) (K.faults sink.old) (K.faults sink.new) result }
+    ensures sent { IsSentOn result (K.is_sent sink.new) }
+    ensures closed { TellsClosed result (K.is_closed sink.new) }
+    ensures heard { W.IsAfter watch.old watch.new }
+{
+    match ask_each(alloc, options, series, sink, counts, watch) {
+        Ok(course) => close(
+            options.form,
+            mode_of(options.mode, &series.program),
+            course,
+            sink,
+        ),
+        Err(status) => status,
     }
 }
 
@@ -288,8 +416,8 @@ pub fn ask_all<K: Sink, W: Watch>(
     ensures closed { TellsClosed result (K.is_closed sink.new) }
     ensures heard { W.IsAfter watch.old watch.new }
 {
-    match ask_each(alloc, options, series, sink, counts, watch) {
-        Ok(course) => end(course.any, sink),
-        Err(status) => status,
+    match write_opening(options.form, sink) {
+        Ok(()) => ask_and_close(alloc, options, series, sink, counts, watch),
+        Err(Failed) => SeriesEnd::WriteFault(sink.is_closed()),
     }
 }

@@ -7,16 +7,16 @@ pub returns-in_err-put_more : goal.returns-in_err-put_more
 returns-in_err-put_more g c = puts_same _ _ _ _ _
     (puts_fails _ _ _ _ _
     ((codes ",\"Models\":{\"Number\":" ++ decimal c.args.count ++ codes ",\"More\":\"" ++ more c.args.results.now.end ++ codes "\""))
-    (best_text c.args.results.now.mode c.args.results.now c.args.count ++ codes "}}\n") (c.in_err-put_more.ensures) c.from_residual.ensures.1)
+    (best_text c.args.results.now.mode c.args.results.now c.args.count ++ codes "}") (c.in_err-put_more.ensures) c.from_residual.ensures.1)
     (sym (append_assoc ((codes ",\"Models\":{\"Number\":" ++ decimal c.args.count
     ++ codes ",\"More\":\"" ++ more c.args.results.now.end ++ codes "\""))
-    (best_text c.args.results.now.mode c.args.results.now c.args.count) (codes "}}\n")))
+    (best_text c.args.results.now.mode c.args.results.now c.args.count) (codes "}")))
 
 pub returns-in_err-put_best : goal.returns-in_err-put_best
 returns-in_err-put_best g c =
     puts_fails _ _ _ _ _
     ((codes ",\"Models\":{\"Number\":" ++ decimal c.args.count ++ codes ",\"More\":\"" ++ more c.args.results.now.end ++ codes "\"")
-    ++ best_text c.args.results.now.mode c.args.results.now c.args.count) (codes "}}\n")
+    ++ best_text c.args.results.now.mode c.args.results.now c.args.count) (codes "}")
     (puts_then _ _ _ _ _
     ((codes ",\"Models\":{\"Number\":" ++ decimal c.args.count ++ codes ",\"More\":\"" ++ more c.args.results.now.end ++ codes "\""))
     (best_text c.args.results.now.mode c.args.results.now c.args.count) (c.in_ok-put_more.ensures) (c.in_err-put_best.ensures))
@@ -26,7 +26,7 @@ pub returns : goal.returns
 returns g c =
     puts_then _ _ _ _ _
     ((codes ",\"Models\":{\"Number\":" ++ decimal c.args.count ++ codes ",\"More\":\"" ++ more c.args.results.now.end ++ codes "\"")
-    ++ best_text c.args.results.now.mode c.args.results.now c.args.count) (codes "}}\n")
+    ++ best_text c.args.results.now.mode c.args.results.now c.args.count) (codes "}")
     (puts_then _ _ _ _ _
     ((codes ",\"Models\":{\"Number\":" ++ decimal c.args.count ++ codes ",\"More\":\"" ++ more c.args.results.now.end ++ codes "\""))
     (best_text c.args.results.now.mode c.args.results.now c.args.count) (c.in_ok-put_more.ensures) (c.in_ok-put_best.ensures)) (c.put.ensures)

@@ -1,7 +1,6 @@
-use Rattle.std.proofs.Common.{◌+◌, ℕ, List, ap, arith, drop, length, subst}
+use Rattle.std.proofs.Common.{◌+◌, List, ap, arith, drop, length}
 use Rattle.std.specs.Prelude.{ℤ}
-use Rattle.asp_series.specs.Asking.{IsAt}
-use Rattle.asp_series.proofs.SeriesLaws.{asks-flushed, at-more, at-stops, next-query, sound-query}
+use Rattle.asp_series.proofs.SeriesLaws.{at-end, at-more, at-next, at-open, at-stops, next-query, sound-query}
 use Rattle.asp_series.proofs.series.ask_each.Goals as goal
 
 pub step-requires-clause-askable : goal.step-requires-clause-askable
@@ -12,14 +11,19 @@ step-requires-clause-askable g c =
     c.as_slice.ensures.value c.requires.sound.queries in
     record { plain = c.requires.plain; itself = c.requires.sound.program; sound = sound }
 
+pub step-requires-clause-few : goal.step-requires-clause-few
+step-requires-clause-few g c = let few = c.loop-i.invariant.at.at.few in let is = c.loop-i.invariant.at.count_is in ?
+
 pub loop-i-preserved : goal.loop-i-preserved
 loop-i-preserved g c =
     let next =
     next-query c.args.series.now.queries c.as_slice-queries.result.now c.loop-i.i c.index-queries-i.result c.as_slice.result.now
     c.as_slice-queries.ensures.value c.loop-i-test.true c.index-queries-i.is c.as_slice.ensures.value in
+    let more =
+    at-more c.args.options.now c.args.series.now c.loop-i.i c.as_slice.result.now (drop (c.loop-i.i + 1) c.args.series.now.queries) _ _ _ _ _ _
+    c.loop-i.course c.in-Ok.next c.loop-i.invariant.at next c.in-Ok.ensures.means c.in-Ok.ensures.few in
     record {
-      at = at-more c.args.options.now c.args.series.now c.loop-i.i c.as_slice.result.now (drop (c.loop-i.i + 1) c.args.series.now.queries) _ _ _ _ _ _
-          c.loop-i.course c.in-Ok.next c.loop-i.invariant.at next c.in-Ok.ensures.means;
+      at = at-next c.args.options.now c.args.series.now c.loop-i.i _ _ _ _ c.in-Ok.next more ?;
       heard = g.met.W.Watch.goes_on c.args.watch.now c.loop-i.watch c.step.new.watch c.loop-i.invariant.heard c.step.ensures.heard;
     }
 
@@ -31,16 +35,10 @@ returns-in-Err-clause-stops g c =
     at-stops c.args.options.now c.args.series.now c.loop-i.i c.as_slice.result.now (drop (c.loop-i.i + 1) c.args.series.now.queries) _ _ _ _ _ _
     c.loop-i.course c.in-Err.end c.loop-i.invariant.at next c.in-Err.ensures.means
 
-pub returns-in-Err-clause-flushed : goal.returns-in-Err-clause-flushed
-returns-in-Err-clause-flushed g c =
-    asks-flushed c.args.options.now c.args.series.now c.loop-i.i _ _ _ _ _ _ c.loop-i.course c.as_slice.result.now (c.loop-i.i + 1) c.in-Err.end c.loop-i.invariant.at c.in-Err.ensures.means
-
 pub returns-in-Err-clause-heard : goal.returns-in-Err-clause-heard
 returns-in-Err-clause-heard g c = g.met.W.Watch.goes_on c.args.watch.now c.loop-i.watch c.step.new.watch c.loop-i.invariant.heard c.step.ensures.heard
 
 pub returns-clause-asked : goal.returns-clause-asked
 returns-clause-asked g c =
     let same = ap (λ (qs : List (List ℤ)). length qs) c.as_slice-queries.ensures.value in
-    subst (λ (n : ℕ). IsAt c.args.options.now c.args.series.now.program c.args.series.now.queries (g.K.Sink.held c.args.sink.now)
-    (g.K.Sink.held c.loop-i.sink) (g.K.Sink.faults c.args.sink.now) (g.K.Sink.faults c.loop-i.sink) n c.loop-i.course) (omega (arith, same))
-    c.loop-i.invariant.at
+    at-end c.args.options.now c.args.series.now _ _ _ _ c.loop-i.i c.loop-i.course c.loop-i.invariant.at (omega (arith, same))

@@ -1,8 +1,8 @@
-use Rattle.asp_series.specs.Asking.{IsAt}
+use Rattle.asp_series.specs.Asking.{IsAtQuery}
 use Rattle.asp_series.proofs.series.ask_each.Given as goal
 
 abbrev pub invariant-loop-i : goal.invariant-loop-i
 invariant-loop-i g l = record {
-  at : IsAt l.options l.series.program l.series.queries (g.K.Sink.held l.initial.sink) (g.K.Sink.held l.sink) (g.K.Sink.faults l.initial.sink) (g.K.Sink.faults l.sink) l.i l.course;
+  at : IsAtQuery l.options l.series.program l.series.queries (g.K.Sink.held l.initial.sink) (g.K.Sink.held l.sink) (g.K.Sink.faults l.initial.sink) (g.K.Sink.faults l.sink) l.i l.course;
   heard : g.W.Watch.IsAfter l.initial.watch l.watch;
 }

@@ -1,27 +1,18 @@
 use Rattle.std.proofs.Common.{List, ℕ, subst}
 use Rattle.std.specs.Io.KnownBytes.{Appends}
 use Rattle.asp_series.specs.Asking.{answered_of}
-use Rattle.asp_series.proofs.SeriesLaws.{breaks, goes-closed, goes-sent, goes-sent_on, step-means, text-answered}
+use Rattle.asp_series.proofs.SeriesLaws.{breaks, step-means, text-answered}
 use Rattle.asp_series.proofs.series.hand_over.Goals as goal
 
-pub go_on-requires : goal.go_on-requires
-go_on-requires g c = c.requires.reply.answered.spent.1
+pub gone_on-requires-clause-paid : goal.gone_on-requires-clause-paid
+gone_on-requires-clause-paid g c = c.requires.reply.answered.spent.1
 
 pub returns-in-Ok-clause-means : goal.returns-in-Ok-clause-means
 returns-in-Ok-clause-means g c =
     let x = c.args.asking.now in
     let text = text-answered x.options.now x.program.now x.literals.now c.args.course.left c.args.number c.args.reply.now c.requires.plain c.requires.reply in
-    step-means x.options.now x.program.now x.literals.now c.args.number c.args.course _ _ _ _ (answered_of c.args.reply.now) c.go_on.result c.requires.reply.answered
-    (subst (λ (t : List ℕ). Appends (g.K.Sink.held c.args.sink.now) (g.K.Sink.held c.tell.new.sink) t) text c.in-Ok.ensures.writes.all) c.in-Ok.ensures.writes.quiet c.go_on.ensures
-
-pub returns-in-Ok-clause-sent_on : goal.returns-in-Ok-clause-sent_on
-returns-in-Ok-clause-sent_on g c = goes-sent_on c.go_on.result _ c.in-Ok.ensures.sent
-
-pub returns-in-Ok-clause-sent : goal.returns-in-Ok-clause-sent
-returns-in-Ok-clause-sent g c = goes-sent c.go_on.result _ c.in-Ok.ensures.sent
-
-pub returns-in-Ok-clause-closed : goal.returns-in-Ok-clause-closed
-returns-in-Ok-clause-closed g c = goes-closed c.args.course (answered_of c.args.reply.now) c.go_on.result _ c.go_on.ensures
+    step-means x.options.now x.program.now x.literals.now c.args.number c.args.course c.gone_on.result _ _ _ _ (answered_of c.args.reply.now) c.requires.reply.answered
+    (subst (λ (t : List ℕ). Appends (g.K.Sink.held c.args.sink.now) (g.K.Sink.held c.tell.new.sink) t) text c.in-Ok.ensures.writes.all) c.in-Ok.ensures.writes.quiet c.gone_on.ensures.gone
 
 pub returns-in-Err-clause-means : goal.returns-in-Err-clause-means
 returns-in-Err-clause-means g c =
