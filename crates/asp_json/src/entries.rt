@@ -1,11 +1,11 @@
 //! Several queries as JSON: an entry of `Call` for each, and what is said of all of them.
-ghost use Rattle.std.specs.Prelude.{◌≡◌, ◌++◌, ◌≤◌, [], codes, decimal, if◌then◌else◌, option_map, OnErr, OnOk};
+ghost use Rattle.std.specs.Prelude.{◌≡◌, ◌++◌, ◌≤◌, codes, decimal, option_map, OnErr, OnOk};
 ghost use Rattle.std.specs.Io.KnownBytes.{Appends};
 ghost use Rattle.asp_io.specs.Causes.{AppendsFront, Rose};
 ghost use Rattle.asp_model.specs.Texts.{found_count};
 ghost use Rattle.asp_buffer.specs.Out.{Puts, out};
 ghost use Rattle.asp_print.specs.Shown.{separator};
-ghost use Rattle.asp_json.specs.Entries.{core_text, entry_answers, entry_results, entry_start, entry_text, is_listed, opening_text, sums_calls, sums_models, sums_result, sums_text};
+ghost use Rattle.asp_json.specs.Entries.{core_text, entry_answers, entry_results, entry_start, entry_text, is_listed, opening_text, sums_result, sums_text};
 ghost use Rattle.asp_json.specs.Json.{recorded_text};
 
 use crate::answers::put_found;

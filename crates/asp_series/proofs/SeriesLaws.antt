@@ -1,8 +1,8 @@
 -- Queries that are answered one after another.
 use Rattle.std.proofs.Common.{◌≡◌, ◌∙◌, ℕ, ◌+◌, ◌-◌, ◌*◌, ◌<◌, ◌≤◌, zero, suc, Bool, true, false, not, ◌&&◌, ◌||◌, List, [], ◌∷◌, ◌++◌, length, drop, get_or, refl, sym, ap, subst, arith}
-use Rattle.std.specs.Prelude.{ℤ, Option, None, Some, Result, Ok, Err, IfSome, codes}
+use Rattle.std.specs.Prelude.{ℤ, Option, None, Some, Ok, Err, IfSome, codes}
 use Rattle.std.specs.Io.KnownBytes.{Appends}
-use Rattle.std.proofs.KnownBytes.{Appends-kept, Appends-trans}
+use Rattle.std.proofs.KnownBytes.{Appends-kept, Appends-nil, Appends-trans}
 use Rattle.std.proofs.lemmas.Bool.{false≢true}
 use Rattle.std.proofs.lemmas.List.{append-nil, append_assoc, length-append}
 use Rattle.asp_io.specs.Causes.{AppendsFront, Rose}
@@ -37,6 +37,7 @@ use Rattle.asp_prepare.specs.Meaning.{has_model, mode_of}
 use Rattle.asp_prepare.specs.Naming.{asked, searched, set_aside}
 use Rattle.asp_prepare.specs.Told.{found_with}
 use Rattle.asp_series.specs.Series.{Answered, AreAnswered, Asks, EndsAs, IsAnsweredBy, IsSentOn, IsWrittenOf, TellsClosed, TellsFaults, about, all_done, answered_text, any_model, closing_in, end_by, is_done, is_open, is_refuted, models_of, opening_in, query_in, series_text, sums_of, whole_text}
+use Rattle.asp_faults.specs.Writing.{Writes}
 use Rattle.asp_series.proofs.AskLaws.{listed-of, plain, says-of}
 use Rattle.asp_prepare.proofs.ToldLaws.{listed-entry, listed-text}
 
@@ -228,6 +229,12 @@ pub at-end : (given : Options) (s : Series) (held held'' : Option (List ℕ)) (w
     → IsAtQuery given s.program s.queries held held'' w w'' count d → count ≡ length s.queries → IsThrough given s.program s.queries held held'' w w'' d
 at-end given s held held'' w w'' count d h is = record { at = h.at; every = λ done. h.count_is ∙ is }
 
+-- so few answers were recorded before the next query
+pub few-at : (models calls count : ℕ) → models ≤ calls * most_recorded → calls ≡ count → models ≤ (count + 1 - 1) * most_recorded
+few-at models calls count few is =
+    let same : count + 1 - 1 ≡ count = omega arith in
+    subst (λ (n : ℕ). models ≤ n * most_recorded) (is ∙ sym same) few
+
 -- memory ran out, or the sink failed, at a query
 pub at-stops : (given : Options) (s : Series) (count : ℕ) (query : List ℤ) (rest : List (List ℤ)) (held held' held'' : Option (List ℕ)) (w w' w'' : ℕ)
     (c : Course) (end : SeriesEnd) → IsAtQuery given s.program s.queries held held' w w' count c
@@ -302,6 +309,9 @@ closed-asks given s held held' held'' w w' w'' c mode (WriteFault closed) throug
       cause = subst (λ (n : ℕ). Rose n w'') at.quiet means.1;
     }
 closed-asks given s held held' held'' w w' w'' c mode end through is means = ended given s held held' held'' w w' w'' c mode end through is means
+
+pub nothing-written : {T E : Type 0} (held : Option (List ℕ)) (w : ℕ) (v : T) → Writes {T = T} {E = E} held held w w (Ok v) []
+nothing-written held w v = record { all = Appends-nil held; front = tt; later = omega arith; cause = tt; quiet = refl }
 
 -- what stands after the last query was written
 pub closing-means : (form : Form) (mode : Mode) (c : Course) (sums : Sums) (held held' : Option (List ℕ)) (w w' : ℕ) (end : SeriesEnd) → sums ≡ sums_at mode c

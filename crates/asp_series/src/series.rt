@@ -290,10 +290,11 @@ fn ask_each<K: Sink, W: Watch>(
         };
         match step(alloc, &asking, i as u64 + 1, course, sink, counts, watch) {
             Ok(next) => {
-                if !next.done {
+                if next.done {
+                    course = next;
+                } else {
                     return Ok(next);
                 }
-                course = next;
             }
             Err(end) => return Err(end),
         }

@@ -1,6 +1,6 @@
-use Rattle.std.proofs.Common.{refl, rules, w32}
+use Rattle.std.proofs.Common.{rules, w32}
 use Rattle.std.proofs.lemmas.Int.{to_z-of_z}
-use Rattle.asp_buffer.proofs.OutLaws.{puts_fails, puts_same, puts_then}
+use Rattle.asp_buffer.proofs.OutLaws.{puts_fails, puts_then}
 use Rattle.asp_print.specs.Shown.{separator}
 use Rattle.asp_json.specs.Entries.{element}
 use Rattle.asp_json.proofs.cores.put_element.Goals as goal

@@ -1,6 +1,6 @@
 use Rattle.std.proofs.Common.{◌+◌, List, ap, arith, drop, length}
 use Rattle.std.specs.Prelude.{ℤ}
-use Rattle.asp_series.proofs.SeriesLaws.{at-end, at-more, at-next, at-open, at-stops, next-query, sound-query}
+use Rattle.asp_series.proofs.SeriesLaws.{at-end, at-more, at-next, at-open, at-stops, few-at, next-query, sound-query}
 use Rattle.asp_series.proofs.series.ask_each.Goals as goal
 
 pub step-requires-clause-askable : goal.step-requires-clause-askable
@@ -12,7 +12,7 @@ step-requires-clause-askable g c =
     record { plain = c.requires.plain; itself = c.requires.sound.program; sound = sound }
 
 pub step-requires-clause-few : goal.step-requires-clause-few
-step-requires-clause-few g c = let few = c.loop-i.invariant.at.at.few in let is = c.loop-i.invariant.at.count_is in ?
+step-requires-clause-few g c = few-at _ _ _ c.loop-i.invariant.at.at.few c.loop-i.invariant.at.count_is
 
 pub loop-i-preserved : goal.loop-i-preserved
 loop-i-preserved g c =
@@ -23,9 +23,22 @@ loop-i-preserved g c =
     at-more c.args.options.now c.args.series.now c.loop-i.i c.as_slice.result.now (drop (c.loop-i.i + 1) c.args.series.now.queries) _ _ _ _ _ _
     c.loop-i.course c.in-Ok.next c.loop-i.invariant.at next c.in-Ok.ensures.means c.in-Ok.ensures.few in
     record {
-      at = at-next c.args.options.now c.args.series.now c.loop-i.i _ _ _ _ c.in-Ok.next more ?;
+      at = at-next c.args.options.now c.args.series.now c.loop-i.i _ _ _ _ c.in-Ok.next more c.if-next.true;
       heard = g.met.W.Watch.goes_on c.args.watch.now c.loop-i.watch c.step.new.watch c.loop-i.invariant.heard c.step.ensures.heard;
     }
+
+pub returns-else-next-clause-asked : goal.returns-else-next-clause-asked
+returns-else-next-clause-asked g c =
+    let next =
+    next-query c.args.series.now.queries c.as_slice-queries.result.now c.loop-i.i c.index-queries-i.result c.as_slice.result.now
+    c.as_slice-queries.ensures.value c.loop-i-test.true c.index-queries-i.is c.as_slice.ensures.value in
+    let more =
+    at-more c.args.options.now c.args.series.now c.loop-i.i c.as_slice.result.now (drop (c.loop-i.i + 1) c.args.series.now.queries) _ _ _ _ _ _
+    c.loop-i.course c.in-Ok.next c.loop-i.invariant.at next c.in-Ok.ensures.means c.in-Ok.ensures.few in
+    at-open c.args.options.now c.args.series.now c.loop-i.i _ _ _ _ c.in-Ok.next more c.if-next.false
+
+pub returns-else-next-clause-heard : goal.returns-else-next-clause-heard
+returns-else-next-clause-heard g c = g.met.W.Watch.goes_on c.args.watch.now c.loop-i.watch c.step.new.watch c.loop-i.invariant.heard c.step.ensures.heard
 
 pub returns-in-Err-clause-stops : goal.returns-in-Err-clause-stops
 returns-in-Err-clause-stops g c =

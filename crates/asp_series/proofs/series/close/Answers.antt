@@ -1,5 +1,3 @@
-use Rattle.std.proofs.Common.{subst}
-use Rattle.std.specs.Io.KnownBytes.{Appends}
 use Rattle.asp_series.proofs.SeriesLaws.{closing-closed, closing-means}
 use Rattle.asp_series.proofs.series.close.Goals as goal
 
