@@ -168,12 +168,7 @@ fn rivals_of(name: Name) -> &'static [Name]
     ensures { result.now ≡ rivals_of name }
 {
     match name {
-        Name::Proof => &[
-            Name::Split,
-            Name::Quiet,
-            Name::Output,
-            Name::Queries,
-        ],
+        Name::Proof => &[Name::Split, Name::Quiet, Name::Output, Name::Queries],
         Name::OptAll => &[Name::Split, Name::Queries],
         Name::Quiet => &[Name::Proof, Name::Split],
         Name::Output => &[Name::Make, Name::Proof, Name::Split],

@@ -26,13 +26,7 @@ fn sought_by(twice: bool, mode: Mode) -> Sought
 {
     match mode {
         Mode::Enum | Mode::Consequences(_) => Sought::All,
-        Mode::Opt => {
-            if twice {
-                Sought::Optima
-            } else {
-                Sought::Best
-            }
-        }
+        Mode::Opt => { if twice { Sought::Optima } else { Sought::Best } }
     }
 }
 
@@ -151,15 +145,7 @@ pub fn with_ties_and_proof<W: Watch>(
     ensures core { IfOk result (λ r. HasCore compiled.now report → HasCore compiled.now r) }
     ensures heard { W.IsAfter watch.old watch.new }
 {
-    match with_ties(
-        alloc,
-        compiled,
-        ask,
-        report,
-        counts,
-        watch,
-        Some(&recorder),
-    ) {
+    match with_ties(alloc, compiled, ask, report, counts, watch, Some(&recorder)) {
         Ok(whole) => with_proof(alloc, whole, recorder),
         Err(error) => {
             mem::drop(recorder);

@@ -135,9 +135,7 @@ fn second<W: Watch>(
             None => Ok(None),
             Some((best, _)) => {
                 let left = report.paid.left();
-                let ties = search(
-                    alloc, compiled, ask, best, left, counts, watch, recorder,
-                )?;
+                let ties = search(alloc, compiled, ask, best, left, counts, watch, recorder)?;
                 Ok(Some(ties))
             }
         },
