@@ -1,3 +1,4 @@
+pub mod Ends
 pub mod Refuting
 pub mod Running
 pub mod Twice

@@ -4,6 +4,7 @@ ghost use Rattle.asp_model.specs.Texts.{bests, recorded};
 ghost use Rattle.asp_crew_laws.specs.Proofs.{is_part, sought_by, HasOne, HasProof, IsProofOf};
 ghost use Rattle.asp_crew_laws.specs.Reports.{IsReport};
 ghost use Rattle.asp_crew_laws.specs.Runs.{asks};
+ghost use Rattle.asp_crew.specs.Ends.{is_unfinished};
 ghost use Rattle.asp_crew.specs.Refuting.{HasCore};
 
 use crate::report::Report;
@@ -40,6 +41,16 @@ fn is_part(end: End) -> bool
     }
 }
 
+// Whether the budget was spent before the end.
+fn is_unfinished(end: End) -> bool
+    ensures { result ≡ is_unfinished end }
+{
+    match end {
+        End::Unfinished => true,
+        End::Finished | End::Limited => false,
+    }
+}
+
 // The answers that are listed, or where none is the best.
 fn bests(alloc: Global, results: &Results<Sets>) -> Result<Vec<Interp>, AllocError>
     ensures { IfOk result (λ copies. copies.items ≡ bests results.now.best results.now.answers) }
@@ -70,11 +81,11 @@ fn recorded(alloc: Global, results: &Results<Sets>) -> Result<Vec<Interp>, Alloc
 fn lines_of(alloc: Global, part: bool, recorder: Recorder) -> Seq<Line>
     ensures { part ≡ true → result ≡ [] }
 {
-    let lines = recorder.into_lines();
     if part {
+        mem::drop(recorder);
         return Seq::from_vec(Vec::new(alloc));
     }
-    lines
+    recorder.into_lines()
 }
 
 // The proof of a run with these results, by one search or two.
@@ -96,28 +107,19 @@ fn proof_of(
     })
 }
 
-// The report, with a proof.
-fn proved(alloc: Global, mut report: Report, recorder: Recorder) -> Result<Report, AllocError>
-    ensures same { IfOk result (λ r. r ≡ record report { proof = r.proof }) }
-    ensures proof { IfOk result (λ r. HasOne (is_some report.second) report.results r.proof) }
-{
-    let twice = report.second.is_some();
-    let proof = proof_of(alloc, &report.results, twice, recorder)?;
-    report.proof = Some(proof);
-    Ok(report)
-}
-
 // The report, with a proof where the run is finished, or found as many answers as were asked for.
-fn with_proof(alloc: Global, report: Report, recorder: Recorder) -> Result<Report, AllocError>
+fn with_proof(alloc: Global, mut report: Report, recorder: Recorder) -> Result<Report, AllocError>
     requires { report.proof ≡ None }
     ensures same { IfOk result (λ r. r ≡ record report { proof = r.proof }) }
     ensures proof { IfOk result (HasProof true) }
 {
-    match report.results.end {
-        End::Finished => proved(alloc, report, recorder),
-        End::Limited => proved(alloc, report, recorder),
-        End::Unfinished => Ok(report),
+    if is_unfinished(report.results.end) {
+        return Ok(report);
     }
+    let twice = report.second.is_some();
+    let proof = proof_of(alloc, &report.results, twice, recorder)?;
+    report.proof = Some(proof);
+    Ok(report)
 }
 
 /// The report of a run from that of its first search, with a proof where the run is finished, or found as many answers as were
