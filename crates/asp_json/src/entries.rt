@@ -33,11 +33,7 @@ pub struct Sums {
     pub calls: u64,
 }
 
-fn put_query_number<K: Sink>(
-    sink: &mut K,
-    waiting: &mut Waiting,
-    number: u64,
-) -> Result<(), Failed>
+fn put_query_number<K: Sink>(sink: &mut K, waiting: &mut Waiting, number: u64) -> Result<(), Failed>
     ensures { Puts (out (K.held sink.old) (K.faults sink.old) waiting.old)
         (out (K.held sink.new) (K.faults sink.new) waiting.new) result (codes "\n{\"Query\":" ++ decimal number) }
 {
@@ -169,15 +165,7 @@ fn put_entry<K: Sink>(
         (out (K.held sink.new) (K.faults sink.new) waiting.new) result
         (entry_text program.now query.entry.outputs.now query.entry.number results.now (option_map (λ core. core.now) query.entry.core) query.entry.minimal brief names) }
 {
-    put_entry_results(
-        alloc,
-        sink,
-        waiting,
-        program,
-        query.number,
-        results,
-        brief,
-    )?;
+    put_entry_results(alloc, sink, waiting, program, query.number, results, brief)?;
     put_entry_end(sink, waiting, query, names)
 }
 
