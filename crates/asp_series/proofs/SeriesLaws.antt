@@ -173,7 +173,7 @@ models-push [] x = let e : found_count x.done.results.mode x.done.results + 0 �
 models-push (y ∷ xs) x =
     let h = models-push xs x in
     let e : found_count y.done.results.mode y.done.results + models_of (xs ++ x ∷ [])
-        ≡ (found_count y.done.results.mode y.done.results + models_of xs) + found_count x.done.results.mode x.done.results = omega (arith, h) in
+    ≡ (found_count y.done.results.mode y.done.results + models_of xs) + found_count x.done.results.mode x.done.results = omega (arith, h) in
     e
 
 -- the place of the next query
@@ -222,7 +222,7 @@ at-next given s count held held'' w w'' d h done = record { at = h.0; finished =
 -- the last one that was begun isn't finished
 pub at-open : (given : Options) (s : Series) (count : ℕ) (held held'' : Option (List ℕ)) (w w'' : ℕ) (d : Course)
     → IsAt given s.program s.queries held held'' w w'' d × (d.calls ≡ count + 1) → d.done ≡ false → IsThrough given s.program s.queries held held'' w w'' d
-at-open given s count held held'' w w'' d h open = record { at = h.0; every = λ done. absurd (false≢true (sym open ∙ done)) }
+at-open given s count held held'' w w'' d h unfinished = record { at = h.0; every = λ done. absurd (false≢true (sym unfinished ∙ done)) }
 
 -- all queries were answered
 pub at-end : (given : Options) (s : Series) (held held'' : Option (List ℕ)) (w w'' : ℕ) (count : ℕ) (d : Course)
@@ -240,8 +240,7 @@ pub at-stops : (given : Options) (s : Series) (count : ℕ) (query : List ℤ) (
     (c : Course) (end : SeriesEnd) → IsAtQuery given s.program s.queries held held' w w' count c
     → drop count s.queries ≡ query ∷ rest → StepMeans given s.program query (count + 1) c held' held'' w' w'' (Err end) → StopMeans given s held held'' w w'' end
 at-stops given s count query rest held held' held'' w w' w'' c Memory before next step =
-    let at = before.at in
-    (
+    let at = before.at in (
       record { xs = at.xs; some = record { left = c.left; answered = at.answered }; text = Appends-kept held held' held'' _ at.text step.0 },
       step.1 ∙ at.quiet,
     )
@@ -284,8 +283,7 @@ ended : (given : Options) (s : Series) (held held' held'' : Option (List ℕ)) (
     → (end ≡ end_of c.done c.any) × Appends held' held'' (closing_in given.form (sums_at mode c)) × (w'' ≡ w') → Ends given s held held'' end × (w'' ≡ w)
 ended given s held held' held'' w w' w'' c mode end through is means =
     let at = through.at in
-    let sums : sums_at mode c ≡ sums_of (mode_of given.mode s.program) at.xs = ap (λ (m : Mode). sums_at m c) is ∙ same-sums (mode_of given.mode s.program) at.xs c at.calls at.done at.models in
-    (
+    let sums : sums_at mode c ≡ sums_of (mode_of given.mode s.program) at.xs = ap (λ (m : Mode). sums_at m c) is ∙ same-sums (mode_of given.mode s.program) at.xs c at.calls at.done at.models in (
       record {
         xs = at.xs;
         some = record { left = c.left; answered = at.answered };
