@@ -14,7 +14,7 @@ use asp_counts::watch::Watch;
 use asp_model::interp::Interp;
 use asp_model::results::{Ask, End, Mode, Results};
 use asp_model::seq::Seq;
-use asp_proof::proof::{Line, Proof, Sought};
+use asp_proof::proof::{Proof, Sought};
 use asp_recorder::recorder::Recorder;
 use asp_rows::sets::Sets;
 use asp_vars::compiled::Compiled;
@@ -77,18 +77,8 @@ fn recorded(alloc: Global, results: &Results<Sets>) -> Result<Vec<Interp>, Alloc
     }
 }
 
-// The lines that say why there is nothing else. None where the answers are a part of what was sought.
-fn lines_of(alloc: Global, part: bool, recorder: Recorder) -> Seq<Line>
-    ensures { part ≡ true → result ≡ [] }
-{
-    if part {
-        mem::drop(recorder);
-        return Seq::from_vec(Vec::new(alloc));
-    }
-    recorder.into_lines()
-}
-
-// The proof of a run with these results, by one search or two.
+// The proof of a run with these results, by one search or two. No line says why there is nothing else where the answers are a part
+// of what was sought.
 fn proof_of(
     alloc: Global,
     results: &Results<Sets>,
@@ -97,13 +87,21 @@ fn proof_of(
 ) -> Result<Proof, AllocError>
     ensures { IfOk result (IsProofOf twice results.now) }
 {
-    let answers = recorded(alloc, results)?;
-    let part = is_part(results.end);
+    let answers = Seq::from_vec(recorded(alloc, results)?);
+    let sought = sought_by(twice, results.mode);
+    if is_part(results.end) {
+        return Ok(Proof {
+            sought,
+            answers,
+            lines: Seq::from_vec(Vec::new(alloc)),
+            part: true,
+        });
+    }
     Ok(Proof {
-        sought: sought_by(twice, results.mode),
-        answers: Seq::from_vec(answers),
-        lines: lines_of(alloc, part, recorder),
-        part,
+        sought,
+        answers,
+        lines: recorder.into_lines(),
+        part: false,
     })
 }
 
