@@ -12,6 +12,7 @@ use Rattle.asp_model.specs.Models.{atoms_of, answers, is_stable}
 use Rattle.asp_model.specs.Costs.{cost, betters, just_above, optima, IsOptimum}
 use Rattle.asp_model.specs.Sound.{IsSound}
 use Rattle.std.proofs.lemmas.List.Elements.{All-contains, recursion_from_All, All-from_recursion, All-contains_itself}
+use Rattle.std.proofs.lemmas.List.Kept.{AllPairs-filter}
 use Rattle.asp_model.specs.Sets.{IsSubset}
 use Rattle.asp_model.specs.Holding.{all_hold}
 use Rattle.asp_model.proofs.SetLaws.{same_from_has}

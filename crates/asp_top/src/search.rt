@@ -1,5 +1,5 @@
 //! A program that was compiled is solved, and its results are written.
-ghost use Rattle.std.specs.Prelude.{◌≡◌, IfOk, IfSome, OnOk, false, true};
+ghost use Rattle.std.specs.Prelude.{◌≡◌, IfOk, IfSome, OnOk};
 ghost use Rattle.asp_cli.specs.Found.{IsApart};
 ghost use Rattle.asp_cli.specs.Values.{IsCrew};
 ghost use Rattle.asp_counts.specs.Telling.{AreNumbered};
