@@ -1,5 +1,5 @@
 //! The options that were found so far.
-ghost use Rattle.std.specs.Prelude.{◌≡◌, IfSome};
+ghost use Rattle.std.specs.Prelude.{◌≡◌, false, true, IfSome};
 ghost use Rattle.asp_cli.specs.Found.{AreApart, AreAsking, IsAlone, IsApart, IsAsking, barred_by, clash_of, clash_with, first_given, found_with, has, is_limited, is_smodels, only_if, options_of, rival_of, rivals_of, seeks_consequences, unasked};
 ghost use Rattle.asp_cli.specs.Values.{IsCrew, IsPartCount, IsRing};
 

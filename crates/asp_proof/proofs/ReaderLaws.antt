@@ -5,6 +5,7 @@ use Rattle.std.proofs.lemmas.List.{length-take-le, length-drop, drop-take, drop-
 use Rattle.std.proofs.Math.Seq.{drop-append-add}
 use Rattle.asp_model.proofs.MemberLaws.{each-append}
 use Rattle.asp_proof.specs.declared.error.ProofError.{ProofError}
+use Rattle.asp_proof.specs.declared.error.ProofError.TheVariants as errors
 use Rattle.asp_proof.specs.Grammar.{IsUnbroken, most_bytes}
 use Rattle.asp_proof.specs.Fields.{IsCut}
 use Rattle.asp_proof.specs.Reading.{Window, window, HasLongLine, TakesPiece, Fills, Moves, HasMore}
