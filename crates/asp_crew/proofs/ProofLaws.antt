@@ -1,7 +1,6 @@
 -- The proof in a report.
-use Rattle.std.proofs.Common.{◌≡◌, ℕ, true, false, List, Option, None, Some, sym, ap, subst}
+use Rattle.std.proofs.Common.{◌≡◌, ℕ, false, List, Option, None, Some, sym, ap, subst}
 use Rattle.std.specs.Prelude.{is_some}
-use Rattle.std.proofs.lemmas.Bool.{false≢true}
 use Rattle.asp_model.specs.declared.program.Program.{Program}
 use Rattle.asp_model.specs.declared.results.End.{End}
 use Rattle.asp_model.specs.declared.results.End.TheVariants.{Finished, Limited, Unfinished}
@@ -10,10 +9,9 @@ use Rattle.asp_core.specs.declared.event.Event.{Event}
 use Rattle.asp_core.specs.declared.task.Task.{Task}
 use Rattle.asp_proof.specs.declared.proof.Proof.{Proof}
 use Rattle.asp_crew_laws.specs.declared.report.Report.{Report}
-use Rattle.asp_crew_laws.specs.Proofs.{HasOne, HasProof, HasProofAt}
+use Rattle.asp_crew_laws.specs.Proofs.{HasProof, HasProofAt}
 use Rattle.asp_crew_laws.specs.Reports.{IsPlayed, IsPlayedBy, IsReport}
 use Rattle.asp_crew_laws.specs.Runs.{task_of}
-use Rattle.asp_crew.specs.Ends.{is_unfinished}
 
 -- none was asked for
 pub none_has : (r : Report) → r.proof ≡ None → HasProof false r
@@ -23,24 +21,6 @@ none_has r has = at r.results.end
     at Finished = has
     at Limited = has
     at Unfinished = has
-
--- a report with a proof, at the end of its run
-pub closed_has : (r s : Report) → s ≡ record r { proof = s.proof } → is_unfinished r.results.end ≡ false → HasOne (is_some r.second) r.results s.proof → HasProof true s
-closed_has r s same shut has = subst (HasProof true) (sym same) (at r.results.end shut)
-  where
-    at : (e : End) → is_unfinished e ≡ false → HasProofAt e true (is_some r.second) r.results s.proof
-    at Finished h = has
-    at Limited h = has
-    at Unfinished h = absurd (false≢true (sym h))
-
--- the budget was spent, and there is none
-pub unfinished_has : (r : Report) → is_unfinished r.results.end ≡ true → r.proof ≡ None → HasProof true r
-unfinished_has r is has = at r.results.end is
-  where
-    at : (e : End) → is_unfinished e ≡ true → HasProofAt e true (is_some r.second) r.results r.proof
-    at Finished h = absurd (false≢true h)
-    at Limited h = absurd (false≢true h)
-    at Unfinished h = has
 
 -- what a report of one search says of the program doesn't rest on its proof
 played_with : (t : Task) (r : Report) (o : Option Proof) → IsPlayed t r → IsPlayed t (record r { proof = o })

@@ -1,7 +1,7 @@
 //! The proof of a run, from its results and what was written down on the way.
-ghost use Rattle.std.specs.Prelude.{◌≡◌, ℕ, [], None, true, is_some, IfOk};
+ghost use Rattle.std.specs.Prelude.{◌≡◌, ℕ, None, true, IfOk};
 ghost use Rattle.asp_model.specs.Texts.{bests, recorded};
-ghost use Rattle.asp_crew_laws.specs.Proofs.{is_part, sought_by, HasOne, HasProof, IsProofOf};
+ghost use Rattle.asp_crew_laws.specs.Proofs.{is_part, sought_by, HasProof, IsProofOf};
 ghost use Rattle.asp_crew_laws.specs.Reports.{IsReport};
 ghost use Rattle.asp_crew_laws.specs.Runs.{asks};
 ghost use Rattle.asp_crew.specs.Ends.{is_unfinished};
