@@ -320,14 +320,14 @@ pub last_open : (p : Program) (q : Proof) (part whole enough : Bool) (number : �
     IsRightFront p q number whole → enough ≡ (part || whole) → enough ≡ false →
     Comes source (front_of q ++ held w) (λ text. Judges p text (Ok (judgement.No why.NotWhole number)))
 last_open p q part whole enough number source w z h both none =
-    let open = or_parts part whole (sym both ∙ none) in
+    let neither = or_parts part whole (sym both ∙ none) in
     comes_any source _ _ (λ rest. record {
       proof = ended q false;
       is = ended_is q false h.begun.is;
       rest = w.line ++ 10 ∷ (w.behind ++ rest);
       begins = held_more (front_of q) w.line w.behind rest;
-      wrong = inr (inr (record { ends = refl; answers = h.answers; lines = record { confirmed = h.lines; whole_is = sym open.1 ∙ h.whole_is }; why = refl; is = h.counted }));
-      last = λ e. (w.behind ++ rest, last_feed part w.line (w.behind ++ rest) z open.0);
+      wrong = inr (inr (record { ends = refl; answers = h.answers; lines = record { confirmed = h.lines; whole_is = sym neither.1 ∙ h.whole_is }; why = refl; is = h.counted }));
+      last = λ e. (w.behind ++ rest, last_feed part w.line (w.behind ++ rest) z neither.0);
     })
 
 more_left : (xs rest : List ℕ) → xs ≢ [] → xs ++ rest ≢ []
