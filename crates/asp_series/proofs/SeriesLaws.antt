@@ -257,6 +257,7 @@ at-stops given s count query rest held held' held'' w w' w'' c (WriteFault close
       text = front-more held held'' _ _ (subst (AppendsFront held held'') (sym (text-more given s count query rest at.xs c.left x is at.answered next))
           (front-after held held' held'' _ _ at.text step.text));
       cause = subst (λ (n : ℕ). Rose n w'') at.quiet step.cause;
+      later = subst (λ (n : ℕ). n ≤ w'') at.quiet step.later;
     }
 at-stops given s count query rest held held' held'' w w' w'' c end before next step = absurd step
 
@@ -295,9 +296,10 @@ ended given s held held' held'' w w' w'' c mode end through is means =
     )
 
 pub closed-asks : (given : Options) (s : Series) (held held' held'' : Option (List ℕ)) (w w' w'' : ℕ) (c : Course) (mode : Mode) (end : SeriesEnd)
-    → IsThrough given s.program s.queries held held' w w' c → mode ≡ mode_of given.mode s.program → CloseMeans given.form mode c held' held'' w' w'' end → AsksOn given s held held'' w w'' end
-closed-asks given s held held' held'' w w' w'' c mode Memory through is means = absurd means
-closed-asks given s held held' held'' w w' w'' c mode (WriteFault closed) through is means =
+    → IsThrough given s.program s.queries held held' w w' c → mode ≡ mode_of given.mode s.program → CloseMeans given.form mode c held' held'' w' w'' end → w' ≤ w'' →
+    AsksOn given s held held'' w w'' end
+closed-asks given s held held' held'' w w' w'' c mode Memory through is means later = absurd means
+closed-asks given s held held' held'' w w' w'' c mode (WriteFault closed) through is means later =
     let at = through.at in
     let sums : sums_at mode c ≡ sums_of (mode_of given.mode s.program) at.xs = ap (λ (m : Mode). sums_at m c) is ∙ same-sums (mode_of given.mode s.program) at.xs c at.calls at.done at.models in
     record {
@@ -305,8 +307,9 @@ closed-asks given s held held' held'' w w' w'' c mode (WriteFault closed) throug
       some = record { left = c.left; answered = at.answered };
       text = front-after held held' held'' _ _ at.text (subst (λ (x : Sums). AppendsFront held' held'' (closing_in given.form x)) sums means.0);
       cause = subst (λ (n : ℕ). Rose n w'') at.quiet means.1;
+      later = subst (λ (n : ℕ). n ≤ w'') at.quiet later;
     }
-closed-asks given s held held' held'' w w' w'' c mode end through is means = ended given s held held' held'' w w' w'' c mode end through is means
+closed-asks given s held held' held'' w w' w'' c mode end through is means later = ended given s held held' held'' w w' w'' c mode end through is means
 
 pub nothing-written : {T E : Type 0} (held : Option (List ℕ)) (w : ℕ) (v : T) → Writes {T = T} {E = E} held held w w (Ok v) []
 nothing-written held w v = record { all = Appends-nil held; front = tt; later = omega arith; cause = tt; quiet = refl }
@@ -328,6 +331,11 @@ closing-means form mode c sums held held' w w' end same is text quiet =
     by true false p q = (so true false p q, written, quiet)
     by false true p q = (so false true p q, written, quiet)
     by false false p q = (so false false p q, written, quiet)
+
+-- a front of it was written
+pub closing-front : (form : Form) (mode : Mode) (c : Course) (sums : Sums) (held held' : Option (List ℕ)) → sums ≡ sums_at mode c
+    → AppendsFront held held' (closing_in form sums) → AppendsFront held held' (closing_in form (sums_at mode c))
+closing-front form mode c sums held held' same front = subst (λ (x : Sums). AppendsFront held held' (closing_in form x)) same front
 
 -- it doesn't say that the sink failed
 pub closing-closed : (done any : Bool) (end : SeriesEnd) (is_closed : Bool) → end ≡ end_of done any → TellsClosed end is_closed
@@ -371,17 +379,15 @@ asks-on given s held held' held'' w w' w'' Memory opening quiet on = record {
   means = record { xs = on.0.xs; some = on.0.some; text = Appends-trans held held' held'' _ _ opening on.0.text };
   later = let a = on.1 in omega (arith, a, quiet);
 }
-asks-on given s held held' held'' w w' w'' (WriteFault closed) opening quiet on =
-    let rose : Rose w w'' = subst (λ (n : ℕ). Rose n w'') quiet on.cause in
-    record {
-      means = record {
-        xs = on.xs;
-        some = on.some;
-        text = subst (AppendsFront held held'') (whole-text given s on.xs) (front-after held held' held'' _ _ opening on.text);
-        cause = rose;
-      };
-      later = omega (arith, rose);
-    }
+asks-on given s held held' held'' w w' w'' (WriteFault closed) opening quiet on = record {
+  means = record {
+    xs = on.xs;
+    some = on.some;
+    text = subst (AppendsFront held held'') (whole-text given s on.xs) (front-after held held' held'' _ _ opening on.text);
+    cause = subst (λ (n : ℕ). Rose n w'') quiet on.cause;
+  };
+  later = subst (λ (n : ℕ). n ≤ w'') quiet on.later;
+}
 asks-on given s held held' held'' w w' w'' end opening quiet on = ends-as given s held held' held'' w w' w'' end opening on quiet
 
 -- a fault of the sink is told

@@ -250,6 +250,7 @@ pub record Fails (given : Options) (s : Series) (held held' : Option (List ℕ))
   pub some : AreSome given s xs
   pub text : AppendsFront held held' (rest_text given s xs)
   pub cause : Rose writes writes'
+  pub later : writes ≤ writes'
 
 -- all that was to be asked was, and its text written whole
 pub record Ends (given : Options) (s : Series) (held held' : Option (List ℕ)) (end : SeriesEnd) : Type 0 where
