@@ -337,13 +337,13 @@ more_left (x ∷ xs) rest n e = absurd cc
 -- Where it isn't said that the answers are a part, a line says that there is nothing else.
 whole_from : (p : Program) (q : Proof) (part whole enough : Bool) (number : ℕ) → IsRightFront p q number whole → enough ≡ (part || whole) → enough ≡ true →
     part ≡ false → list_any (closes p) q.lines ≡ true
-whole_from p q true whole enough number h both yes none = absurd (false≢true (sym none))
-whole_from p q false whole enough number h both yes none = sym h.whole_is ∙ sym both ∙ yes
+whole_from p q true whole enough number h both told none = absurd (false≢true (sym none))
+whole_from p q false whole enough number h both told none = sym h.whole_is ∙ sym both ∙ told
 
 pub last_more : (p : Program) (q : Proof) (part whole enough : Bool) (number : ℕ) (source now : Option (List ℕ)) (w new : Window) → w.line ≡ last_word part →
     IsRightFront p q number whole → enough ≡ (part || whole) → enough ≡ true → HasMore source now w new (Ok true)
     → Comes source (front_of q ++ held w) (λ text. Judges p text (Err (error.Proof (proof.Refused (number + 1)))))
-last_more p q part whole enough number source now w new z h both yes more =
+last_more p q part whole enough number source now w new z h both told more =
     let m = moves_more source now (w.line ++ 10 ∷ w.behind) (w.line ++ 10 ∷ more.0) (front_of q) (feed_moved more.2) in
     comes_back source now (front_of q ++ held w) (front_of q ++ (w.line ++ 10 ∷ more.0)) _ m
     (comes_any now _ _ (λ rest. subst (λ (t : List ℕ). IsFaultAt p t (number + 1)) (held_more (front_of q) w.line more.0 rest) (record {
@@ -355,7 +355,7 @@ last_more p q part whole enough number source now w new z h both yes more =
         begins = refl;
         answers = h.answers;
         lines = h.lines;
-        next = inr (omega (arith, h.counted), whole_from p q part whole enough number h both yes);
+        next = inr (omega (arith, h.counted), whole_from p q part whole enough number h both told);
       });
     })))
   where
@@ -375,14 +375,14 @@ shown p q false count text sound is same right counted =
 pub last_end : (p : Program) (q : Proof) (part whole enough : Bool) (number count : ℕ) (source now : Option (List ℕ)) (w new : Window) → w.line ≡ last_word part →
     IsRightFront p q number whole → length q.answers ≡ count → enough ≡ (part || whole) → enough ≡ true → HasMore source now w new (Ok false)
     → Comes source (front_of q ++ held w) (λ text. Judges p text (Ok (right_judgement part count)))
-last_end p q part whole enough number count source now w new z h counted both yes none =
+last_end p q part whole enough number count source now w new z h counted both told none =
     let right : IsRight p (ended q part) = record {
       members = h.answers.members;
       order = h.answers.order;
       single = h.answers.single;
       alike = h.answers.alike;
       lines = h.lines;
-      whole = whole_from p q part whole enough number h both yes;
+      whole = whole_from p q part whole enough number h both told;
     } in
     let text : text_of (ended q part) ≡ front_of q ++ held w = sym (last_whole q part w.line z) ∙ ap (λ (t : List ℕ). front_of q ++ (w.line ++ 10 ∷ t)) (sym none.0) in
     comes_back source now _ _ _ (stays none.1) (comes_end now _ _ none.2 (shown p q part count _ h.sound h.begun.is text right counted))

@@ -13,8 +13,8 @@ invariant-lines g l = record {
   of : AllByRecursion (AreOf l.compiled) l.rows.kept.items;
   of_placed : AllByRecursion (AreOf l.compiled) l.rows.placed.items;
   root : IsRoot l.compiled (known_with l.compiled l.listed l.rows.kept.items l.bound) l.values;
-  so_far : IsSoFar l.compiled l.sought l.answers (stock (known_with l.compiled l.listed l.initial.rows.kept.items l.bound) l.initial.rows.placed.items)
+  so_far : IsSoFar l.compiled l.fn.sought l.answers (stock (known_with l.compiled l.listed l.initial.rows.kept.items l.bound) l.initial.rows.placed.items)
       (stock (known_with l.compiled l.listed l.rows.kept.items l.bound) l.rows.placed.items) l.whole l.at
-      (g.S.Source.left l.initial.source) (g.S.Source.left l.source) (front_of (proof_of l.sought l.answers []) ++ held l.initial.reader) l.reader;
+      (g.S.Source.left l.initial.source) (g.S.Source.left l.source) (front_of (proof_of l.fn.sought l.answers []) ++ held l.initial.reader) l.reader;
   quiet : g.S.Source.faults l.source ≡ g.S.Source.faults l.initial.source;
 }
