@@ -1,6 +1,6 @@
 -- A bound by the weights at each priority.
 use Rattle.std.proofs.Common.{◌≡◌, ℕ, zero, suc, ◌+◌, ◌*◌, ◌<◌, ◌≤◌, Bool, true, false, not, List, [], ◌∷◌, ◌++◌, map, length, take, drop, get_or, refl, sym, ap, ◌∙◌, subst, arith, Option, Some, drop-cons, add-one}
-use Rattle.std.specs.Prelude.{ℤ, pos, ◌+ℤ◌, ◌≤ℤ◌, ◌<ℤ◌}
+use Rattle.std.specs.Prelude.{ℤ, pos, ◌+ℤ◌, ◌≤ℤ◌, ◌<ℤ◌, unwrap_or}
 use Rattle.std.specs.List.{AllByRecursion}
 use Rattle.std.specs.Ordering.{int_cmp, is_lt, ordering_then}
 use Rattle.std.specs.declared.cmp.Ordering.{Ordering}
@@ -10,7 +10,7 @@ use Rattle.std.proofs.lemmas.Int.{ints}
 use Rattle.std.proofs.lemmas.List.{take_more, length-map, get_or-map}
 use Rattle.asp_model.specs.declared.program.Program.{Program}
 use Rattle.asp_model.specs.Sets.{Atoms}
-use Rattle.asp_model.specs.Costs.{priorities, betters, cost, cost_at}
+use Rattle.asp_model.specs.Costs.{priorities, betters, cost, cost_at, just_above, raised}
 use Rattle.asp_vars.specs.Literals.{T, value_of}
 use Rattle.asp_vars.specs.Numbering.{var_count}
 use Rattle.asp_bound.specs.Optimism.{items_at, weight_at, least, least_at, sum_to, optimistic_at}
@@ -59,8 +59,21 @@ pub reached-by : (p : Program) (b : Bound) (x : List (Option Bool)) → AreLevel
     not (betters (map (level_sum x (var_count p)) b.levels) b.cost) ≡ reaches_bound p (Some b.cost) x
 reached-by p b x h = ap (λ s. not (betters s b.cost)) (levels-are p x (priorities p.minimize) b.levels h)
 
-pub cost-long : (p : Program) (S : Atoms) (levels : List (List ℤ)) (c : List ℤ) → AreLevels p (priorities p.minimize) levels → c ≡ cost p S → length c ≡ length levels
-cost-long p S levels c h e = ap length e ∙ length-map (priorities p.minimize) (cost_at S p.minimize) ∙ sym (levels-count p (priorities p.minimize) levels h)
+raised-long : (c : List ℤ) → length (raised c) ≡ length c
+raised-long [] = refl
+raised-long (q ∷ []) = refl
+raised-long (q ∷ r ∷ c) = ap suc (raised-long (r ∷ c))
+
+just-long : (c : List ℤ) → length (unwrap_or (just_above c) []) ≡ length c
+just-long [] = refl
+just-long (q ∷ c) = raised-long (q ∷ c)
+
+-- the cost just above a set's has a sum for each priority
+pub above-long : (p : Program) (S : Atoms) (o : Option (List ℤ)) (d : List ℤ) → o ≡ just_above (cost p S) → o ≡ Some d → length d ≡ length (priorities p.minimize)
+above-long p S o d is some =
+    ap (λ (x : Option (List ℤ)). length (unwrap_or x [])) (sym some ∙ is)
+    ∙ just-long (cost p S)
+    ∙ length-map (priorities p.minimize) (cost_at S p.minimize)
 
 cmp-less : (s c : ℤ) → s <ℤ c → int_cmp s c ≡ Less
 cmp-less s c e = grind (arith, ints)

@@ -1,5 +1,5 @@
 -- What right proofs show.
-use Rattle.std.proofs.Common.{◌≡◌, ℕ, zero, suc, ◌≤◌, Bool, true, false, not, cond, ◌||◌, List, [], ◌∷◌, ◌++◌, map, length, filter, Ordering, eqb, refl, sym, ap, ◌∙◌, subst, arith, Some, None, inl, inr}
+use Rattle.std.proofs.Common.{◌≡◌, ℕ, zero, suc, ◌≤◌, Bool, true, false, not, ◌||◌, List, [], ◌∷◌, ◌++◌, map, length, filter, Ordering, eqb, refl, sym, ap, ◌∙◌, subst, arith, Some, None, inl, inr}
 use Rattle.std.specs.Prelude.{AllPairs, Contains, ℤ, Option}
 use Rattle.std.specs.declared.cmp.Ordering.TheVariants.{Less, Equal, Greater}
 use Rattle.std.specs.Ordering.{int_cmp, is_lt, ordering_reverse}
@@ -225,14 +225,6 @@ shows-best p (S ∷ K) lines sound members single confirmed whole = (
         let is = (answers-are p T).0 h in
         undone (betters (cost p T) (cost p S)) (closed-excused p (costs p (cost p S)) (record { nogoods = completion p; bound = Some (cost p S) })
         lines sound (costs-known p S sound) confirmed whole T is.0 (answer-hits p T is.1))
-
--- ---- all that none betters
--- A set reaches the cost just above another one exactly where the other one betters it.
-not-same : (a b : Bool) → not a ≡ b → a ≡ not b
-not-same true false e = refl
-not-same false true e = refl
-not-same true true e = absurd (false≢true e)
-not-same false false e = absurd (false≢true (sym e))
 
 above-by : (p : Program) (c : List ℤ) (T : Atoms) → length (cost p T) ≡ length c → costs_bound p (just_above c) T ≡ betters c (cost p T)
 above-by p [] T long = sym (none (cost p T) long)

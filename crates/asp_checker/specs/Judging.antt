@@ -1,5 +1,5 @@
 -- What a judgement of a proof says: that it is right, or the first line that isn't, and why.
-use Rattle.std.specs.Prelude.{◌≡◌, ◌≢◌, ℕ, ◌+◌, ◌<◌, ◌≤◌, Bool, true, false, ◌⊎◌, List, [], ◌∷◌, ◌++◌, codes, take, length, slice_index_or, Option, AllPairs, Contains, IsTrue, ℤ}
+use Rattle.std.specs.Prelude.{◌≡◌, ℕ, ◌+◌, ◌<◌, ◌≤◌, Bool, true, false, ◌⊎◌, List, [], ◌∷◌, ◌++◌, take, length, slice_index_or, Option, AllPairs, Contains, IsTrue, ℤ}
 use Rattle.std.specs.List.{list_all, list_any, AllByRecursion}
 use Rattle.asp_model.specs.declared.program.Program.{Program}
 use Rattle.asp_model.specs.Sets.{Atoms, has, IsBefore}

@@ -11,7 +11,6 @@ use Rattle.asp_checker.specs.declared.judge.Why.TheVariants as why
 use Rattle.asp_checker.specs.declared.judge.Judgement.{Judgement}
 use Rattle.asp_checker.specs.declared.judge.Judgement.TheVariants as judgement
 use Rattle.asp_io.specs.Causes.{AppendsFront}
-use Rattle.asp_read.specs.declared.fault.ReadError.TheVariants as read
 use Rattle.asp_proof.specs.declared.error.ProofError.{ProofError}
 use Rattle.asp_proof.specs.declared.error.ProofError.TheVariants as proof
 use Rattle.asp_checker.specs.declared.run.CheckStatus.{CheckStatus}

@@ -1,7 +1,6 @@
 use Rattle.std.proofs.Common.{sym, ap, subst, ◌∙◌, List}
 use Rattle.std.specs.List.{AllByRecursion}
 use Rattle.asp_vars.specs.Literals.{Literal}
-use Rattle.asp_checker.specs.declared.judge.Step.TheVariants as step
 use Rattle.asp_checker.specs.Lines.{AreOf, place_of, stock, with_placed}
 use Rattle.asp_checker.specs.Blocks.{known_with}
 use Rattle.asp_checker.proofs.JudgeLaws.{lits_are_of}
