@@ -1,6 +1,6 @@
 -- What is heard and written one after another.
 use Rattle.std.proofs.Common.{◌≡◌, ℕ, ◌+◌, ◌≤◌, Bool, true, false, List, [], ◌++◌, length, refl, sym, ap, ◌∙◌, subst, arith, append_assoc, append-nil, length-append}
-use Rattle.std.specs.Prelude.{Option, Result, Ok, Err, OnOk, OnErr, is_err}
+use Rattle.std.specs.Prelude.{Option, Result, Ok, Err, OnOk, OnErr}
 use Rattle.std.specs.Io.KnownBytes.{Appends, Keeps}
 use Rattle.std.proofs.KnownBytes.{Appends-nil, Appends-trans, Appends-kept}
 use Rattle.std.proofs.Math.Seq.{take-length}
@@ -15,7 +15,7 @@ use Rattle.asp_model.specs.Sets.{Atoms}
 use Rattle.asp_model.specs.Texts.{answers_from}
 use Rattle.asp_print.specs.Parts.{closing}
 use Rattle.asp_watermark.proofs.PartLaws.{text-append, text-front}
-use Rattle.asp_outlet.specs.Outlets.{Ends, Hears, IsAfter, Moment, last_text, moment, next_text, whole_text}
+use Rattle.asp_outlet.specs.Outlets.{Ends, Hears, IsAfter, Moment, last_text, next_text, whole_text}
 
 -- ---- what goes to a sink where nothing waits
 pub puts_of : {T E : Type 0} (held held' : Option (List ℕ)) (faults faults' : ℕ) (r : Result T E) (text : List ℕ) → OnOk r (Appends held held' text) →
@@ -50,20 +50,6 @@ hears_nothing p a = record {
   cut = λ e f. cc;
   silent = λ e. (e, refl, refl);
 }
-
--- the answers were written, or were to be written, where no write had failed
-pub hears_of : {T E : Type 0} (p : Program) (heard sets : List Atoms) (held held' : Option (List ℕ)) (faults faults' : ℕ) (r : Result T E) →
-    Puts (out held faults []) (out held' faults' []) r (next_text p heard sets) → Hears p (moment heard held faults false) (moment (heard ++ sets) held' faults' (is_err r)) sets
-hears_of p heard sets held held' faults faults' (Ok v) puts =
-    let q = printed-of held held' faults faults' (Ok v) _ puts in
-    record { heard = refl; written = λ e. (refl, q.all, q.quiet); cut = λ e f. cc; silent = λ e. cc }
-hears_of p heard sets held held' faults faults' (Err e) puts =
-    let q = printed-of held held' faults faults' (Err e) _ puts in
-    record { heard = refl; written = λ f. cc; cut = λ f g. (q.front, q.cause); silent = λ f. cc }
-
--- the answers were heard where one had failed
-pub hears_silent : (p : Program) (heard sets : List Atoms) (held : Option (List ℕ)) (faults : ℕ) → Hears p (moment heard held faults true) (moment (heard ++ sets) held faults true) sets
-hears_silent p heard sets held faults = record { heard = refl; written = λ e. cc; cut = λ e f. cc; silent = λ e. (refl, refl, refl) }
 
 next-next : (p : Program) (heard more x y : List Atoms) → more ≡ heard ++ x → next_text p heard (x ++ y) ≡ next_text p heard x ++ next_text p more y
 next-next p heard more x y e =

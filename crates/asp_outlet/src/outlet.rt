@@ -27,11 +27,7 @@ pub struct Outlet<'a, K: Sink> {
 }
 
 // Writes the lines of answers that come next, and sends them on.
-fn write_part<K: Sink>(
-    listing: &mut Listing<'_>,
-    sink: &mut K,
-    rows: &Rows,
-) -> Result<(), Failed>
+fn write_part<K: Sink>(listing: &mut Listing<'_>, sink: &mut K, rows: &Rows) -> Result<(), Failed>
     requires atoms { rows.now.atoms ≡ atoms_of listing.old.program }
     requires room { length listing.old.sets + length rows.now.sets + 1 < 2 ^ 64 }
     ensures same { listing.new ≡ listing.old }
