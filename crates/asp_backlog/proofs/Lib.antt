@@ -1,0 +1,3 @@
+pub mod BacklogLaws
+pub mod FilterLaws
+pub mod ToldLaws
