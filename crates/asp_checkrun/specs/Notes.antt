@@ -46,9 +46,13 @@ proof_note (proof.Refused n) = proof_line n (codes "wrong or missing")
 abbrev pub write_note : Bool → List ℕ
 write_note closed = if closed then [] else codes "aspcheck: write failed\n"
 
+-- what is said of a right proof whose answers are a part of what was sought
+abbrev pub part_text : List ℕ
+part_text = codes "aspcheck: the proof is right; its sets are answers, but it doesn't say that there are no others\n"
+
 abbrev pub check_note : Bool → CheckStatus → List ℕ
 check_note closed check.Yes = []
-check_note closed (check.Part n) = codes "aspcheck: the proof is right; its sets are answers, but it doesn't say that there are no others\n"
+check_note closed (check.Part n) = part_text
 check_note closed (check.No w n) = proof_line n (why_text w)
 check_note closed check.Memory = codes "aspcheck: out of memory\n"
 check_note closed (check.Program e) = program_note e

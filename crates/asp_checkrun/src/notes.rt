@@ -2,7 +2,7 @@
 ghost use Rattle.std.specs.Prelude.{◌≡◌, ◌++◌, false, codes, decimal};
 ghost use Rattle.asp_faults.specs.Writing.{IsNoted, Writes};
 ghost use Rattle.asp_checkrun.specs.Given.{fault_seen};
-ghost use Rattle.asp_checkrun.specs.Notes.{check_note, misuse_note, misuse_text, note_of, program_note, proof_line, proof_note, usage_text, why_text, write_note};
+ghost use Rattle.asp_checkrun.specs.Notes.{check_note, misuse_note, misuse_text, note_of, part_text, program_note, proof_line, proof_note, usage_text, why_text, write_note};
 
 use crate::status::Status;
 use crate::texts::usage;
@@ -107,16 +107,20 @@ fn write_failed<N: Sink>(notes: &mut N, is_closed: bool) -> Result<(), Failed>
     write(notes, b"aspcheck: write failed\n")
 }
 
+// What is said of a right proof whose answers are a part of what was sought.
+fn part_text() -> &'static [u8]
+    ensures { result.now ≡ part_text }
+{
+    b"aspcheck: the proof is right; its sets are answers, but it doesn't say that there are no others\n"
+}
+
 fn write_check<N: Sink>(notes: &mut N, status: CheckStatus, is_closed: bool) -> Result<(), Failed>
     ensures { Writes (N.held notes.old) (N.held notes.new) (N.faults notes.old) (N.faults notes.new)
         result (check_note is_closed status) }
 {
     match status {
         CheckStatus::Yes => write(notes, b""),
-        CheckStatus::Part(_) => write(
-            notes,
-            b"aspcheck: the proof is right; its sets are answers, but it doesn't say that there are no others\n",
-        ),
+        CheckStatus::Part(_) => write(notes, part_text()),
         CheckStatus::No(why, line) => write_proof_line(notes, line as u64, why_text(why)),
         CheckStatus::Memory => write(notes, b"aspcheck: out of memory\n"),
         CheckStatus::Program(error) => write_program(notes, error),
