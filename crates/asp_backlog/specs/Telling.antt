@@ -13,4 +13,3 @@ pub record IsTold (b : Board) (heard : List Atoms) (w : Pending) : Type 0 where
   pub floor : IsFloor b (Some w.floor)
   pub heard_is : heard ≡ passed b (Some w.floor)
   pub waiting : w.sets ≡ sorted_once (filter (λ S. not (is_below (Some w.floor) S)) b.answers)
-
