@@ -1,5 +1,5 @@
 //! The answers that were found and can't be told yet.
-ghost use Rattle.std.specs.Prelude.{◌≡◌, [], filter, length, map, not, IfOk, OnOk, Some};
+ghost use Rattle.std.specs.Prelude.{◌≡◌, [], filter, length, map, not, IfOk, OnErr, OnOk, Some};
 ghost use Rattle.asp_model.specs.Sets.{IsAscending};
 ghost use Rattle.asp_rows.specs.Bits.{IsAmong};
 ghost use Rattle.asp_rows.specs.Listed.{AreRows, IsRowOf};
@@ -8,7 +8,6 @@ ghost use Rattle.asp_backlog.specs.Backlogs.{BeginsBelow, PopsBelow, with_waitin
 
 use asp_model::interp::Interp;
 use asp_model::program::Atom;
-use asp_rows::bits::Bit;
 use asp_rows::row::Row;
 use asp_rows::rows::Rows;
 use std::alloc::{AllocError, Global};
@@ -138,7 +137,7 @@ impl Backlog {
         self.rows.len()
     }
 
-    /// The row's set comes before the floor.
+    /// Whether the row's set comes before the floor.
     pub fn passed(&self, row: &Row) -> bool
         requires { IsRowOf self.now.atoms row.now }
         ensures { result ≡ is_below (Some self.now.floor) row.now.set }
@@ -147,9 +146,12 @@ impl Backlog {
     }
 
     /// Adds an answer, unless it is there or comes before the floor.
+    ///
+    /// For want of memory, the one error, it stays as it was.
     pub fn add(&mut self, set: &Interp) -> Result<(), AllocError>
         requires { IsAmong self.old.atoms set.now }
-        ensures { OnOk result (self.new ≡ record self.old { sets = with_waiting self.old.floor set.now self.old.sets }) }
+        ensures ok { OnOk result (self.new ≡ record self.old { sets = with_waiting self.old.floor set.now self.old.sets }) }
+        ensures err { OnErr result (self.new ≡ self.old) }
     {
         let row = Row::of(self.alloc, self.atoms.as_slice(), set)?;
         if is_before(&row, &self.floor, self.atoms.as_slice()) {
@@ -184,39 +186,5 @@ impl Backlog {
         let mut taken = Rows::new(alloc, atoms);
         take_all(rows, &mut taken)?;
         Ok(taken)
-    }
-
-    /// How many of the first answers lack the atom of this bit.
-    pub fn count_without(&self, bit: Bit) -> usize {
-        let mut count: usize = 0;
-        for row in &self.rows {
-            if is_set(row, bit) {
-                return count;
-            }
-            count = count.saturating_add(1);
-        }
-        count
-    }
-
-    /// The last of the first so many answers, if there are as many.
-    pub fn nth(&self, count: usize) -> Option<&Row> {
-        let mut left = count;
-        for row in &self.rows {
-            if left == 1 {
-                return Some(row);
-            }
-            left = left.saturating_sub(1);
-        }
-        None
-    }
-}
-
-/// Whether the row has the bit.
-pub fn is_set(row: &Row, bit: Bit) -> bool {
-    let words = row.words.as_slice();
-    if bit.word < words.len() && bit.behind < 64 {
-        (words[bit.word] >> bit.behind) % 2 == 1
-    } else {
-        false
     }
 }

@@ -22,8 +22,8 @@ invariant_of-self-2 c =
       floor = c.self.invariant.floor;
     }
 
-pub returns : goal.returns
-returns c =
+pub returns-clause-ok : goal.returns-clause-ok
+returns-clause-ok c =
     let atoms : Atoms = c.self.inside.atoms in
     let keys : List Row = c.self.inside.rows.keys in
     let among : IsAmong atoms c.args.set.now = subst (λ (a : Atoms). IsAmong a c.args.set.now) (sym (ap (λ (w : Pending). w.atoms) c.self.view_is)) c.requires in
