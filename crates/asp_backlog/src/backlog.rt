@@ -137,6 +137,14 @@ impl Backlog {
         self.rows.len()
     }
 
+    /// The answers that wait, a row for each, in their order.
+    pub fn rows(&self) -> &BTreeSet<Row>
+        ensures { map (λ row. row.set) result.now.keys ≡ self.now.sets }
+    {
+        let _ = &self.floor;
+        &self.rows
+    }
+
     /// Whether the row's set comes before the floor.
     pub fn passed(&self, row: &Row) -> bool
         requires { IsRowOf self.now.atoms row.now }

@@ -4,6 +4,8 @@
 mod laws;
 mod listing;
 mod outlet;
+mod reader;
 
 pub use listing::Listing;
 pub use outlet::Outlet;
+pub use reader::Reader;

@@ -1,0 +1,115 @@
+-- A ledger after one event more, and what holds of a ledger's board.
+use Rattle.std.proofs.Common.{◌≡◌, ℕ, ◌+◌, ◌<◌, ◌≤◌, eqb, Bool, true, false, not, ◌&&◌, List, [], ◌∷◌, ◌++◌, length, None, refl, sym, ap, ◌∙◌, subst}
+use Rattle.std.proofs.lemmas.Bool.{false≢true}
+use Rattle.std.specs.Prelude.{nat_le}
+use Rattle.asp_model.specs.declared.program.Program.{Program}
+use Rattle.asp_model.specs.Sets.{Atoms}
+use Rattle.asp_vars.specs.Conflicts.{has_all}
+use Rattle.asp_vars.specs.Entailment.{HitsOnly}
+use Rattle.asp_vars.specs.Literals.{Literal}
+use Rattle.asp_path.specs.declared.status.Status.{Status}
+use Rattle.asp_path.specs.declared.status.Status.TheVariants as status
+use Rattle.asp_path.specs.Trees.{Node, cube_of, is_open, split, status_of, with_status}
+use Rattle.asp_core.specs.declared.event.Event.{Event}
+use Rattle.asp_core.specs.declared.event.Event.TheVariants as event
+use Rattle.asp_core.specs.declared.task.Task.{Task}
+use Rattle.asp_core.specs.Boards.{Board, IsQuery, distinct, is_answer, is_enough, is_excused, lists, optimises, sought, start}
+use Rattle.asp_core.specs.Events.{Guard, IsVariable, happens, has_var, held_by}
+use Rattle.asp_core.specs.Units.{out_of}
+use Rattle.asp_core.specs.Invariant.{IsBoard}
+use Rattle.asp_core.proofs.HeldLaws.{IsLawful-push, run-push}
+use Rattle.asp_core.proofs.ResultLaws.{IsBoard-replay, task-run}
+use Rattle.asp_book.specs.Books.{Booked, board, with_events, IsJournalOf}
+use Rattle.asp_ledger.specs.declared.ledger.Ledger.TheInside.{Inside}
+use Rattle.asp_ledger.specs.Ledgers.{enumeration}
+use Rattle.asp_ledger.specs.Stored.{IsLedger, ledger_of}
+
+-- ---- what holds of an enumeration's board
+module _ (v : Booked) (task : v.task ≡ enumeration v.task.program v.task.budget) where
+  pub board-enumerates : (board v).task ≡ enumeration v.task.program v.task.budget
+  board-enumerates = task-run (start v.task) v.journal ∙ task
+
+  pub no-limit : is_enough (board v) ≡ false
+  no-limit = ap (λ (t : Task). not (eqb t.limit 0) && nat_le t.limit (length (distinct (board v).answers))) board-enumerates
+
+  pub nothing-sought : sought (board v).task.goal ≡ None
+  nothing-sought = ap (λ (t : Task). sought t.goal) board-enumerates
+
+  pub no-optimum : optimises (board v).task.goal ≡ false
+  no-optimum = ap (λ (t : Task). optimises t.goal) board-enumerates
+
+  pub lists-all : (S : Atoms) → lists (board v).task S ≡ true
+  lists-all S = ap (λ (t : Task). lists t S) board-enumerates
+
+  pub board-is : IsJournalOf v.task v.journal → IsBoard (board v)
+  board-is lawful = IsBoard-replay v.task v.journal (subst (λ (t : Task). IsQuery t.program t.query) (sym task) tt) lawful
+
+-- ---- one event more
+-- from i to j by an event
+pub ledger-happens : (i j : Inside) (e : Event) → IsLedger i → j.program ≡ i.program → j.budget ≡ i.budget → Guard (board (ledger_of i)) e →
+    j.tree ≡ (happens (board (ledger_of i)) e).nodes → j.journal.items ≡ i.journal.items ++ e ∷ [] → IsLedger j
+ledger-happens i j e is program budget guard tree events =
+    let t : Task = enumeration i.program.value i.budget in
+    let same : enumeration j.program.value j.budget ≡ t = λ k. enumeration (program k).value (budget k) in
+    record {
+      tree = tree ∙ ap (λ (b : Board). b.nodes) (sym (run-push (start t) i.journal.items e))
+          ∙ ap (λ (l : List Event). (board (record { task = t; journal = l })).nodes) (sym events)
+          ∙ ap (λ (u : Task). (board (record { task = u; journal = j.journal.items })).nodes) (sym same);
+      lawful = subst (λ (u : Task). IsJournalOf u j.journal.items) (sym same) (subst (IsJournalOf t) (sym events) (IsLawful-push (start t) i.journal.items e is.lawful guard));
+    }
+
+-- and what contracts see of it
+pub ledger-with : (i j : Inside) (v : Booked) (e : Event) → ledger_of i ≡ v → j.program ≡ i.program → j.budget ≡ i.budget → j.journal.items ≡ i.journal.items ++ e ∷ [] →
+    ledger_of j ≡ with_events v (e ∷ [])
+ledger-with i j v e view program budget events =
+    (λ k. let z : Booked = record { task = enumeration (program k).value (budget k); journal = events k } in z) ∙ ap (λ (u : Booked). with_events u (e ∷ [])) view
+
+-- ---- each event
+open-is : (s : Status) → is_open s ≡ true → s ≡ status.Open
+open-is status.Open e = refl
+open-is (status.Held t) e = absurd (false≢true e)
+open-is status.Closed e = absurd (false≢true e)
+open-is status.Forked e = absurd (false≢true e)
+
+module _ (i j : Inside) (v : Booked) (view : ledger_of i ≡ v) (is : IsLedger i) (program : j.program ≡ i.program) (budget : j.budget ≡ i.budget) where
+  here-tree : i.tree ≡ (board v).nodes
+  here-tree = is.tree ∙ ap (λ (u : Booked). (board u).nodes) view
+
+  by-event : (e : Event) → Guard (board v) e → j.tree ≡ (happens (board v) e).nodes → j.journal.items ≡ i.journal.items ++ e ∷ [] → IsLedger j
+  by-event e guard tree events =
+      ledger-happens i j e is program budget (subst (λ (u : Booked). Guard (board u) e) (sym view) guard)
+      (tree ∙ ap (λ (u : Booked). (happens (board u) e).nodes) (sym view)) events
+
+  pub ledger-took : (leaf : ℕ) → is_open (status_of i.tree leaf) ≡ true → held_by 0 (board v).nodes ≡ 0 → j.tree ≡ with_status i.tree leaf (status.Held 0) →
+      j.journal.items ≡ i.journal.items ++ event.Take 0 leaf ∷ [] → IsLedger j
+  ledger-took leaf opened free tree events =
+      by-event (event.Take 0 leaf) (open-is (status_of (board v).nodes leaf) (ap (λ (ns : List Node). is_open (status_of ns leaf)) (sym here-tree) ∙ opened), free)
+      (tree ∙ ap (λ (ns : List Node). with_status ns leaf (status.Held 0)) here-tree) events
+
+  pub ledger-split : (leaf : ℕ) (l : Literal) → status_of (board v).nodes leaf ≡ status.Held 0 → IsVariable (board v).task.program l.var → has_var (cube_of (board v).nodes leaf) l.var ≡ false →
+      length i.tree < 4194304 → j.tree ≡ split i.tree leaf l → j.journal.items ≡ i.journal.items ++ event.Split 0 leaf l ∷ [] → IsLedger j
+  ledger-split leaf l held variable new room tree events =
+      by-event (event.Split 0 leaf l) (held, subst (λ (ns : List Node). length ns < 4194304) here-tree room, variable, new) (tree ∙ ap (λ (ns : List Node). split ns leaf l) here-tree) events
+
+  pub ledger-delivered : (S : Atoms) → v.task ≡ enumeration v.task.program v.task.budget → is_answer v.task S ≡ true → j.tree ≡ i.tree →
+      j.journal.items ≡ i.journal.items ++ event.Deliver 0 S ∷ [] → IsLedger j
+  ledger-delivered S task answer tree events =
+      by-event (event.Deliver 0 S)
+      (lists-all v task S, ap (λ (t : Task). is_answer t S) (task-run (start v.task) v.journal) ∙ answer, no-limit v task) (tree ∙ here-tree) events
+
+  pub ledger-closed : (leaf : ℕ) (n : List Literal) → status_of (board v).nodes leaf ≡ status.Held 0 → has_all (cube_of (board v).nodes leaf) n ≡ true →
+      HitsOnly (board v).task.program (is_excused (board v)) n → j.tree ≡ with_status i.tree leaf status.Closed →
+      j.journal.items ≡ i.journal.items ++ event.Close 0 leaf n ∷ [] → IsLedger j
+  ledger-closed leaf n held within settled tree events =
+      by-event (event.Close 0 leaf n) (held, within, settled) (tree ∙ ap (λ (ns : List Node). with_status ns leaf status.Closed) here-tree) events
+
+  pub ledger-released : (leaf : ℕ) → status_of (board v).nodes leaf ≡ status.Held 0 → j.tree ≡ with_status i.tree leaf status.Open →
+      j.journal.items ≡ i.journal.items ++ event.Release 0 leaf ∷ [] → IsLedger j
+  ledger-released leaf held tree events =
+      by-event (event.Release 0 leaf) held (tree ∙ ap (λ (ns : List Node). with_status ns leaf status.Open) here-tree) events
+
+  pub ledger-leased : (n : ℕ) → n ≤ (board v).pool → j.tree ≡ i.tree → j.journal.items ≡ i.journal.items ++ event.Lease 0 n ∷ [] → IsLedger j
+  ledger-leased n fits tree events = by-event (event.Lease 0 n) fits (tree ∙ here-tree) events
+
+  pub ledger-back : (left burnt : ℕ) → left + burnt ≡ out_of (board v).out 0 → j.tree ≡ i.tree → j.journal.items ≡ i.journal.items ++ event.Back 0 left burnt ∷ [] → IsLedger j
+  ledger-back left burnt all tree events = by-event (event.Back 0 left burnt) all (tree ∙ here-tree) events

@@ -1,0 +1,15 @@
+-- How a ledger and a backlog are stored.
+use Rattle.std.specs.Prelude.{◌≡◌, map}
+use Rattle.asp_model.specs.Sets.{IsAscending}
+use Rattle.asp_rows.specs.declared.row.Row.{Row}
+use Rattle.asp_rows.specs.Listed.{AreRows, IsRowOf}
+use Rattle.asp_book.specs.Books.{Booked, board, IsJournalOf}
+use Rattle.asp_ledger.specs.declared.ledger.Ledger.TheInside.{Inside}
+use Rattle.asp_ledger.specs.Ledgers.{enumeration}
+
+abbrev pub ledger_of : Inside → Booked
+ledger_of l = record { task = enumeration l.program.value l.budget; journal = l.journal.items }
+
+pub record IsLedger (l : Inside) : Type 0 where
+  pub tree : l.tree ≡ (board (ledger_of l)).nodes
+  pub lawful : IsJournalOf (enumeration l.program.value l.budget) l.journal.items

@@ -1,0 +1,206 @@
+-- One part: its leaf is taken, worked on, and then closed, split or opened again.
+use Rattle.std.proofs.Common.{◌≡◌, ◌⊎◌, ℕ, zero, suc, ◌+◌, ◌-◌, ◌<◌, ◌≤◌, Bool, true, false, cond, eqb, ◌||◌, List, [], ◌∷◌, ◌++◌, get_or, length, set, Option, None, Some, refl, sym, ap, ◌∙◌, subst, inl, inr, arith}
+use Rattle.std.specs.Prelude.{IsTrue}
+use Rattle.std.specs.List.{AllByRecursion}
+use Rattle.std.proofs.lemmas.Bool.{false≢true, eqb-true, eq-eqb, or_cases, cases_eq}
+use Rattle.std.proofs.lemmas.List.{get_or-set_same, get_or-set_other, length-append, length-set}
+use Rattle.std.proofs.lemmas.List.Folds.{list_any-append}
+use Rattle.asp_model.specs.declared.program.Program.{Program}
+use Rattle.asp_model.specs.declared.results.Mode.TheVariants.{Enum}
+use Rattle.asp_model.specs.Sets.{Atoms, has}
+use Rattle.asp_vars.specs.Literals.{Literal, complement}
+use Rattle.asp_vars.specs.Paid.{Clash, Units}
+use Rattle.asp_vars.specs.declared.nogood.Nogood.{Nogood}
+use Rattle.asp_path.specs.declared.status.Status.{Status}
+use Rattle.asp_path.specs.declared.status.Status.TheVariants as status
+use Rattle.asp_path.specs.Trees.{Node, cube_of, held_count, is_held, is_leaf, is_open, is_unclosed, nowhere, split, status_of, with_status}
+use Rattle.asp_core.specs.declared.event.Event.{Event}
+use Rattle.asp_core.specs.declared.event.Event.TheVariants as event
+use Rattle.asp_core.specs.declared.task.Task.{Task}
+use Rattle.asp_core.specs.Boards.{Board, is_enough}
+use Rattle.asp_core.specs.Events.{Guard, happens, IsVariable}
+use Rattle.asp_core.proofs.PlaceLaws.{held_count-changed, held_count-split}
+use Rattle.asp_book.specs.Books.{Booked, board, with_events}
+use Rattle.asp_book.specs.Replies.{taken_this}
+use Rattle.asp_search.specs.Beside.{IsOpen}
+use Rattle.asp_search_laws.specs.Searching.{Searching}
+use Rattle.asp_crew.specs.declared.leaf.Left.TheVariants as crew
+use Rattle.asp_crew.specs.Running.{Ends, IsAlone, IsReady, LeavesLeaf, OnlyRecords, status_after}
+use Rattle.asp_crew.proofs.AddLaws.{adds-events, adds-self, adds-trans}
+use Rattle.asp_crew.proofs.BookLaws.{board-task, board-with, ready-with}
+use Rattle.asp_crew.proofs.FinishLaws.{IsTaken, alone-after, closes, free-now, opens-unpaid}
+use Rattle.asp_crew.proofs.TreeLaws.{status-set}
+use Rattle.asp_ledger.specs.Ledgers.{enumeration}
+use Rattle.asp_stream.specs.Leaves.{EndsLeaf, LeavesHeld, LeavesPart}
+use Rattle.asp_stream.specs.Streams.{Covers, divided_by}
+use Rattle.asp_stream.specs.declared.leaf.Left.TheVariants as left
+use Rattle.asp_stream.specs.declared.told.End.{End}
+use Rattle.asp_stream.specs.declared.told.End.TheVariants as end
+use Rattle.asp_stream.proofs.CoverLaws.{covers-none, first-status, length-split}
+use Rattle.asp_ledger.proofs.LedgerLaws.{no-limit}
+
+pub open-is : (s : Status) → is_open s ≡ true → s ≡ status.Open
+open-is status.Open e = refl
+open-is (status.Held t) e = absurd (false≢true e)
+open-is status.Closed e = absurd (false≢true e)
+open-is status.Forked e = absurd (false≢true e)
+
+-- ---- the leaf is taken
+pub taken-is : (v w : Booked) (leaf : ℕ) (s : Searching) (f : Units) → IsReady Enum v s f → IsAlone (board v) →
+    is_open (status_of (board v).nodes leaf) ≡ true → w ≡ with_events v (taken_this 0 leaf true) → IsTaken Enum v w leaf s f
+taken-is v w leaf s f is alone open_leaf now =
+    let e : Event = event.Take 0 leaf in
+    let was : status_of (board v).nodes leaf ≡ status.Open = open-is (status_of (board v).nodes leaf) open_leaf in
+    let b : board w ≡ happens (board v) e = ap board now ∙ board-with v e in
+    record {
+      ready = ready-with Enum v w s f e is (was, free-now (board v) alone) refl now;
+      task = ap (λ (z : Booked). z.task) now;
+      adds = adds-events v w (e ∷ []) now (refl, tt);
+      was = was;
+      nodes = ap (λ (c : Board). c.nodes) b;
+      out = ap (λ (c : Board). c.out) b;
+      pool = ap (λ (c : Board). c.pool) b;
+    }
+
+-- ---- parts in a row
+pub left-self : (v : Booked) (s : Searching) (f : Units) → IsReady Enum v s f → IsAlone (board v) → LeavesPart v v s f None
+left-self v s f ready alone = record { ready = ready; alone = alone; task = refl; adds = adds-self v; pool = refl; out = refl; over = tt }
+
+pub left-on : (u v w : Booked) (s t : Searching) (f g : Units) (how : Option End) → LeavesPart u v s f None → LeavesPart v w t g how → LeavesPart u w t g how
+left-on u v w s t f g how a b = record {
+  ready = b.ready;
+  alone = b.alone;
+  task = b.task ∙ a.task;
+  adds = adds-trans u v w a.adds b.adds;
+  pool = b.pool ∙ a.pool;
+  out = b.out ∙ a.out;
+  over = b.over;
+}
+
+pub left-finished : (u v : Booked) (s : Searching) (f : Units) → LeavesPart u v s f None → Covers (board v) [] → LeavesPart u v s f (Some end.Finished)
+left-finished u v s f a covers = record { ready = a.ready; alone = a.alone; task = a.task; adds = a.adds; pool = a.pool; out = a.out; over = covers-none (board v) covers }
+
+-- the search's ends in asp_crew's words
+ends-closed : (v w : Booked) (leaf : ℕ) (s t : Searching) (g : Units) (n : Nogood) → w.task ≡ enumeration w.task.program w.task.budget →
+    EndsLeaf v w leaf s t g (left.Closed n) → Ends Enum v w s t g (crew.Closed n)
+ends-closed v w leaf s t g n task is = record { ready = is.ready; only = is.only; over = (no-limit w task, is.over) }
+
+ends-unpaid : (v w : Booked) (leaf : ℕ) (s t : Searching) (g : Units) (x : Clash) → EndsLeaf v w leaf s t g (left.Unpaid x) → Ends Enum v w s t g (crew.Unpaid x)
+ends-unpaid v w leaf s t g x is = record { ready = is.ready; only = is.only; over = is.over }
+
+-- ---- a leaf that was held
+-- what is left of it, after it was taken
+pub held-left : (v w y : Booked) (leaf : ℕ) (s t : Searching) (f g : Units) (how : Option End) → IsAlone (board v) → IsTaken Enum v w leaf s f → LeavesHeld w y leaf t g how → LeavesPart v y t g how
+held-left v w y leaf s t f g how alone taken left = record {
+  ready = left.ready;
+  alone = alone-after (board v) (board y) alone
+      (omega (arith, left.free, ap held_count taken.nodes, held_count-changed (board v).nodes leaf status.Open (status.Held 0) taken.was refl, alone.free))
+      (left.out ∙ taken.out);
+  task = left.task ∙ taken.task;
+  adds = adds-trans v w y taken.adds left.adds;
+  pool = left.pool ∙ taken.pool;
+  out = left.out ∙ taken.out;
+  over = left.over;
+}
+
+one-less : (b c : Board) (leaf : ℕ) (new : Status) → status_of b.nodes leaf ≡ status.Held 0 → c.nodes ≡ with_status b.nodes leaf new → is_held new ≡ false → held_count c.nodes + 1 ≡ held_count b.nodes
+one-less b c leaf new held nodes free =
+    omega (arith, ap held_count nodes, held_count-changed b.nodes leaf (status.Held 0) new held refl, ap (λ x. let k : ℕ = cond x 1 0 in k) free)
+
+-- w: the leaf is held; x: it was searched; y: at the end
+module _ (w x y : Booked) (leaf : ℕ) (s1 t : Searching) (g : Units) (q : List Literal) (held : status_of (board w).nodes leaf ≡ status.Held 0)
+    (task : x.task ≡ enumeration x.task.program x.task.budget) (cube : q ≡ cube_of (board w).nodes leaf) (entered : s1.cube ≡ Some q) where
+  pub after-closed : (n : Nogood) → EndsLeaf w x leaf s1 t g (left.Closed n) → y.task ≡ enumeration y.task.program y.task.budget →
+      y ≡ with_events x (event.Close 0 leaf n.lits ∷ []) → LeavesHeld w y leaf t g None
+  after-closed n ends task-y now =
+      let leaves : LeavesLeaf Enum w y leaf t g None = closes Enum w x y leaf q n s1 t g (ends-closed w x leaf s1 t g n task ends) held cube entered now in
+      record {
+        ready = leaves.ready;
+        task = leaves.task;
+        adds = leaves.adds;
+        pool = leaves.pool;
+        out = leaves.out;
+        free = one-less (board w) (board y) leaf status.Closed held
+            (leaves.nodes ∙ ap (λ z. with_status (board w).nodes leaf (status_after None z)) (no-limit y task-y)) refl;
+        over = tt;
+      }
+
+  pub after-unpaid : (c : Clash) → EndsLeaf w x leaf s1 t g (left.Unpaid c) → y ≡ with_events x (event.Release 0 leaf ∷ []) → LeavesHeld w y leaf t g (Some (end.Unpaid c))
+  after-unpaid c ends now =
+      let leaves : LeavesLeaf Enum w y leaf t g (Some c) = opens-unpaid Enum w x y leaf q s1 t g held cube entered now c (ends-unpaid w x leaf s1 t g c ends) in
+      record {
+        ready = leaves.ready;
+        task = leaves.task;
+        adds = leaves.adds;
+        pool = leaves.pool;
+        out = leaves.out;
+        free = one-less (board w) (board y) leaf status.Open held leaves.nodes refl;
+        over = (leaves.stopped.1, (leaf, leaves.stopped.2));
+      }
+
+-- what was searched, and then its leaf opened
+module _ (w x y : Booked) (leaf : ℕ) (t : Searching) (g : Units) (held : status_of (board w).nodes leaf ≡ status.Held 0) (is_ready : IsReady Enum x t g) (only : OnlyRecords w x) where
+  still : status_of (board x).nodes leaf ≡ status.Held 0
+  still = ap (λ (ns : List Node). status_of ns leaf) only.nodes ∙ held
+
+  pub after-unwanted : y ≡ with_events x (event.Release 0 leaf ∷ []) → LeavesHeld w y leaf t g (Some end.Unwanted)
+  after-unwanted now =
+      let e : Event = event.Release 0 leaf in
+      let b : board y ≡ happens (board x) e = ap board now ∙ board-with x e in
+      record {
+        ready = ready-with Enum x y t g e is_ready still refl now;
+        task = ap (λ (z : Booked). z.task) now ∙ only.task;
+        adds = adds-trans w x y only.adds (adds-events x y (e ∷ []) now (refl, tt));
+        pool = ap (λ (c : Board). c.pool) b ∙ only.pool;
+        out = ap (λ (c : Board). c.out) b ∙ only.out;
+        free = one-less (board w) (board y) leaf status.Open held
+            (ap (λ (c : Board). c.nodes) b ∙ ap (λ (ns : List Node). with_status ns leaf status.Open) only.nodes) refl;
+        over = tt;
+      }
+
+  -- or split, and its first half opened
+  module _ (lit : Literal) (room : length (board x).nodes < 4194304) (opens : IsOpen x.task.program (cube_of (board x).nodes leaf) lit) where
+    e1 : Event
+    e1 = event.Split 0 leaf lit
+
+    n : ℕ
+    n = length (board x).nodes
+
+    m : Booked
+    m = with_events x (e1 ∷ [])
+
+    pub split-guard : Guard (board x) e1
+    split-guard = (still, room, subst (λ (k : Task). IsVariable k.program lit.var) (sym (board-task x)) opens.0, opens.1)
+
+    pub first-held : status_of (board m).nodes n ≡ status.Held 0
+    first-held = ap (λ (b : Board). status_of b.nodes n) (board-with x e1) ∙ first-status (board x).nodes leaf lit ∙ still
+
+    opened : (board (divided_by x leaf lit)).nodes ≡ with_status (board m).nodes n status.Open
+    opened = ap (λ (b : Board). b.nodes) (board-with m (event.Release 0 n))
+
+    pub after-divided : y ≡ divided_by x leaf lit → LeavesHeld w y leaf t g None
+    after-divided now =
+        let e2 : Event = event.Release 0 n in
+        let b1 : board m ≡ happens (board x) e1 = board-with x e1 in
+        let b2 : board y ≡ happens (board m) e2 = ap board now ∙ board-with m e2 in
+        record {
+          ready = ready-with Enum m y t g e2 (ready-with Enum x m t g e1 is_ready split-guard refl refl) first-held refl now;
+          task = ap (λ (z : Booked). z.task) now ∙ only.task;
+          adds = adds-trans w m y (adds-trans w x m only.adds (adds-events x m (e1 ∷ []) refl (refl, tt))) (adds-events m y (e2 ∷ []) now (refl, tt));
+          pool = ap (λ (b : Board). b.pool) b2 ∙ ap (λ (b : Board). b.pool) b1 ∙ only.pool;
+          out = ap (λ (b : Board). b.out) b2 ∙ ap (λ (b : Board). b.out) b1 ∙ only.out;
+          free = one-less (board m) (board y) n status.Open first-held (ap (λ (b : Board). b.nodes) b2) refl
+              ∙ ap (λ (b : Board). held_count b.nodes) b1 ∙ held_count-split (board x).nodes leaf 0 lit still ∙ ap held_count only.nodes;
+          over = tt;
+        }
+
+    pub longer-by-two : y ≡ divided_by x leaf lit → length (board y).nodes ≡ n + 2
+    longer-by-two now =
+        omega (
+          arith,
+          ap (λ (z : Booked). length (board z).nodes) now,
+          ap length opened,
+          length-set (board m).nodes n (record { cube = cube_of (board m).nodes n; status = status.Open }),
+          ap (λ (b : Board). length b.nodes) (board-with x e1),
+          length-split (board x).nodes leaf lit,
+        )

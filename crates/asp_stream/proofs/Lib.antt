@@ -1,0 +1,5 @@
+pub mod CoverLaws
+pub mod EndLaws
+pub mod LeafLaws
+pub mod LowLaws
+pub mod StreamLaws

@@ -1,0 +1,221 @@
+-- A stream after an event, and what its reader heard.
+use Rattle.std.proofs.Common.{◌≡◌, ◌⊎◌, ℕ, zero, suc, ◌+◌, ◌<◌, Bool, true, false, ◌||◌, eqb, List, [], ◌∷◌, ◌++◌, filter, get_or, length, Option, None, Some, refl, sym, ap, ◌∙◌, subst, inl, inr, arith}
+use Rattle.std.specs.Prelude.{IsTrue}
+use Rattle.std.specs.List.{AllByRecursion}
+use Rattle.std.proofs.lemmas.Bool.{false≢true, eq-eqb, cases_eq}
+use Rattle.std.proofs.lemmas.List.{length-set}
+use Rattle.std.proofs.lemmas.List.Folds.{list_any-append}
+use mathlib.Core.List.{IsPrefix}
+use Rattle.asp_model.specs.declared.program.Program.{Program}
+use Rattle.asp_model.specs.Models.{answers, atoms_of}
+use Rattle.asp_model.specs.declared.results.Mode.TheVariants.{Enum}
+use Rattle.asp_model.specs.Sets.{Atoms, has}
+use Rattle.asp_model.proofs.MemberLaws.{each-append}
+use Rattle.asp_vars.specs.Literals.{Literal, complement}
+use Rattle.asp_rows.specs.declared.row.Row.{Row}
+use Rattle.asp_rows.specs.Listed.{IsRowOf}
+use Rattle.asp_path.specs.declared.status.Status.TheVariants as status
+use Rattle.asp_path.specs.Trees.{Node, cube_of, is_leaf, is_unclosed, nowhere, split, status_of, with_status}
+use Rattle.asp_core.specs.declared.event.Event.{Event}
+use Rattle.asp_core.specs.declared.event.Event.TheVariants as event
+use Rattle.asp_core.specs.declared.task.Task.{Task}
+use Rattle.asp_core.specs.Boards.{Board}
+use Rattle.asp_core.specs.Sorting.{answers_of}
+use Rattle.asp_core.specs.Events.{Guard, happens}
+use Rattle.asp_core.proofs.GrowthLaws.{Grows-happens}
+use Rattle.asp_book.specs.Books.{Booked, board, with_events, IsJournalOf}
+use Rattle.asp_crew.proofs.BookLaws.{board-task, board-with}
+use Rattle.asp_crew.proofs.TreeLaws.{status-set}
+use Rattle.asp_crew_laws.specs.Runs.{asks}
+use Rattle.asp_crew_laws.proofs.FoundLaws.{answers-same}
+use Rattle.asp_watermark.specs.Floors.{IsLow, listed}
+use Rattle.asp_watermark.proofs.BelowLaws.{all-below}
+use Rattle.asp_watermark.proofs.FloorLaws.{IsLow-first}
+use Rattle.asp_backlog.specs.Backlogs.{Pending, with_waiting}
+use Rattle.asp_ledger.specs.Ledgers.{enumeration}
+use Rattle.asp_backlog.specs.Telling.{IsTold}
+use Rattle.asp_stream.specs.Streams.{Covers, HasHalves, IsFrontOf, IsPart, IsStream, divided_by, leaves_of}
+use Rattle.asp_stream.specs.declared.part.Part.{Part}
+use Rattle.asp_stream.proofs.CoverLaws.{first-status, has-later, length-split, parts-happen, status-other}
+use Rattle.asp_ledger.proofs.LedgerLaws.{board-enumerates, board-is, nothing-sought}
+use Rattle.asp_backlog.proofs.ToldLaws.{told-delivered, told-front, told-happens}
+
+-- an enumeration lists the program's answers
+pub listed-are : (v : Booked) → v.task ≡ enumeration v.task.program v.task.budget → listed (board v).task ≡ answers v.task.program
+listed-are v task =
+    ap listed (board-enumerates v task) ∙ all-below (answers_of (enumeration v.task.program v.task.budget)) ∙ answers-same v.task.program (asks Enum 0 false) v.task.budget
+
+-- an event that delivers nothing
+pub stream-happens : (p : Program) (v w : Booked) (heard : List Atoms) (q : Pending) (parts : List Part) (leaves after : List ℕ) (e : Event) →
+    IsStream p v heard q parts leaves → Guard (board v) e → w ≡ with_events v (e ∷ []) → (happens (board v) e).answers ≡ (board v).answers → Covers (board w) after →
+    IsStream p w heard q parts after
+stream-happens p v w heard q parts leaves after e is guard now answers covers =
+    let b : board w ≡ happens (board v) e = ap board now ∙ board-with v e in
+    record {
+      program = ap (λ (z : Booked). z.task.program) now ∙ is.program;
+      told = subst (λ (c : Board). IsTold c heard q) (sym b) (told-happens (board v) e heard q guard (Grows-happens (board v) e guard).task answers is.told);
+      parts_are = subst (λ (c : Board). AllByRecursion (IsPart c) parts) (sym b) (parts-happen (board v) e parts guard is.parts_are);
+      covers = covers;
+    }
+
+-- a delivery
+pub stream-delivered : (p : Program) (v w : Booked) (S : Atoms) (heard : List Atoms) (q : Pending) (parts : List Part) (leaves : List ℕ) →
+    v.task ≡ enumeration v.task.program v.task.budget → IsJournalOf v.task v.journal → Guard (board v) (event.Deliver 0 S) →
+    w ≡ with_events v (event.Deliver 0 S ∷ []) → IsStream p v heard q parts leaves →
+    IsStream p w heard (record q { sets = with_waiting q.floor S q.sets }) parts leaves
+stream-delivered p v w S heard q parts leaves task lawful guard now is =
+    let e : Event = event.Deliver 0 S in
+    let b : board w ≡ happens (board v) e = ap board now ∙ board-with v e in
+    record {
+      program = ap (λ (z : Booked). z.task.program) now ∙ is.program;
+      told = subst (λ (c : Board). IsTold c heard (record q { sets = with_waiting q.floor S q.sets })) (sym b)
+          (told-delivered (board v) S heard q (board-is v task lawful) (nothing-sought v task) guard is.told);
+      parts_are = subst (λ (c : Board). AllByRecursion (IsPart c) parts) (sym b) (parts-happen (board v) e parts guard is.parts_are);
+      covers = subst (λ (c : Board). Covers c leaves) (sym b) is.covers;
+    }
+
+-- ---- the reader
+pub front-of-told : (v : Booked) (heard : List Atoms) (q : Pending) → v.task ≡ enumeration v.task.program v.task.budget → IsJournalOf v.task v.journal →
+    IsTold (board v) heard q → IsPrefix heard (answers v.task.program)
+front-of-told v heard q task lawful is =
+    subst (IsPrefix heard) (listed-are v task) (told-front (board v) heard q (board-is v task lawful) (nothing-sought v task) is)
+
+pub front-of : (p r : Program) (v : Booked) (heard : List Atoms) (q : Pending) (parts : List Part) (leaves : List ℕ) →
+    v.task ≡ enumeration v.task.program v.task.budget → IsJournalOf v.task v.journal → r ≡ p → IsStream p v heard q parts leaves → IsFrontOf p r heard
+front-of p r v heard q parts leaves task lawful same is = record {
+  program = same;
+  front = subst (λ (x : Program). IsPrefix heard (answers x)) is.program (front-of-told v heard q task lawful is.told);
+}
+
+-- ---- a leaf that is split
+stood : (nodes : List Node) (x y : Node) (m : ℕ) →
+    ((m < length nodes) × (get_or (nodes ++ x ∷ y ∷ []) m nowhere ≡ get_or nodes m nowhere)) ⊎ ((m ≡ length nodes) ⊎ ((m ≡ length nodes + 1) ⊎ (get_or (nodes ++ x ∷ y ∷ []) m nowhere ≡ nowhere)))
+stood [] x y zero = inr (inl refl)
+stood [] x y (suc zero) = inr (inr (inl refl))
+stood [] x y (suc (suc m)) = inr (inr (inr refl))
+stood (z ∷ nodes) x y zero = inl (omega arith, refl)
+stood (z ∷ nodes) x y (suc m) = further (stood nodes x y m)
+  where
+    further : ((m < length nodes) × (get_or (nodes ++ x ∷ y ∷ []) m nowhere ≡ get_or nodes m nowhere)) ⊎ ((m ≡ length nodes) ⊎ ((m ≡ length nodes + 1) ⊎ (get_or (nodes ++ x ∷ y ∷ []) m nowhere ≡ nowhere))) →
+        ((suc m < length (z ∷ nodes)) × (get_or (nodes ++ x ∷ y ∷ []) m nowhere ≡ get_or nodes m nowhere))
+        ⊎ ((suc m ≡ length (z ∷ nodes)) ⊎ ((suc m ≡ length (z ∷ nodes) + 1) ⊎ (get_or (nodes ++ x ∷ y ∷ []) m nowhere ≡ nowhere)))
+    further (inl h) = inl (omega (arith, h.0), h.1)
+    further (inr (inl h)) = inr (inl (omega (arith, h)))
+    further (inr (inr (inl h))) = inr (inr (inl (omega (arith, h))))
+    further (inr (inr (inr h))) = inr (inr (inr h))
+
+-- the leaves but the one that was split, and its halves
+covers-divided : (b : Board) (leaf : ℕ) (l : Literal) (leaves : List ℕ) (c : Board) → c.nodes ≡ with_status (split b.nodes leaf l) (length b.nodes) status.Open → Covers b (leaf ∷ leaves) →
+    is_leaf (status_of b.nodes leaf) ≡ true → Covers c (leaves ++ (length b.nodes + 1) ∷ length b.nodes ∷ [])
+covers-divided b leaf l leaves c nodes covers there m h = here (cases_eq m n)
+  where
+    n : ℕ
+    n = length b.nodes
+
+    forked : List Node
+    forked = with_status b.nodes leaf status.Forked
+
+    left : Node
+    left = record { cube = cube_of b.nodes leaf ++ l ∷ []; status = status_of b.nodes leaf }
+
+    right : Node
+    right = record { cube = cube_of b.nodes leaf ++ complement l ∷ []; status = status.Open }
+
+    same-length : length forked ≡ n
+    same-length = length-set b.nodes leaf (record { cube = cube_of b.nodes leaf; status = status.Forked })
+
+    or-true : (x : Bool) → (x || true) ≡ true
+    or-true true = refl
+    or-true false = refl
+
+    among : has ((n + 1) ∷ n ∷ []) m ≡ true → has (leaves ++ (n + 1) ∷ n ∷ []) m ≡ true
+    among e = list_any-append (λ k. eqb k m) leaves ((n + 1) ∷ n ∷ []) ∙ ap (λ x. has leaves m || x) e ∙ or-true (has leaves m)
+
+    before : has leaves m ≡ true → has (leaves ++ (n + 1) ∷ n ∷ []) m ≡ true
+    before e = list_any-append (λ k. eqb k m) leaves ((n + 1) ∷ n ∷ []) ∙ ap (λ x. x || has ((n + 1) ∷ n ∷ []) m) e
+
+    not-forked : (m ≡ leaf) → is_unclosed (status_of forked m) ≡ true → ⊥
+    not-forked e u = false≢true (sym (ap (λ k. is_unclosed (status_of forked k)) e ∙ ap is_unclosed (status-set b.nodes leaf status.Forked there)) ∙ u)
+
+    old : is_unclosed (status_of forked m) ≡ true → (m ≡ leaf) ⊎ (m ≡ leaf → ⊥) → has (leaves ++ (n + 1) ∷ n ∷ []) m ≡ true
+    old u (inl e) = absurd (not-forked e u)
+    old u (inr other) = before (has-later leaf leaves m (covers m (ap is_unclosed (sym (status-other b.nodes leaf m status.Forked other)) ∙ u)) other)
+
+    by-place : is_unclosed (status_of (split b.nodes leaf l) m) ≡ true →
+        ((m < length forked) × (get_or (forked ++ left ∷ right ∷ []) m nowhere ≡ get_or forked m nowhere)) ⊎ ((m ≡ length forked) ⊎ ((m ≡ length forked + 1) ⊎ (get_or (forked ++ left ∷ right ∷ []) m nowhere ≡ nowhere))) →
+        (m ≡ n → ⊥) → has (leaves ++ (n + 1) ∷ n ∷ []) m ≡ true
+    by-place u (inl p) other = old (ap (λ (x : Node). is_unclosed x.status) (sym p.1) ∙ u) (cases_eq m leaf)
+    by-place u (inr (inl p)) other = absurd (other (p ∙ same-length))
+    by-place u (inr (inr (inl p))) other = among (ap (λ x. x || has (n ∷ []) m) (eq-eqb (n + 1) m (omega (arith, p, same-length))))
+    by-place u (inr (inr (inr p))) other = absurd (false≢true (sym (ap (λ (x : Node). is_unclosed x.status) p) ∙ u))
+
+    here : ((m ≡ n) ⊎ (m ≡ n → ⊥)) → has (leaves ++ (n + 1) ∷ n ∷ []) m ≡ true
+    here (inl e) = among (ap (λ x. eqb (n + 1) m || (x || false)) (eq-eqb n m (sym e)) ∙ or-true (eqb (n + 1) m))
+    here (inr other) =
+        by-place (ap is_unclosed (sym (ap (λ (ns : List Node). status_of ns m) nodes ∙ status-other (split b.nodes leaf l) n m status.Open other)) ∙ h) (stood forked left right m) other
+
+leaves-halves : (parts : List Part) (right left : Part) → leaves_of (parts ++ right ∷ left ∷ []) ≡ leaves_of parts ++ right.leaf ∷ left.leaf ∷ []
+leaves-halves [] right left = refl
+leaves-halves (p ∷ parts) right left = ap (λ (l : List ℕ). p.leaf ∷ l) (leaves-halves parts right left)
+
+pub stream-divided : (p : Program) (x : Booked) (leaf : ℕ) (l : Literal) (first second : Row) (heard : List Atoms) (q : Pending) (parts new : List Part) →
+    IsStream p x heard q parts (leaf ∷ leaves_of parts) → Guard (board x) (event.Split 0 leaf l) →
+    IsLow (board x) leaf first.set → IsLow (happens (board x) (event.Split 0 leaf l)) (length (board x).nodes + 1) second.set →
+    IsRowOf (atoms_of (board x).task.program) first → IsRowOf (atoms_of (board x).task.program) second →
+    HasHalves (length (board x).nodes, length (board x).nodes + 1) first second parts new → IsStream p (divided_by x leaf l) heard q new (leaves_of new)
+stream-divided p x leaf l first second heard q parts new is guard low low2 row row2 halves = record {
+  program = is.program;
+  told = subst (λ (c : Board). IsTold c heard q) (sym b2) (told-happens b1 e2 heard q guard2 refl refl (told-happens (board x) e1 heard q guard refl refl is.told));
+  parts_are = subst (λ (c : Board). AllByRecursion (IsPart c) new) (sym b2) (parts-happen b1 e2 new guard2 halves-are);
+  covers = subst (Covers (board y)) (sym leaves) (covers-divided (board x) leaf l (leaves_of parts) (board y) nodes is.covers (ap is_leaf guard.0));
+}
+  where
+    n : ℕ
+    n = length (board x).nodes
+
+    e1 : Event
+    e1 = event.Split 0 leaf l
+
+    e2 : Event
+    e2 = event.Release 0 n
+
+    b1 : Board
+    b1 = happens (board x) e1
+
+    y : Booked
+    y = divided_by x leaf l
+
+    b2 : board y ≡ happens b1 e2
+    b2 = board-with (with_events x (e1 ∷ [])) e2 ∙ ap (λ (b : Board). happens b e2) (board-with x e1)
+
+    guard2 : Guard b1 e2
+    guard2 = first-status (board x).nodes leaf l ∙ guard.0
+
+    nodes : (board y).nodes ≡ with_status (split (board x).nodes leaf l) n status.Open
+    nodes = ap (λ (b : Board). b.nodes) b2
+
+    leaves : leaves_of new ≡ leaves_of parts ++ (n + 1) ∷ n ∷ []
+    leaves = ap leaves_of halves.parts ∙ leaves-halves parts halves.right halves.left
+        ∙ (λ k. leaves_of parts ++ halves.right_leaf k ∷ halves.left_leaf k ∷ [])
+
+    longer : length b1.nodes ≡ n + 2
+    longer = length-split (board x).nodes leaf l
+
+    right-is : IsPart b1 halves.right
+    right-is = record {
+      within = omega (arith, longer, halves.right_leaf);
+      low = subst (λ k. IsLow b1 k halves.right.low.set) (sym halves.right_leaf) (subst (λ (r : Row). IsLow b1 (n + 1) r.set) (sym halves.right_low) low2);
+      row = subst (IsRowOf (atoms_of (board x).task.program)) (sym halves.right_low) row2;
+    }
+
+    left-is : IsPart b1 halves.left
+    left-is = record {
+      within = omega (arith, longer, halves.left_leaf);
+      low = subst (λ k. IsLow b1 k halves.left.low.set) (sym halves.left_leaf)
+          (subst (λ (r : Row). IsLow b1 n r.set) (sym halves.left_low) (IsLow-first (board x) 0 leaf l first.set guard low));
+      row = subst (IsRowOf (atoms_of (board x).task.program)) (sym halves.left_low) row;
+    }
+
+    halves-are : AllByRecursion (IsPart b1) new
+    halves-are = subst (AllByRecursion (IsPart b1)) (sym halves.parts)
+        (each-append (IsPart b1) parts (halves.right ∷ halves.left ∷ []) (parts-happen (board x) e1 parts guard is.parts_are) (right-is, (left-is, tt)))

@@ -1,0 +1,4 @@
+pub mod Endings
+pub mod Leaves
+pub mod Lows
+pub mod Streams
