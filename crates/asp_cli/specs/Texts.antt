@@ -6,7 +6,7 @@ usage_lines = codes "usage: aspenum [--mode auto|enum|opt|brave|cautious] [--for
     ++ codes "               [--models N] [--opt-all] [--workers 1..64] [--log blocks|row]\n"
     ++ codes "               [--budget N] [--output text|json] [--quiet] [--names] [--proof]\n"
     ++ codes "               [--split 1..100000] [--make 3..2000] [--queries] [--core-min]\n"
-    ++ codes "               [--stats] [--progress]"
+    ++ codes "               [--stats] [--progress] [--stream]"
 
 -- the program's name and version
 abbrev pub version_line : List ℕ
@@ -63,6 +63,9 @@ page_back = codes "\n"
     ++ codes "  --stats           write counts of the run to standard error\n"
     ++ codes "  --progress        write a line to standard error when the conflicts or the\n"
     ++ codes "                    answers have doubled, and for each cheaper answer\n"
+    ++ codes "  --stream          of all answers, write each as soon as none that stands before\n"
+    ++ codes "                    it can come: the same lines, by one thread; without effect\n"
+    ++ codes "                    beside --proof, --quiet, --models or --output json\n"
     ++ codes "  -h, --help        write this page\n"
     ++ codes "  --version         write the version\n"
     ++ codes "\n"
