@@ -49,6 +49,7 @@ hears_nothing p a = record {
   written = λ e. (e, Appends-nil a.held, refl);
   cut = λ e f. cc;
   silent = λ e. (e, refl, refl);
+  later = omega arith;
 }
 
 next-next : (p : Program) (heard more x y : List Atoms) → more ≡ heard ++ x → next_text p heard (x ++ y) ≡ next_text p heard x ++ next_text p more y
@@ -101,6 +102,7 @@ module _ (p : Program) (a b c : Moment) (x y : List Atoms) (h : Hears p a b x) (
     written = written-then;
     cut = cut-then b.failed refl;
     silent = silent-then;
+    later = omega (arith, h.later, k.later);
   }
 
 -- ---- the whole text
@@ -119,8 +121,8 @@ all-heard p a m sets none h =
     ap (λ (t : List Atoms). next_text p t sets) none ∙ ap (λ (t : List Atoms). next_text p [] t) (sym is)
 
 ends-of : {T E : Type 0} (a : Moment) (held : Option (List ℕ)) (faults : ℕ) (r : Result T E) (text : List ℕ) → Puts (out a.held a.faults []) (out held faults []) r text → Ends a held faults r text
-ends-of a held faults (Ok v) text puts = let q = printed-of a.held held a.faults faults (Ok v) text puts in record { all = (q.all, q.quiet); front = tt }
-ends-of a held faults (Err e) text puts = let q = printed-of a.held held a.faults faults (Err e) text puts in record { all = tt; front = (q.front, q.cause) }
+ends-of a held faults (Ok v) text puts = let q = printed-of a.held held a.faults faults (Ok v) text puts in record { all = (q.all, q.quiet); front = tt; later = q.later }
+ends-of a held faults (Err e) text puts = let q = printed-of a.held held a.faults faults (Err e) text puts in record { all = tt; front = (q.front, q.cause); later = q.later }
 
 pub ends_after : {T E : Type 0} (p : Program) (end : End) (rest : List Atoms) (a m : Moment) (held : Option (List ℕ)) (faults : ℕ) (r : Result T E) → a.heard ≡ [] → IsAfter p a m →
     m.failed ≡ false → Puts (out m.held m.faults []) (out held faults []) r (last_text p m.heard end rest) → Ends a held faults r (whole_text p end (m.heard ++ rest))
@@ -137,7 +139,7 @@ ends_silent p end rest a m e none fine h failed =
     let first = h.1.cut fine failed in
     let front : AppendsFront a.held m.held (next_text p [] m.heard) = subst (λ (t : List ℕ). AppendsFront a.held m.held t) (all-heard p a m h.0 none h.1) first.0 in
     let longer : AppendsFront a.held m.held (next_text p [] m.heard ++ last_text p m.heard end rest) = front-more a.held m.held _ (last_text p m.heard end rest) front in
-    record { all = tt; front = (subst (λ (t : List ℕ). AppendsFront a.held m.held t) (whole_joins p end m.heard rest) longer, first.1) }
+    record { all = tt; front = (subst (λ (t : List ℕ). AppendsFront a.held m.held t) (whole_joins p end m.heard rest) longer, first.1); later = h.1.later }
 
 -- ---- a front of the lines of all answers
 written-front : (a b : Option (List ℕ)) (text : List ℕ) → Appends a b text → AppendsFront a b text
