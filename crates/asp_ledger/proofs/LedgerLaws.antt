@@ -1,8 +1,7 @@
 -- A ledger after one event more, and what holds of a ledger's board.
-use Rattle.std.proofs.Common.{◌≡◌, ℕ, ◌+◌, ◌<◌, ◌≤◌, eqb, Bool, true, false, not, ◌&&◌, List, [], ◌∷◌, ◌++◌, length, None, refl, sym, ap, ◌∙◌, subst}
+use Rattle.std.proofs.Common.{◌≡◌, ℕ, ◌+◌, ◌<◌, ◌≤◌, eqb, true, false, not, ◌&&◌, List, [], ◌∷◌, ◌++◌, length, None, refl, sym, ap, ◌∙◌, subst}
 use Rattle.std.proofs.lemmas.Bool.{false≢true}
 use Rattle.std.specs.Prelude.{nat_le}
-use Rattle.asp_model.specs.declared.program.Program.{Program}
 use Rattle.asp_model.specs.Sets.{Atoms}
 use Rattle.asp_vars.specs.Conflicts.{has_all}
 use Rattle.asp_vars.specs.Entailment.{HitsOnly}
@@ -19,7 +18,7 @@ use Rattle.asp_core.specs.Units.{out_of}
 use Rattle.asp_core.specs.Invariant.{IsBoard}
 use Rattle.asp_core.proofs.HeldLaws.{IsLawful-push, run-push}
 use Rattle.asp_core.proofs.ResultLaws.{IsBoard-replay, task-run}
-use Rattle.asp_book.specs.Books.{Booked, board, with_events, IsJournalOf}
+use Rattle.asp_book.specs.Books.{Booked, board, IsJournalOf}
 use Rattle.asp_ledger.specs.declared.ledger.Ledger.TheInside.{Inside}
 use Rattle.asp_ledger.specs.Ledgers.{enumeration}
 use Rattle.asp_ledger.specs.Stored.{IsLedger, ledger_of}
@@ -57,12 +56,6 @@ ledger-happens i j e is program budget guard tree events =
           ∙ ap (λ (u : Task). (board (record { task = u; journal = j.journal.items })).nodes) (sym same);
       lawful = subst (λ (u : Task). IsJournalOf u j.journal.items) (sym same) (subst (IsJournalOf t) (sym events) (IsLawful-push (start t) i.journal.items e is.lawful guard));
     }
-
--- and what contracts see of it
-pub ledger-with : (i j : Inside) (v : Booked) (e : Event) → ledger_of i ≡ v → j.program ≡ i.program → j.budget ≡ i.budget → j.journal.items ≡ i.journal.items ++ e ∷ [] →
-    ledger_of j ≡ with_events v (e ∷ [])
-ledger-with i j v e view program budget events =
-    (λ k. let z : Booked = record { task = enumeration (program k).value (budget k); journal = events k } in z) ∙ ap (λ (u : Booked). with_events u (e ∷ [])) view
 
 -- ---- each event
 open-is : (s : Status) → is_open s ≡ true → s ≡ status.Open
