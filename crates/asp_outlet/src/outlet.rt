@@ -140,7 +140,7 @@ impl<K: Sink> Reader for Outlet<'_, K> {
     ghost use Rattle.asp_model.specs.declared.program.Program.{Program};
     ghost use Rattle.asp_model.specs.Sets.{Atoms};
     ghost use Rattle.asp_outlet.specs.Outlets.{Hears, moment};
-    ghost use Rattle.asp_outlet.proofs.OutletLaws.{hears_nothing, hears_then};
+    ghost use Rattle.asp_outlet.specs.Hearing.{hears_nothing, hears_then};
 
     ghost program = { λ o. o.listing.program };
 
@@ -157,7 +157,7 @@ impl<K: Sink> Reader for Outlet<'_, K> {
         self.write_next(rows)
     }
 
-    ghost begins = { λ o. (refl, refl, [], hears_nothing o.listing.program (moment o.listing.sets (K.held o.sink.now) (K.faults o.sink.now) o.failed)) };
+    ghost begins = { λ o. (refl, refl, ([], hears_nothing o.listing.program (moment o.listing.sets (K.held o.sink.now) (K.faults o.sink.now) o.failed))) };
 
     ghost goes_on = { λ u v w a b.
         let p = moment u.listing.sets (K.held u.sink.now) (K.faults u.sink.now) u.failed in
@@ -165,7 +165,6 @@ impl<K: Sink> Reader for Outlet<'_, K> {
         let r = moment w.listing.sets (K.held w.sink.now) (K.faults w.sink.now) w.failed in (
           b.0 ∙ a.0,
           b.1 ∙ a.1,
-          a.2.0 ++ b.2.0,
-          hears_then u.listing.program p q r a.2.0 b.2.0 a.2.1 (subst (λ (o : Program). Hears o q r b.2.0) a.1 b.2.1),
+          (a.2.0 ++ b.2.0, hears_then u.listing.program p q r a.2.0 b.2.0 a.2.1 (subst (λ (o : Program). Hears o q r b.2.0) a.1 b.2.1)),
         ) };
 }
