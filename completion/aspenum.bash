@@ -47,17 +47,17 @@ _aspenum() {
     for option in "${given[@]}"; do
         case $option in
             --proof) given+=(--split --output --quiet --queries) ;;
-            --split) given+=(--mode --models --opt-all --workers --log --budget --output --quiet --names --proof --queries --core-min --stats --progress) ;;
-            --opt-all) given+=(--split --queries) ;;
+            --split) given+=(--mode --models --opt-all --stream --workers --log --budget --output --quiet --names --proof --queries --core-min --stats --progress) ;;
+            --opt-all | --stream) given+=(--split --queries) ;;
             --quiet) given+=(--split --proof) ;;
             --output) given+=(--split --proof --make) ;;
             --make) given+=(--output --queries) ;;
-            --queries) given+=(--split --proof --opt-all --make --models --stats) ;;
+            --queries) given+=(--split --proof --opt-all --stream --make --models --stats) ;;
             --models | --stats) given+=(--split --queries) ;;
             --mode | --workers | --log | --budget | --names | --core-min | --progress) given+=(--split) ;;
         esac
     done
-    for option in --mode --format --models --opt-all --workers --log --budget --output --quiet --names --proof --split --make --queries --core-min --stats --progress; do
+    for option in --mode --format --models --opt-all --stream --workers --log --budget --output --quiet --names --proof --split --make --queries --core-min --stats --progress; do
         [[ " ${given[*]} " == *" $option "* ]] || left+=("$option")
     done
     [[ $last -ne 1 ]] || left+=(--help --version)

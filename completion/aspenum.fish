@@ -10,7 +10,7 @@ function __aspenum_lacks
     set -l words (commandline -opc)
     for name in $argv
         set -l given $words
-        if test "$given[-1]" = "$name"; and not contains -- $name --stats --progress --proof --opt-all --quiet -q --names --queries --core-min
+        if test "$given[-1]" = "$name"; and not contains -- $name --stats --progress --proof --opt-all --stream --quiet -q --names --queries --core-min
             set -e given[-1]
         end
         for word in $given
@@ -23,12 +23,13 @@ function __aspenum_lacks
 end
 
 # what says how to solve: parts exclude it
-set -g __aspenum_solving --mode -e --models -n --opt-all --workers -t --log --budget --output --quiet -q --names --proof --queries --core-min --stats --progress
+set -g __aspenum_solving --mode -e --models -n --opt-all --stream --workers -t --log --budget --output --quiet -q --names --proof --queries --core-min --stats --progress
 
 complete -c aspenum -n '__aspenum_lacks --mode -e --split' -s e -l mode -x -d 'What is sought' -a 'auto\t"opt where the program minimises, else enum" enum\t"all answers" opt\t"one answer of least cost" brave\t"the atoms in some answer" cautious\t"the atoms in every answer"'
 complete -c aspenum -n '__aspenum_lacks --format' -l format -x -d 'How the program is written' -a 'aspif\t"what gringo writes by itself" smodels\t"what it writes with --output=smodels"'
 complete -c aspenum -n '__aspenum_lacks --models -n --split --queries' -s n -l models -x -d 'End with this many answers'
 complete -c aspenum -n '__aspenum_lacks --opt-all --split --queries' -l opt-all -d 'Write all optima'
+complete -c aspenum -n '__aspenum_lacks --stream --split --queries' -l stream -d 'Write answers as soon as their order is known'
 complete -c aspenum -n '__aspenum_lacks --workers -t --split' -s t -l workers -x -d 'Threads that search' -a '1 2 4 8 16 32 64'
 complete -c aspenum -n '__aspenum_lacks --log --split' -l log -x -d 'Where threads tell one another what they learnt' -a 'blocks\t"blocks under a lock" row\t"65536 slots without a lock"'
 complete -c aspenum -n '__aspenum_lacks --budget --split' -l budget -x -d 'At most this many conflicts'
@@ -38,7 +39,7 @@ complete -c aspenum -n '__aspenum_lacks --names --split' -l names -d 'Tell conse
 complete -c aspenum -n '__aspenum_lacks --proof --output --quiet -q --split --queries' -l proof -d 'Write a proof in place of the results'
 complete -c aspenum -n '__aspenum_lacks --split $__aspenum_solving' -l split -x -d 'Write the parts of a program, at most this many'
 complete -c aspenum -n '__aspenum_lacks --make --output --queries' -l make -x -d 'Solve a ring of this many nodes, read no program'
-complete -c aspenum -n '__aspenum_lacks --queries --proof --opt-all --models -n --make --split --stats' -l queries -d 'Answer the queries after the program'
+complete -c aspenum -n '__aspenum_lacks --queries --proof --opt-all --stream --models -n --make --split --stats' -l queries -d 'Answer the queries after the program'
 complete -c aspenum -n '__aspenum_lacks --core-min --split' -l core-min -d 'Make cores of queries as small as may be'
 complete -c aspenum -n '__aspenum_lacks --stats --split --queries' -l stats -d 'Write counts to standard error'
 complete -c aspenum -n '__aspenum_lacks --progress --split' -l progress -d 'Write lines to standard error while it runs'

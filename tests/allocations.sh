@@ -1,7 +1,7 @@
 #!/usr/bin/env bash
 # Runs the built program with each of its allocations refused in turn, on a few programs, with one worker and with several.
-# Each run must end in want of memory, with status 33, its line and no output, or as it ends with ample memory: the same bytes
-# and status (a thread that can't be made is done without, and so are counts). It needs a C compiler, for a library that
+# Each run must end in want of memory, with status 33, its line and no output (with --stream: a front of the lines of answers), or as
+# it ends with ample memory: the same bytes and status (a thread that can't be made is done without, and so are counts). It needs a C compiler, for a library that
 # stands before libc's malloc, and takes a few minutes: it isn't in the gate.
 # Usage: tests/allocations.sh [PROGRAM]     (build/aspenum)
 cd "$(dirname "$0")/.." || exit 1
@@ -37,6 +37,13 @@ cc -O1 -fno-builtin -shared -fPIC -o "$room/refuse.so" "$room/refuse.c" || exit 
 
 failed=0
 
+# is_front WORD..: whether nothing was given, or with --stream among the words a front of what is wanted, without its last two lines
+is_front() {
+    [ -s "$room/given" ] || return 0
+    case " $* " in *' --stream '*) ;; *) return 1 ;; esac
+    head -n -2 "$room/wanted" | head -c "$(wc -c < "$room/given")" | cmp -s - "$room/given"
+}
+
 # refuse NAME TEXT WORD..: each allocation in turn, until twenty numbers behind each other weren't reached
 refuse() {
     local name=$1 text=$2
@@ -49,7 +56,7 @@ refuse() {
         if [ -s "$room/refused" ]; then beyond=0; else beyond=$((beyond + 1)); fi
         if [ "$status" = "$wanted" ] && cmp -s "$room/given" "$room/wanted"; then
             whole=$((whole + 1))
-        elif [ "$status" = 33 ] && [ ! -s "$room/given" ] && [ "$(cat "$room/notes")" = 'aspenum: out of memory' ]; then
+        elif [ "$status" = 33 ] && is_front "$@" && [ "$(cat "$room/notes")" = 'aspenum: out of memory' ]; then
             memory=$((memory + 1))
         else
             failed=$((failed + 1))
@@ -66,5 +73,7 @@ done
 refuse 'an example' examples/colouring.aspif --stats
 refuse 'an example' examples/colouring.aspif --proof
 refuse 'an optimum' examples/independent_set.aspif --opt-all
+printf 'asp 1 0 0\n1 1 9 1 2 3 4 5 6 7 8 9 0 0\n0\n' > "$room/free"
+refuse '512 answers, as they come' "$room/free" --mode enum --stream
 refuse 'an example' examples/colouring.aspif --split 4
 [ "$failed" -eq 0 ]

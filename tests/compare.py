@@ -3,7 +3,7 @@
 
     compare.py PROGRAM [COUNT [SEED]] [--no-clasp] [--smodels]     (PROGRAM may have words behind it: "build/aspenum --workers 4")
 
-With --smodels the programs are smodels texts, and the reference solves what tests/smodels.py makes of them. Each program has up to seven atoms and every kind of statement. In an enumeration, and where all optima are listed, the bytes
+With --smodels the programs are smodels texts, and the reference solves what tests/smodels.py makes of them. Each program has up to seven atoms and every kind of statement. In an enumeration, with --stream too, and where all optima are listed, the bytes
 must be the reference's, and where consequences are asked for, by numbers and by name, also of outputs of several literals and of some atoms alone, in lines and as JSON; in an optimisation the closing lines, cost and count, must be. With a limit the number of answers must be
 the reference's, and they must be some of its answers in its order. Every fourth program is solved in parts too. Where clasp lists other answers than the
 reference, or with a limit another number of them, that is told and counted, and is no failure: clasp 3.3.5 is known to lose
@@ -165,6 +165,9 @@ def differs(aspenum, case):
             return f"{' '.join(words)} differs from the reference"
         if given.returncode != (20 if "UNSATISFIABLE" in wanted else 30):
             return f"the status is {given.returncode} with {' '.join(words)}"
+    given = run([*aspenum, *case.words, "--mode", "enum", "--stream"], case.source)
+    if given.stdout.decode() != wanted_of(case.text, "enum"):
+        return "--stream differs from the reference"
     if not case.words:
         wrong = names_differ(aspenum, case)
         if wrong:

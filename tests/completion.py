@@ -39,6 +39,7 @@ ROWS = [
     ("aspenum --log ", ["blocks", "row"], ["--stats", "README"]),
     ("aspenum --output=j", ["--output=json"], ["text"]),
     ("aspenum --opt-all --", ["--mode", "--models", "--quiet", "--proof"], ["--help", "--version", "--opt-all ", "--split"]),
+    ("aspenum --stream --", ["--mode", "--models", "--quiet"], ["--help", "--version", "--stream ", "--split", "--queries"]),
     ("aspenum --names --", ["--mode", "--proof", "--quiet"], ["--help", "--version", "--names ", "--split"]),
     ("aspenum -q --", ["--mode", "--models", "--opt-all"], ["--help", "--version", "--proof", "--quiet", "--split"]),
     ("aspenum --split 4 --", ["--make", "--format"], ["--help", "--version", "--proof", "--split ", "--mode", "--models", "--log", "--stats"]),

@@ -1,7 +1,7 @@
 #!/usr/bin/env bash
-# Runs the built program under `ulimit -v`, from 2 MB up in steps, on five programs with one worker, and on three with 1, 4, 16
+# Runs the built program under `ulimit -v`, from 2 MB up in steps, on seven programs with one worker, and on three with 1, 4, 16
 # and 64. Each run must end out of memory, with status 33, its line and no output, or as it ends with ample memory: the same
-# bytes and status. A run that the loader ended, out of memory before `main`, is counted alone: `--help` doesn't come through
+# bytes and status. With --stream a run that is out of memory must have written a front of the lines of answers. A run that the loader ended, out of memory before `main`, is counted alone: `--help` doesn't come through
 # there either. Where the limit is small no thread can be made, and all workers are called on the main thread's stack.
 # Usage: tests/memory.sh [PROGRAM [STEP]]     (build/aspenum; STEP in KB, 64 where none is named)
 # (memory at the same addresses in each run, where the system lets us)
@@ -71,11 +71,18 @@ ends_before_main() {
     esac
 }
 
+# is_front: whether what was given is a front of what is wanted, without its last two lines, and of a stream, or nothing
+is_front() {
+    [ -s "$room/given" ] || return 0
+    [ "$streams" = yes ] || return 1
+    head -n -2 "$room/wanted" | head -c "$(wc -c < "$room/given")" | cmp -s - "$room/given"
+}
+
 # kind STATUS WANTED_STATUS LIMIT: what a run's end is
 kind() {
     if [ "$1" = "$2" ] && cmp -s "$room/given" "$room/wanted"; then
         echo whole
-    elif [ "$1" = 33 ] && [ ! -s "$room/given" ] && [ "$(cat "$room/notes")" = 'aspenum: out of memory' ]; then
+    elif [ "$1" = 33 ] && is_front && [ "$(cat "$room/notes")" = 'aspenum: out of memory' ]; then
         echo memory
     elif ends_before_main "$1" "$3"; then
         echo loader
@@ -99,8 +106,9 @@ attempt() {
 
 # squeeze NAME TEXT [WORD..]: runs the program on the text, in more and more memory, until twenty runs in turn were whole
 squeeze() {
-    local name=$1 text=$2
+    local name=$1 text=$2 streams=no
     shift 2
+    case " $* " in *' --stream '*) streams=yes ;; esac
     "$program" "$@" < "$text" > "$room/wanted" 2> /dev/null
     local wanted=$? limit=2048 whole=0 more found
     count=([whole]=0 [memory]=0 [loader]=0 [wrong]=0)
@@ -126,6 +134,9 @@ free 10 > "$room/free"
 pigeons 6 > "$room/pigeons"
 squeeze 'an example' examples/colouring.aspif
 squeeze '2000 facts' "$room/facts" --stats
+free 14 > "$room/many"
+squeeze '1024 answers, as they come' "$room/free" --mode enum --stream
+squeeze '16384 answers, as they come' "$room/many" --mode enum --stream
 for workers in 1 4 16 64; do
     squeeze "an optimum, workers: $workers" examples/independent_set.aspif --workers "$workers"
     squeeze "1024 answers, workers: $workers" "$room/free" --mode enum --workers "$workers"
