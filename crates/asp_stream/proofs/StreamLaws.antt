@@ -19,7 +19,7 @@ use Rattle.asp_path.specs.Trees.{Node, cube_of, is_leaf, is_unclosed, nowhere, s
 use Rattle.asp_core.specs.declared.event.Event.{Event}
 use Rattle.asp_core.specs.declared.event.Event.TheVariants as event
 use Rattle.asp_core.specs.declared.task.Task.{Task}
-use Rattle.asp_core.specs.Boards.{Board}
+use Rattle.asp_core.specs.Boards.{Board, is_answer}
 use Rattle.asp_core.specs.Sorting.{answers_of}
 use Rattle.asp_core.specs.Events.{Guard, happens}
 use Rattle.asp_core.proofs.GrowthLaws.{Grows-happens}
@@ -30,20 +30,45 @@ use Rattle.asp_crew_laws.specs.Runs.{asks}
 use Rattle.asp_crew_laws.proofs.FoundLaws.{answers-same}
 use Rattle.asp_watermark.specs.Floors.{IsLow, is_below, listed}
 use Rattle.asp_watermark.proofs.BelowLaws.{all-below}
-use Rattle.asp_watermark.proofs.FloorLaws.{IsLow-first}
+use Rattle.asp_watermark.proofs.FloorLaws.{IsFloor-start, IsLow-first, IsLow-nothing}
 use Rattle.asp_backlog.specs.Backlogs.{Pending, with_waiting}
 use Rattle.asp_ledger.specs.Ledgers.{enumeration}
 use Rattle.asp_backlog.specs.Telling.{IsTold}
 use Rattle.asp_stream.specs.Streams.{Covers, HasHalves, IsFrontOf, IsPart, IsStream, MayRise, divided_by, leaves_of}
 use Rattle.asp_stream.specs.declared.part.Part.{Part}
 use Rattle.asp_stream.proofs.CoverLaws.{first-status, floor-at, has-later, length-split, parts-happen, status-other}
-use Rattle.asp_ledger.proofs.LedgerLaws.{board-enumerates, board-is, nothing-sought}
+use Rattle.asp_ledger.proofs.LedgerLaws.{board-enumerates, board-is, lists-all, no-limit, nothing-sought}
 use Rattle.asp_backlog.proofs.ToldLaws.{told-delivered, told-front, told-happens, told-raised}
 
 -- an enumeration lists the program's answers
 pub listed-are : (v : Booked) → v.task ≡ enumeration v.task.program v.task.budget → listed (board v).task ≡ answers v.task.program
 listed-are v task =
     ap listed (board-enumerates v task) ∙ all-below (answers_of (enumeration v.task.program v.task.budget)) ∙ answers-same v.task.program (asks Enum 0 false) v.task.budget
+
+-- nothing has happened
+pub stream-started : (p : Program) (budget : ℕ) (x : Part) → x.leaf ≡ 0 → x.low.set ≡ [] → IsRowOf (atoms_of p) x.low →
+    IsStream p (record { task = enumeration p budget; journal = [] }) 0 [] (record { atoms = atoms_of p; floor = []; sets = [] }) (x ∷ []) (leaves_of (x ∷ []))
+stream-started p budget x leaf set row = record {
+  program = refl;
+  counted = refl;
+  told = record { atoms = refl; floor = IsFloor-start (board v); heard_is = refl; waiting = refl };
+  parts_are = (
+    record {
+      within = subst (λ k. k < length (board v).nodes) (sym leaf) (omega arith);
+      low = subst (IsLow (board v) x.leaf) (sym set) (IsLow-nothing (board v) x.leaf);
+      row = row;
+    },
+    tt,
+  );
+  covers = here;
+}
+  where
+    v : Booked
+    v = record { task = enumeration p budget; journal = [] }
+
+    here : (m : ℕ) → is_unclosed (status_of (board v).nodes m) ≡ true → has (leaves_of (x ∷ [])) m ≡ true
+    here zero h = ap (λ y. y || false) (eq-eqb x.leaf 0 leaf)
+    here (suc m) h = absurd (false≢true h)
 
 -- an event that delivers nothing
 pub stream-happens : {count : ℕ} (p : Program) (v w : Booked) (heard : List Atoms) (q : Pending) (parts : List Part) (leaves after : List ℕ) (e : Event) →
@@ -58,6 +83,9 @@ stream-happens p v w heard q parts leaves after e is guard now answers covers =
       parts_are = subst (λ (c : Board). AllByRecursion (IsPart c) parts) (sym b) (parts-happen (board v) e parts guard is.parts_are);
       covers = covers;
     }
+
+pub deliver-guard : (v : Booked) (S : Atoms) → v.task ≡ enumeration v.task.program v.task.budget → is_answer v.task S ≡ true → Guard (board v) (event.Deliver 0 S)
+deliver-guard v S task answer = (lists-all v task S, ap (λ (t : Task). is_answer t S) (board-task v) ∙ answer, no-limit v task)
 
 -- a delivery
 pub stream-delivered : {count : ℕ} (p : Program) (v w : Booked) (S : Atoms) (heard : List Atoms) (q : Pending) (parts : List Part) (leaves : List ℕ) →
