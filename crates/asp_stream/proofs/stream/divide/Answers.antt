@@ -1,6 +1,4 @@
-use Rattle.std.proofs.Common.{◌≡◌, List, [], ◌∷◌, sym, subst}
-use Rattle.std.proofs.lemmas.Result.{on_ok_weaker}
-use Rattle.asp_model.specs.Sets.{Atoms}
+use Rattle.std.proofs.Common.{◌≡◌, [], ◌∷◌, sym, subst}
 use Rattle.asp_vars.specs.Literals.{complement}
 use Rattle.asp_vars.specs.Numbering.{IsVar, var_count}
 use Rattle.asp_core.specs.declared.task.Task.{Task}
@@ -23,8 +21,7 @@ release-requires g c =
 pub returns-clause-stream : goal.returns-clause-stream
 returns-clause-stream g c =
     let more : c.as_slice.result.now ≡ complement c.args.lit ∷ [] = cc in
-    on_ok_weaker c.push_halves.result
-    (λ halves heard is.
+    λ heard is.
     subst (λ (t : Stream). IsStreamOf t heard (leaves_of t.parts.items)) (sym c.push_halves.ensures.same)
     (stream-halved c.args.stream.now.compiled.now c.args.stream.now.ledger c.release.new.self c.args.search.now c.args.leaf c.args.lit c.in-Some.leaves c.in_ok-first.first
     c.in_ok-second.second c.as_slice.result.now c.args.stream.now.backlog c.args.stream.now.parts.items c.push_halves.new.stream.parts.items c.lawful.ensures.task
@@ -33,5 +30,4 @@ returns-clause-stream g c =
     (halves-are (board c.args.stream.now.ledger) c.in_ok-split.field-0 c.in-Some.leaves c.in_ok-split.ensures.leaves c.in-Some.is)
     (divided-now c.args.stream.now.ledger c.split.new.self c.release.new.self c.args.leaf c.args.lit c.in_ok-split.field-0 c.in-Some.leaves c.in_ok-split.ensures.leaves
     c.in_ok-split.ensures.journal c.in-Some.is c.in_ok-release-in-Some.ensures.ok)
-    halves heard is))
-    c.push_halves.ensures.parts
+    c.in_ok-push_halves-in-Some.ensures.parts heard is)
