@@ -81,12 +81,12 @@ pub left-finished : (u v : Booked) (s : Searching) (f : Units) → LeavesPart u 
 left-finished u v s f a covers = record { ready = a.ready; alone = a.alone; task = a.task; adds = a.adds; pool = a.pool; out = a.out; over = covers-none (board v) covers }
 
 -- the search's ends in asp_crew's words
-ends-closed : (v w : Booked) (leaf : ℕ) (s t : Searching) (g : Units) (n : Nogood) → w.task ≡ enumeration w.task.program w.task.budget →
+crew-closed : (v w : Booked) (leaf : ℕ) (s t : Searching) (g : Units) (n : Nogood) → w.task ≡ enumeration w.task.program w.task.budget →
     EndsLeaf v w leaf s t g (left.Closed n) → Ends Enum v w s t g (crew.Closed n)
-ends-closed v w leaf s t g n task is = record { ready = is.ready; only = is.only; over = (no-limit w task, is.over) }
+crew-closed v w leaf s t g n task is = record { ready = is.ready; only = is.only; over = (no-limit w task, is.over) }
 
-ends-unpaid : (v w : Booked) (leaf : ℕ) (s t : Searching) (g : Units) (x : Clash) → EndsLeaf v w leaf s t g (left.Unpaid x) → Ends Enum v w s t g (crew.Unpaid x)
-ends-unpaid v w leaf s t g x is = record { ready = is.ready; only = is.only; over = is.over }
+crew-unpaid : (v w : Booked) (leaf : ℕ) (s t : Searching) (g : Units) (x : Clash) → EndsLeaf v w leaf s t g (left.Unpaid x) → Ends Enum v w s t g (crew.Unpaid x)
+crew-unpaid v w leaf s t g x is = record { ready = is.ready; only = is.only; over = is.over }
 
 -- ---- a leaf that was held
 -- what is left of it, after it was taken
@@ -113,7 +113,7 @@ module _ (w x y : Booked) (leaf : ℕ) (s1 t : Searching) (g : Units) (q : List 
   pub after-closed : (n : Nogood) → EndsLeaf w x leaf s1 t g (left.Closed n) → y.task ≡ enumeration y.task.program y.task.budget →
       y ≡ with_events x (event.Close 0 leaf n.lits ∷ []) → LeavesHeld w y leaf t g None
   after-closed n ends task-y now =
-      let leaves : LeavesLeaf Enum w y leaf t g None = closes Enum w x y leaf q n s1 t g (ends-closed w x leaf s1 t g n task ends) held cube entered now in
+      let leaves : LeavesLeaf Enum w y leaf t g None = closes Enum w x y leaf q n s1 t g (crew-closed w x leaf s1 t g n task ends) held cube entered now in
       record {
         ready = leaves.ready;
         task = leaves.task;
@@ -127,7 +127,7 @@ module _ (w x y : Booked) (leaf : ℕ) (s1 t : Searching) (g : Units) (q : List 
 
   pub after-unpaid : (c : Clash) → EndsLeaf w x leaf s1 t g (left.Unpaid c) → y ≡ with_events x (event.Release 0 leaf ∷ []) → LeavesHeld w y leaf t g (Some (end.Unpaid c))
   after-unpaid c ends now =
-      let leaves : LeavesLeaf Enum w y leaf t g (Some c) = opens-unpaid Enum w x y leaf q s1 t g held cube entered now c (ends-unpaid w x leaf s1 t g c ends) in
+      let leaves : LeavesLeaf Enum w y leaf t g (Some c) = opens-unpaid Enum w x y leaf q s1 t g held cube entered now c (crew-unpaid w x leaf s1 t g c ends) in
       record {
         ready = leaves.ready;
         task = leaves.task;

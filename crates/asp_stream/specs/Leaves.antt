@@ -67,8 +67,10 @@ abbrev pub parts_left : Booked → List Part → ℕ
 parts_left v parts = (4194306 - length (board v).nodes) + length parts
 
 -- At the end what was told and what waits go with the board still; where leaves are left, each that isn't closed is a part's.
-abbrev pub IsStreamAtEnd : Stream → List Atoms → Type 0
-IsStreamAtEnd s heard = (s.ledger.task.program ≡ s.compiled.now) × IsTold (board s.ledger) heard s.backlog
+pub record IsStreamAtEnd (s : Stream) (heard : List Atoms) : Type 0 where
+  pub program : s.ledger.task.program ≡ s.compiled.now
+  pub told : IsTold (board s.ledger) heard s.backlog
+  pub counted : s.heard ≡ length heard
 
 abbrev pub IsStreamAfter : Stream → List Atoms → Option End → Type 0
 IsStreamAfter s heard None = IsStreamOf s heard (leaves_of s.parts.items)

@@ -1,5 +1,5 @@
 //! What was told, what waits and what is to be worked on.
-ghost use Rattle.std.specs.Prelude.{◌≡◌, ◌+◌, ◌∷◌, ◌<◌, ◌^◌, [], ℕ, List, length, Some, IfOk, IfSome, IsSome, IsTrue, OnOk};
+ghost use Rattle.std.specs.Prelude.{◌≡◌, ◌+◌, ◌∷◌, ◌<◌, ◌^◌, [], ℕ, List, false, length, Some, IfOk, IfSome, IsSome, IsTrue, OnOk};
 ghost use Rattle.std.specs.List.{AllByRecursion};
 ghost use Rattle.asp_model.specs.Models.{atoms_of};
 ghost use Rattle.asp_model.specs.Sets.{Atoms};
@@ -157,6 +157,7 @@ fn raise<R: Reader>(
     requires rises { MayRise stream.old.backlog.floor stream.old.parts.items low.set }
     ensures keeps { Keeps stream.old stream.new }
     ensures stream { IfOk result (λ wanted. IsStreamOf stream.new (R.heard reader.new) (leaf ∷ leaves_of stream.new.parts.items)) }
+    ensures unwanted { IfOk result (λ wanted. wanted ≡ false → R.wants reader.new ≡ false) }
     ensures front { IsFrontOf stream.old.compiled.now (R.program reader.new) (R.heard reader.new) }
     ensures after { R.IsAfter reader.old reader.new }
 {
@@ -180,6 +181,7 @@ pub(crate) fn tell<R: Reader>(
     requires row { IsRowOf (atoms_of stream.old.compiled.now) low }
     ensures keeps { Keeps stream.old stream.new }
     ensures stream { IfOk result (λ wanted. IsStreamOf stream.new (R.heard reader.new) (leaf ∷ leaves_of stream.new.parts.items)) }
+    ensures unwanted { IfOk result (λ wanted. wanted ≡ false → R.wants reader.new ≡ false) }
     ensures front { IsFrontOf stream.old.compiled.now (R.program reader.new) (R.heard reader.new) }
     ensures after { R.IsAfter reader.old reader.new }
 {
@@ -251,6 +253,7 @@ pub(crate) fn look<P: Propagator, R: Reader>(
     ensures keeps { Keeps stream.old stream.new }
     ensures stream { IfOk result (λ view. IsStreamOf stream.new (R.heard reader.new) (leaf ∷ leaves_of stream.new.parts.items)) }
     ensures view { IfOk result (IsCrowded stream.old.ledger leaf) }
+    ensures unwanted { IfOk result (λ view. view ≡ View.Unwanted → R.wants reader.new ≡ false) }
     ensures front { IsFrontOf stream.old.compiled.now (R.program reader.new) (R.heard reader.new) }
     ensures after { R.IsAfter reader.old reader.new }
 {
@@ -258,7 +261,7 @@ pub(crate) fn look<P: Propagator, R: Reader>(
     if !stream.pace.is_due(stream.backlog.len()) {
         return Ok(View::Open);
     }
-    let low = low(stream.alloc, stream.compiled, search, [].as_slice())?;
+    let low = low(stream.alloc, stream.compiled, search, &[])?;
     if !tell(stream, leaf, low, reader)? {
         return Ok(View::Unwanted);
     }
@@ -331,7 +334,7 @@ pub(crate) fn divide<P: Propagator>(
     ensures stream { OnOk result ((heard : List Atoms) → IsStreamOf stream.old heard (leaf ∷ leaves_of stream.old.parts.items) → IsStreamOf stream.new heard (leaves_of stream.new.parts.items)) }
 {
     stream.ledger.lawful();
-    let first = low(stream.alloc, stream.compiled, search, [].as_slice())?;
+    let first = low(stream.alloc, stream.compiled, search, &[])?;
     let more = [lit.complement()];
     let second = low(stream.alloc, stream.compiled, search, more.as_slice())?;
     match stream.ledger.split(leaf, lit)? {
