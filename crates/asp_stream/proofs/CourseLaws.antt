@@ -11,6 +11,7 @@ use Rattle.asp_vars.specs.Paid.{Clash, Units}
 use Rattle.asp_vars.specs.declared.nogood.Nogood.{Nogood}
 use Rattle.asp_path.specs.Trees.{Node, cube_of}
 use Rattle.asp_core.specs.declared.event.Event.TheVariants as event
+use Rattle.asp_core.specs.declared.task.Task.{Task}
 use Rattle.asp_core.specs.Boards.{known_by, known_of, showing_of}
 use Rattle.asp_core.specs.Invariant.{IsCube}
 use Rattle.asp_book.specs.Books.{Booked, board, with_events}
@@ -35,7 +36,7 @@ use Rattle.asp_stream.specs.declared.leaf.Left.TheVariants as left
 -- ---- an answer
 -- an event leaves the task
 pub enumerates-with : (v w : Booked) → v.task ≡ enumeration v.task.program v.task.budget → w.task ≡ v.task → w.task ≡ enumeration w.task.program w.task.budget
-enumerates-with v w task same = same ∙ task ∙ (λ k. enumeration (same (sym k)).program (same (sym k)).budget)
+enumerates-with v w task same = subst (λ (t : Task). t ≡ enumeration t.program t.budget) (sym same) task
 
 -- where all answers are sought nothing is taken over from the board
 known-none : (w : Booked) → w.task ≡ enumeration w.task.program w.task.budget → known_of (board w) ≡ None

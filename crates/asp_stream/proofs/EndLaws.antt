@@ -81,10 +81,7 @@ module _ (p : Program) (budget : ℕ) (v w y : Booked) (t : Searching) (g : Unit
 
   module _ (how : End) (left : LeavesPart v w t g (Some how)) where
     task-w : w.task ≡ enumeration w.task.program w.task.budget
-    task-w = left.task ∙ is.task ∙ (λ k. enumeration (same (sym k)).program (same (sym k)).budget)
-      where
-        same : w.task ≡ enumeration p budget
-        same = left.task ∙ is.task
+    task-w = subst (λ (x : Task). x ≡ enumeration x.program x.budget) (sym (left.task ∙ is.task)) refl
 
     budget-w : (board w).task.budget ≡ budget
     budget-w = ap (λ (x : Task). x.budget) (board-task w ∙ left.task ∙ is.task)
@@ -132,7 +129,7 @@ module _ (p : Program) (budget : ℕ) (v w y : Booked) (t : Searching) (g : Unit
         here false same = ap (λ (z : Booked). z.task) same
 
     enumerates-y : y.task ≡ enumeration y.task.program y.task.budget
-    enumerates-y = task-y ∙ task-w ∙ (λ k. enumeration (task-y (sym k)).program (task-y (sym k)).budget)
+    enumerates-y = subst (λ (x : Task). x ≡ enumeration x.program x.budget) (sym task-y) task-w
 
     -- the report's parts, where it is known how it ended
     told-report : (u : Told) (heard : List Atoms) (q : Pending) → u.end ≡ how → u.paid ≡ g → u.journal ≡ y.journal → u.leaves ≡ leaf_count (board y).nodes →

@@ -50,11 +50,11 @@ gathers-none P atoms = record { rising = tt; early = λ a h. absurd (false≢tru
 take-below : (atoms : List ℕ) (n b : ℕ) → IsAscending atoms → n < length atoms → has (take n atoms) b ≡ true → b < get_or atoms n 0
 take-below [] n b up lt h = absurd (omega (arith, lt))
 take-below (x ∷ atoms) zero b up lt h = absurd (false≢true h)
-take-below (x ∷ atoms) (suc n) b up lt h = here (or_cases (eqb x b) (has (take n atoms) b) h)
+take-below (x ∷ atoms) (suc n) b up lt h = here (take-below atoms n b up.1 (omega (arith, lt))) (or_cases (eqb x b) (has (take n atoms) b) h)
   where
-    here : ((eqb x b ≡ true) ⊎ (has (take n atoms) b ≡ true)) → b < get_or atoms n 0
-    here (inl e) = subst (λ k. k < get_or atoms n 0) (eqb-true x b e) (get_or-below x atoms n up.0 (omega (arith, lt)))
-    here (inr e) = take-below atoms n b up.1 (omega (arith, lt)) e
+    here : (has (take n atoms) b ≡ true → b < get_or atoms n 0) → ((eqb x b ≡ true) ⊎ (has (take n atoms) b ≡ true)) → b < get_or atoms n 0
+    here later (inl e) = subst (λ k. k < get_or atoms n 0) (eqb-true x b e) (get_or-below x atoms n up.0 (omega (arith, lt)))
+    here later (inr e) = later e
 
 each-below : (S : List ℕ) (a : ℕ) → ((b : ℕ) → has S b ≡ true → b < a) → IsAscending S → IsAscending (S ++ a ∷ [])
 each-below [] a below up = (tt, tt)
@@ -120,21 +120,21 @@ has-taken : (atoms : List ℕ) (n a : ℕ) → has (take n atoms) a ≡ true →
 has-taken [] zero a h = h
 has-taken [] (suc n) a h = h
 has-taken (x ∷ atoms) zero a h = absurd (false≢true h)
-has-taken (x ∷ atoms) (suc n) a h = here (or_cases (eqb x a) (has (take n atoms) a) h)
+has-taken (x ∷ atoms) (suc n) a h = here (has-taken atoms n a) (or_cases (eqb x a) (has (take n atoms) a) h)
   where
     or-true : (x : Bool) → (x || true) ≡ true
     or-true true = refl
     or-true false = refl
 
-    here : ((eqb x a ≡ true) ⊎ (has (take n atoms) a ≡ true)) → has (x ∷ atoms) a ≡ true
-    here (inl e) = ap (λ y. y || has atoms a) e
-    here (inr e) = ap (λ y. eqb x a || y) (has-taken atoms n a e) ∙ or-true (eqb x a)
+    here : (has (take n atoms) a ≡ true → has atoms a ≡ true) → ((eqb x a ≡ true) ⊎ (has (take n atoms) a ≡ true)) → has (x ∷ atoms) a ≡ true
+    here later (inl e) = ap (λ y. y || has atoms a) e
+    here later (inr e) = ap (λ y. eqb x a || y) (later e) ∙ or-true (eqb x a)
 
 pub gathers-among : (P : ℕ → Type 0) (atoms : List ℕ) (n : ℕ) (items : List ℕ) → Gathers P atoms n items → IsAmong atoms items
 gathers-among P atoms n items is = record { rising = is.rising; stand = λ a h. has-taken atoms n a (is.early a h) }
 
 -- ---- the atoms that are sure
-pub IsSureAtom : Searching → List Literal → ℕ → Type 0
+abbrev pub IsSureAtom : Searching → List Literal → ℕ → Type 0
 IsSureAtom s more a = (q : List Literal) (S : Atoms) → s.cube ≡ Some q → IsToCome s q more S → has S a ≡ true
 
 pub sure-atom : (s : Searching) (more : List Literal) (a v : ℕ) → has (atoms_of s.program) a ≡ true → v ≡ var_of_atom s.program a → IsSureVar s more v → IsSureAtom s more a

@@ -47,6 +47,18 @@ stream-front s p heard leaves task lawful same is = record {
   front = subst (λ (x : Program). IsPrefix heard (answers x)) is.program (front-of-told s.ledger heard s.backlog task lawful is.told);
 }
 
+-- the same streams, but for what waits
+pub leaves-same : (s t : Stream) (heard : List Atoms) (leaf : ℕ) → t.parts ≡ s.parts → IsStreamOf t heard (leaf ∷ leaves_of s.parts.items) →
+    IsStreamOf t heard (leaf ∷ leaves_of t.parts.items)
+leaves-same s t heard leaf same is =
+    let items : t.parts.items ≡ s.parts.items = λ k. (same k).items in
+    subst (λ (l : List Part). IsStreamOf t heard (leaf ∷ leaves_of l)) (sym items) is
+
+pub front-same : (s t : Stream) (q : Program) (heard : List Atoms) → t.compiled ≡ s.compiled → IsFrontOf t.compiled.now q heard → IsFrontOf s.compiled.now q heard
+front-same s t q heard same is =
+    let program : t.compiled.now ≡ s.compiled.now = λ k. (same k).now in
+    subst (λ (p : Program). IsFrontOf p q heard) program is
+
 -- ---- an event that delivers nothing
 module _ (s : Stream) (w : Booked) (heard : List Atoms) (leaves : List ℕ) (e : Event) (is : IsStreamOf s heard leaves) (guard : Guard (board s.ledger) e)
     (now : w ≡ with_events s.ledger (e ∷ [])) (none : (happens (board s.ledger) e).answers ≡ (board s.ledger).answers) where

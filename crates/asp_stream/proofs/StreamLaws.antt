@@ -46,10 +46,10 @@ listed-are v task =
     ap listed (board-enumerates v task) ∙ all-below (answers_of (enumeration v.task.program v.task.budget)) ∙ answers-same v.task.program (asks Enum 0 false) v.task.budget
 
 -- an event that delivers nothing
-pub stream-happens : (p : Program) (v w : Booked) (n : ℕ) (heard : List Atoms) (q : Pending) (parts : List Part) (leaves after : List ℕ) (e : Event) →
-    IsStream p v n heard q parts leaves → Guard (board v) e → w ≡ with_events v (e ∷ []) → (happens (board v) e).answers ≡ (board v).answers → Covers (board w) after →
-    IsStream p w n heard q parts after
-stream-happens p v w n heard q parts leaves after e is guard now answers covers =
+pub stream-happens : {count : ℕ} (p : Program) (v w : Booked) (heard : List Atoms) (q : Pending) (parts : List Part) (leaves after : List ℕ) (e : Event) →
+    IsStream p v count heard q parts leaves → Guard (board v) e → w ≡ with_events v (e ∷ []) → (happens (board v) e).answers ≡ (board v).answers → Covers (board w) after →
+    IsStream p w count heard q parts after
+stream-happens p v w heard q parts leaves after e is guard now answers covers =
     let b : board w ≡ happens (board v) e = ap board now ∙ board-with v e in
     record {
       program = ap (λ (z : Booked). z.task.program) now ∙ is.program;
@@ -60,11 +60,11 @@ stream-happens p v w n heard q parts leaves after e is guard now answers covers 
     }
 
 -- a delivery
-pub stream-delivered : (p : Program) (v w : Booked) (n : ℕ) (S : Atoms) (heard : List Atoms) (q : Pending) (parts : List Part) (leaves : List ℕ) →
+pub stream-delivered : {count : ℕ} (p : Program) (v w : Booked) (S : Atoms) (heard : List Atoms) (q : Pending) (parts : List Part) (leaves : List ℕ) →
     v.task ≡ enumeration v.task.program v.task.budget → IsJournalOf v.task v.journal → Guard (board v) (event.Deliver 0 S) →
-    w ≡ with_events v (event.Deliver 0 S ∷ []) → IsStream p v n heard q parts leaves →
-    IsStream p w n heard (record q { sets = with_waiting q.floor S q.sets }) parts leaves
-stream-delivered p v w n S heard q parts leaves task lawful guard now is =
+    w ≡ with_events v (event.Deliver 0 S ∷ []) → IsStream p v count heard q parts leaves →
+    IsStream p w count heard (record q { sets = with_waiting q.floor S q.sets }) parts leaves
+stream-delivered p v w S heard q parts leaves task lawful guard now is =
     let e : Event = event.Deliver 0 S in
     let b : board w ≡ happens (board v) e = ap board now ∙ board-with v e in
     record {
@@ -82,9 +82,9 @@ pub front-of-told : (v : Booked) (heard : List Atoms) (q : Pending) → v.task �
 front-of-told v heard q task lawful is =
     subst (IsPrefix heard) (listed-are v task) (told-front (board v) heard q (board-is v task lawful) (nothing-sought v task) is)
 
-pub front-of : (p r : Program) (v : Booked) (n : ℕ) (heard : List Atoms) (q : Pending) (parts : List Part) (leaves : List ℕ) →
-    v.task ≡ enumeration v.task.program v.task.budget → IsJournalOf v.task v.journal → r ≡ p → IsStream p v n heard q parts leaves → IsFrontOf p r heard
-front-of p r v n heard q parts leaves task lawful same is = record {
+pub front-of : {count : ℕ} (p r : Program) (v : Booked) (heard : List Atoms) (q : Pending) (parts : List Part) (leaves : List ℕ) →
+    v.task ≡ enumeration v.task.program v.task.budget → IsJournalOf v.task v.journal → r ≡ p → IsStream p v count heard q parts leaves → IsFrontOf p r heard
+front-of p r v heard q parts leaves task lawful same is = record {
   program = same;
   front = subst (λ (x : Program). IsPrefix heard (answers x)) is.program (front-of-told v heard q task lawful is.told);
 }
@@ -160,12 +160,12 @@ leaves-halves : (parts : List Part) (right left : Part) → leaves_of (parts ++ 
 leaves-halves [] right left = refl
 leaves-halves (p ∷ parts) right left = ap (λ (l : List ℕ). p.leaf ∷ l) (leaves-halves parts right left)
 
-pub stream-divided : (p : Program) (x : Booked) (count : ℕ) (leaf : ℕ) (l : Literal) (first second : Row) (heard : List Atoms) (q : Pending) (parts new : List Part) →
+pub stream-divided : {count : ℕ} (p : Program) (x : Booked) (leaf : ℕ) (l : Literal) (first second : Row) (heard : List Atoms) (q : Pending) (parts new : List Part) →
     IsStream p x count heard q parts (leaf ∷ leaves_of parts) → Guard (board x) (event.Split 0 leaf l) →
     IsLow (board x) leaf first.set → IsLow (happens (board x) (event.Split 0 leaf l)) (length (board x).nodes + 1) second.set →
     IsRowOf (atoms_of (board x).task.program) first → IsRowOf (atoms_of (board x).task.program) second →
     HasHalves (length (board x).nodes, length (board x).nodes + 1) first second parts new → IsStream p (divided_by x leaf l) count heard q new (leaves_of new)
-stream-divided p x count leaf l first second heard q parts new is guard low low2 row row2 halves = record {
+stream-divided p x leaf l first second heard q parts new is guard low low2 row row2 halves = record {
   program = is.program;
   counted = is.counted;
   told = subst (λ (c : Board). IsTold c heard q) (sym b2) (told-happens b1 e2 heard q guard2 refl refl (told-happens (board x) e1 heard q guard refl refl is.told));

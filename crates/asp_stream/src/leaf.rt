@@ -86,7 +86,9 @@ fn advance<P: Propagator>(
 {
     stream.ledger.lawful();
     match step(search, fuel, counts)? {
-        Step::Decided | Step::Learnt | Step::Restarted => Ok(Course::Open),
+        Step::Decided => Ok(Course::Open),
+        Step::Learnt => Ok(Course::Open),
+        Step::Restarted => Ok(Course::Open),
         Step::Answer(set) => {
             stream.deliver(&set)?;
             Ok(Course::Open)
