@@ -28,14 +28,16 @@ use Rattle.asp_crew.specs.declared.leaf.Left.TheVariants as crew
 use Rattle.asp_crew.specs.Running.{Ends, IsAlone, IsReady, LeavesLeaf, OnlyRecords, status_after}
 use Rattle.asp_crew.proofs.AddLaws.{adds-events, adds-self, adds-trans}
 use Rattle.asp_crew.proofs.BookLaws.{board-task, board-with, ready-with}
-use Rattle.asp_crew.proofs.FinishLaws.{IsTaken, alone-after, closes, free-now, opens-unpaid}
+use Rattle.asp_crew.proofs.FinishLaws.{IsTaken, alone-after, closes, closing-within, free-now, opens-unpaid}
 use Rattle.asp_crew.proofs.TreeLaws.{status-set}
 use Rattle.asp_ledger.specs.Ledgers.{enumeration}
 use Rattle.asp_stream.specs.Leaves.{EndsLeaf, LeavesHeld, LeavesPart}
-use Rattle.asp_stream.specs.Streams.{Covers, divided_by}
+use Rattle.asp_stream.specs.Streams.{Covers, Knows, divided_by}
+use Rattle.asp_stream.specs.declared.leaf.Left.{Left}
 use Rattle.asp_stream.specs.declared.leaf.Left.TheVariants as left
 use Rattle.asp_stream.specs.declared.told.End.{End}
 use Rattle.asp_stream.specs.declared.told.End.TheVariants as end
+use Rattle.asp_stream.proofs.CourseLaws.{enumerates-with}
 use Rattle.asp_stream.proofs.CoverLaws.{covers-none, first-status, length-split}
 use Rattle.asp_ledger.proofs.LedgerLaws.{no-limit}
 
@@ -61,6 +63,10 @@ taken-is v w leaf s f is alone open_leaf now =
       out = ap (λ (c : Board). c.out) b;
       pool = ap (λ (c : Board). c.pool) b;
     }
+
+-- nothing was recorded
+pub only-same : (v w : Booked) → w ≡ v → OnlyRecords v w
+only-same v w same = subst (OnlyRecords v) (sym same) (record { task = refl; adds = adds-self v; nodes = refl; out = refl; pool = refl })
 
 -- ---- parts in a row
 pub left-self : (v : Booked) (s : Searching) (f : Units) → IsReady Enum v s f → IsAlone (board v) → LeavesPart v v s f None
@@ -107,26 +113,48 @@ one-less : (b c : Board) (leaf : ℕ) (new : Status) → status_of b.nodes leaf 
 one-less b c leaf new held nodes free =
     omega (arith, ap held_count nodes, held_count-changed b.nodes leaf (status.Held 0) new held refl, ap (λ x. let k : ℕ = cond x 1 0 in k) free)
 
--- w: the leaf is held; x: it was searched; y: at the end
-module _ (w x y : Booked) (leaf : ℕ) (s1 t : Searching) (g : Units) (q : List Literal) (held : status_of (board w).nodes leaf ≡ status.Held 0)
-    (task : x.task ≡ enumeration x.task.program x.task.budget) (cube : q ≡ cube_of (board w).nodes leaf) (entered : s1.cube ≡ Some q) where
-  pub after-closed : (n : Nogood) → EndsLeaf w x leaf s1 t g (left.Closed n) → y.task ≡ enumeration y.task.program y.task.budget →
-      y ≡ with_events x (event.Close 0 leaf n.lits ∷ []) → LeavesHeld w y leaf t g None
-  after-closed n ends task-y now =
-      let leaves : LeavesLeaf Enum w y leaf t g None = closes Enum w x y leaf q n s1 t g (crew-closed w x leaf s1 t g n task ends) held cube entered now in
-      record {
-        ready = leaves.ready;
-        task = leaves.task;
-        adds = leaves.adds;
-        pool = leaves.pool;
-        out = leaves.out;
-        free = one-less (board w) (board y) leaf status.Closed held
-            (leaves.nodes ∙ ap (λ z. with_status (board w).nodes leaf (status_after None z)) (no-limit y task-y)) refl;
-        over = tt;
-      }
+-- w: the leaf is held; x: it was searched
+module _ (w x : Booked) (leaf : ℕ) (s1 t : Searching) (g : Units) (q : List Literal) (held : status_of (board w).nodes leaf ≡ status.Held 0)
+    (cube : q ≡ cube_of (board w).nodes leaf) (entered : s1.cube ≡ Some q) where
+  pub still-held : (how : Left) → EndsLeaf w x leaf s1 t g how → status_of (board x).nodes leaf ≡ status.Held 0
+  still-held how ends = ap (λ (ns : List Node). status_of ns leaf) ends.only.nodes ∙ held
 
-  pub after-unpaid : (c : Clash) → EndsLeaf w x leaf s1 t g (left.Unpaid c) → y ≡ with_events x (event.Release 0 leaf ∷ []) → LeavesHeld w y leaf t g (Some (end.Unpaid c))
-  after-unpaid c ends now =
+  -- the path is the leaf's still
+  pub still-there : (how : Left) → EndsLeaf w x leaf s1 t g how → Knows x t leaf
+  still-there how ends = record {
+    program = ends.ready.program;
+    mode = ends.ready.mode_is;
+    agrees = ends.ready.work.agrees;
+    cube = ends.cube ∙ entered ∙ ap (λ (k : List Literal). Some k) cube ∙ ap (λ (ns : List Node). Some (cube_of ns leaf)) (sym ends.only.nodes);
+  }
+
+  module _ (task : w.task ≡ enumeration w.task.program w.task.budget) where
+    pub close-guard : (n : Nogood) → EndsLeaf w x leaf s1 t g (left.Closed n) → Guard (board x) (event.Close 0 leaf n.lits)
+    close-guard n ends = (
+      still-held (left.Closed n) ends,
+      closing-within Enum w x leaf q n s1 t g (crew-closed w x leaf s1 t g n (enumerates-with w x task ends.only.task) ends) cube entered,
+      (ends.over q entered).1,
+    )
+
+    -- y: at the end
+    pub after-closed : (y : Booked) (n : Nogood) → EndsLeaf w x leaf s1 t g (left.Closed n) → y ≡ with_events x (event.Close 0 leaf n.lits ∷ []) → LeavesHeld w y leaf t g None
+    after-closed y n ends now =
+        let task-x : x.task ≡ enumeration x.task.program x.task.budget = enumerates-with w x task ends.only.task in
+        let task-y : y.task ≡ enumeration y.task.program y.task.budget = enumerates-with x y task-x (ap (λ (z : Booked). z.task) now) in
+        let leaves : LeavesLeaf Enum w y leaf t g None = closes Enum w x y leaf q n s1 t g (crew-closed w x leaf s1 t g n task-x ends) held cube entered now in
+        record {
+          ready = leaves.ready;
+          task = leaves.task;
+          adds = leaves.adds;
+          pool = leaves.pool;
+          out = leaves.out;
+          free = one-less (board w) (board y) leaf status.Closed held
+              (leaves.nodes ∙ ap (λ z. with_status (board w).nodes leaf (status_after None z)) (no-limit y task-y)) refl;
+          over = tt;
+        }
+
+  pub after-unpaid : (y : Booked) (c : Clash) → EndsLeaf w x leaf s1 t g (left.Unpaid c) → y ≡ with_events x (event.Release 0 leaf ∷ []) → LeavesHeld w y leaf t g (Some (end.Unpaid c))
+  after-unpaid y c ends now =
       let leaves : LeavesLeaf Enum w y leaf t g (Some c) = opens-unpaid Enum w x y leaf q s1 t g held cube entered now c (crew-unpaid w x leaf s1 t g c ends) in
       record {
         ready = leaves.ready;

@@ -59,6 +59,11 @@ front-same s t q heard same is =
     let program : t.compiled.now ≡ s.compiled.now = λ k. (same k).now in
     subst (λ (p : Program). IsFrontOf p q heard) program is
 
+pub program-same : (s t : Stream) (q : Program) → t.compiled ≡ s.compiled → q ≡ s.compiled.now → q ≡ t.compiled.now
+program-same s t q same is =
+    let program : t.compiled.now ≡ s.compiled.now = λ k. (same k).now in
+    is ∙ sym program
+
 -- ---- an event that delivers nothing
 module _ (s : Stream) (w : Booked) (heard : List Atoms) (leaves : List ℕ) (e : Event) (is : IsStreamOf s heard leaves) (guard : Guard (board s.ledger) e)
     (now : w ≡ with_events s.ledger (e ∷ [])) (none : (happens (board s.ledger) e).answers ≡ (board s.ledger).answers) where
@@ -146,13 +151,31 @@ same-length v w leaf new nodes = ap length nodes ∙ length-set (board v).nodes 
 pub parts-same : (v w : Booked) (old new : List Part) → length (board w).nodes ≡ length (board v).nodes → length new ≡ length old → parts_left w new < 1 + parts_left v old
 parts-same v w old new nodes parts = omega (arith, nodes, parts)
 
--- two nodes more, and two parts
-pub parts-split : (v w : Booked) (old new : List Part) → length (board v).nodes < 4194304 → length (board w).nodes ≡ length (board v).nodes + 2 → length new ≡ length old + 2 →
-    parts_left w new < 1 + parts_left v old
-parts-split v w old new room nodes parts = omega (arith, room, nodes, parts)
-
-pub length-taken : (v w : Booked) (leaf : ℕ) → w ≡ with_events v (taken_this 0 leaf true) → length (board w).nodes ≡ length (board v).nodes
+length-taken : (v w : Booked) (leaf : ℕ) → w ≡ with_events v (taken_this 0 leaf true) → length (board w).nodes ≡ length (board v).nodes
 length-taken v w leaf now = same-length v w leaf (status.Held 0) (with-status v w leaf (status.Held 0) (event.Take 0 leaf) now refl)
 
-pub length-closed : (v w : Booked) (leaf : ℕ) (n : List Literal) → w ≡ with_events v (event.Close 0 leaf n ∷ []) → length (board w).nodes ≡ length (board v).nodes
+length-closed : (v w : Booked) (leaf : ℕ) (n : List Literal) → w ≡ with_events v (event.Close 0 leaf n ∷ []) → length (board w).nodes ≡ length (board v).nodes
 length-closed v w leaf n now = same-length v w leaf status.Closed (with-status v w leaf status.Closed (event.Close 0 leaf n) now refl)
+
+-- from v to x no node was made, and then y is made of x
+pub less-closed : (v x y : Booked) (leaf : ℕ) (n : List Literal) (old parts : List Part) → length (board x).nodes ≡ length (board v).nodes → length parts ≡ length old →
+    y ≡ with_events x (event.Close 0 leaf n ∷ []) → parts_left y parts < 1 + parts_left v old
+less-closed v x y leaf n old parts nodes same now = parts-same v y old parts (length-closed x y leaf n now ∙ nodes) same
+
+pub less-divided : (v x y : Booked) (old parts new : List Part) → length (board x).nodes ≡ length (board v).nodes → length parts ≡ length old → length (board x).nodes < 4194304 →
+    length (board y).nodes ≡ length (board x).nodes + 2 → length new ≡ length parts + 2 → parts_left y new < 1 + parts_left v old
+less-divided v x y old parts new nodes same room longer more = omega (arith, nodes, same, room, longer, more)
+
+-- the same parts
+pub same-count : (s t : Stream) → t.parts ≡ s.parts → length t.parts.items ≡ length s.parts.items
+same-count s t same = λ k. length (same k).items
+
+-- the leaf isn't taken
+pub less-untaken : (v w : Booked) (parts : List Part) → w ≡ v → parts_left w parts < 1 + parts_left v parts
+less-untaken v w parts same = parts-same v w parts parts (ap (λ (z : Booked). length (board z).nodes) same) refl
+
+-- or it is, into w, and then told of
+pub less-taken : (v w x y : Booked) (leaf : ℕ) (old parts new : List Part) → w ≡ with_events v (taken_this 0 leaf true) → x ≡ w → length parts ≡ length old →
+    parts_left y new < 1 + parts_left x parts → parts_left y new < 1 + parts_left v old
+less-taken v w x y leaf old parts new now told same less =
+    omega (arith, less, ap (λ (z : Booked). length (board z).nodes) told, length-taken v w leaf now, same)

@@ -1,0 +1,123 @@
+use Rattle.std.proofs.Common.{None, Some, refl, sym, ap, ◌∙◌, subst}
+use Rattle.std.proofs.lemmas.Result.{IfOk-weaker}
+use Rattle.asp_model.specs.declared.results.Mode.TheVariants.{Enum}
+use Rattle.asp_path.specs.Trees.{status_of}
+use Rattle.asp_book.specs.Books.{Booked, board}
+use Rattle.asp_crew.specs.Running.{IsReady}
+use Rattle.asp_crew.proofs.FinishLaws.{IsTaken, free-now, held-taken}
+use Rattle.asp_stream.specs.Leaves.{LeavesHeld, LeavesPart}
+use Rattle.asp_stream.specs.declared.told.End.TheVariants as end
+use Rattle.asp_stream.proofs.LeafLaws.{after-unwanted, held-left, left-self, only-same, taken-is}
+use Rattle.asp_stream.proofs.PartLaws.{front-same, less-taken, less-untaken, part-row, part-taken, program-same, same-count, stream-front, stream-opened, stream-taken, stream-untaken, untaken}
+use Rattle.asp_stream.proofs.leaf.work_off.Goals as goal
+
+-- ---- the leaf is taken
+pub take-requires : goal.take-requires
+take-requires g c = free-now (board c.args.stream.now.ledger) c.requires.alone
+
+pub returns-in_err-take-clause-front : goal.returns-in_err-take-clause-front
+returns-in_err-take-clause-front g c = stream-front c.args.stream.now _ _ _ c.lawful.ensures.task c.lawful.ensures.journal c.requires.program c.requires.stream
+
+pub returns-in_err-take-clause-after : goal.returns-in_err-take-clause-after
+returns-in_err-take-clause-after g c = g.met.R.Reader.begins c.args.reader.now
+
+pub returns-in_err-take-clause-heard : goal.returns-in_err-take-clause-heard
+returns-in_err-take-clause-heard g c = g.met.W.Watch.begins c.args.watch.now
+
+-- ---- it isn't open
+pub returns-then-take-clause-leaves : goal.returns-then-take-clause-leaves
+returns-then-take-clause-leaves g c =
+    subst (λ (w : Booked). LeavesPart c.args.stream.now.ledger w c.args.search.now c.args.fuel.now None) (sym (untaken c.args.stream.now.ledger c.take.new.self c.args.part.leaf _ c.in_ok-take.ensures.journal ?))
+    (left-self c.args.stream.now.ledger c.args.search.now c.args.fuel.now c.requires.ready c.requires.alone)
+
+pub returns-then-take-clause-less : goal.returns-then-take-clause-less
+returns-then-take-clause-less g c = λ none. less-untaken c.args.stream.now.ledger c.take.new.self c.args.stream.now.parts.items (untaken c.args.stream.now.ledger c.take.new.self c.args.part.leaf _ c.in_ok-take.ensures.journal ?)
+
+pub returns-then-take-clause-stream : goal.returns-then-take-clause-stream
+returns-then-take-clause-stream g c =
+    stream-untaken c.args.stream.now c.take.new.self _ c.args.part.leaf _ c.requires.stream c.requires.alone ? (untaken c.args.stream.now.ledger c.take.new.self c.args.part.leaf _ c.in_ok-take.ensures.journal ?)
+
+pub returns-then-take-clause-front : goal.returns-then-take-clause-front
+returns-then-take-clause-front g c = stream-front c.args.stream.now _ _ _ c.lawful.ensures.task c.lawful.ensures.journal c.requires.program c.requires.stream
+
+pub returns-then-take-clause-after : goal.returns-then-take-clause-after
+returns-then-take-clause-after g c = g.met.R.Reader.begins c.args.reader.now
+
+pub returns-then-take-clause-heard : goal.returns-then-take-clause-heard
+returns-then-take-clause-heard g c = g.met.W.Watch.begins c.args.watch.now
+
+-- ---- what is told before it is searched
+pub tell-requires : goal.tell-requires
+tell-requires g c = record {
+  stream = stream-taken c.args.stream.now c.take.new.self _ c.args.part.leaf _ c.requires.stream c.requires.alone ? ?;
+  program = c.requires.program;
+  low = (part-taken c.args.stream.now c.take.new.self _ c.args.part _ c.requires.stream c.requires.alone ? ? c.requires.part).low;
+  row = part-row c.args.stream.now _ _ (board c.args.stream.now.ledger) c.args.part c.requires.stream refl c.requires.part;
+}
+
+-- ---- no more is wanted
+pub release-requires : goal.release-requires
+release-requires g c =
+    ap (λ (z : Booked). status_of (board z).nodes c.args.part.leaf) c.tell.ensures.keeps.ledger ∙ held-taken Enum c.args.stream.now.ledger c.take.new.self c.args.part.leaf c.args.search.now c.args.fuel.now
+    (taken-is c.args.stream.now.ledger c.take.new.self c.args.part.leaf c.args.search.now c.args.fuel.now c.requires.ready c.requires.alone ? ?)
+
+pub returns-in_ok-release-then-tell-clause-leaves : goal.returns-in_ok-release-then-tell-clause-leaves
+returns-in_ok-release-then-tell-clause-leaves g c =
+    let taken : IsTaken Enum c.args.stream.now.ledger c.take.new.self c.args.part.leaf c.args.search.now c.args.fuel.now =
+    (taken-is c.args.stream.now.ledger c.take.new.self c.args.part.leaf c.args.search.now c.args.fuel.now c.requires.ready c.requires.alone ? ?) in
+    held-left c.args.stream.now.ledger c.take.new.self c.release.new.self c.args.part.leaf c.args.search.now c.args.search.now c.args.fuel.now c.args.fuel.now (Some end.Unwanted) c.requires.alone taken
+    (after-unwanted c.take.new.self c.tell.new.stream.ledger c.release.new.self c.args.part.leaf c.args.search.now c.args.fuel.now (held-taken Enum c.args.stream.now.ledger c.take.new.self c.args.part.leaf c.args.search.now c.args.fuel.now taken)
+    (subst (λ (z : Booked). IsReady Enum z c.args.search.now c.args.fuel.now) (sym c.tell.ensures.keeps.ledger) taken.ready)
+    (only-same c.take.new.self c.tell.new.stream.ledger c.tell.ensures.keeps.ledger) c.in_ok-release-then-tell.ensures.ok)
+
+pub returns-in_ok-release-then-tell-clause-stream : goal.returns-in_ok-release-then-tell-clause-stream
+returns-in_ok-release-then-tell-clause-stream g c =
+    stream-opened c.tell.new.stream c.release.new.self _ c.args.part.leaf _ c.in_ok-tell.ensures.stream
+    (ap (λ (z : Booked). status_of (board z).nodes c.args.part.leaf) c.tell.ensures.keeps.ledger ∙ held-taken Enum c.args.stream.now.ledger c.take.new.self c.args.part.leaf c.args.search.now c.args.fuel.now
+    (taken-is c.args.stream.now.ledger c.take.new.self c.args.part.leaf c.args.search.now c.args.fuel.now c.requires.ready c.requires.alone ? ?)) c.in_ok-release-then-tell.ensures.ok
+
+pub returns-in_ok-release-then-tell-clause-unwanted : goal.returns-in_ok-release-then-tell-clause-unwanted
+returns-in_ok-release-then-tell-clause-unwanted g c = λ same. c.in_ok-tell.ensures.unwanted ?
+
+pub returns-in_ok-release-then-tell-clause-heard : goal.returns-in_ok-release-then-tell-clause-heard
+returns-in_ok-release-then-tell-clause-heard g c = g.met.W.Watch.begins c.args.watch.now
+
+pub returns-in_err-release-then-tell-clause-heard : goal.returns-in_err-release-then-tell-clause-heard
+returns-in_err-release-then-tell-clause-heard g c = g.met.W.Watch.begins c.args.watch.now
+
+pub returns-in_err-tell-clause-heard : goal.returns-in_err-tell-clause-heard
+returns-in_err-tell-clause-heard g c = g.met.W.Watch.begins c.args.watch.now
+
+-- ---- it is searched
+pub search_leaf-requires : goal.search_leaf-requires
+search_leaf-requires g c =
+    let taken : IsTaken Enum c.args.stream.now.ledger c.take.new.self c.args.part.leaf c.args.search.now c.args.fuel.now =
+    (taken-is c.args.stream.now.ledger c.take.new.self c.args.part.leaf c.args.search.now c.args.fuel.now c.requires.ready c.requires.alone ? ?) in
+    record {
+      ready = subst (λ (z : Booked). IsReady Enum z c.args.search.now c.args.fuel.now) (sym c.tell.ensures.keeps.ledger) taken.ready;
+      held = ap (λ (z : Booked). status_of (board z).nodes c.args.part.leaf) c.tell.ensures.keeps.ledger ∙ held-taken Enum c.args.stream.now.ledger c.take.new.self c.args.part.leaf c.args.search.now c.args.fuel.now taken;
+      stream = c.in_ok-tell.ensures.stream;
+      program = program-same c.args.stream.now c.tell.new.stream _ c.tell.ensures.keeps.compiled c.tell.ensures.front.program;
+    }
+
+pub returns-clause-leaves : goal.returns-clause-leaves
+returns-clause-leaves g c =
+    let y = c.search_leaf.new.stream.ledger in
+    let t = c.search_leaf.new.search in
+    let f = c.search_leaf.new.fuel in
+    IfOk-weaker c.search_leaf.result (LeavesHeld c.tell.new.stream.ledger y c.args.part.leaf t f) (LeavesPart c.args.stream.now.ledger y t f)
+    (λ how left. held-left c.args.stream.now.ledger c.take.new.self y c.args.part.leaf c.args.search.now t c.args.fuel.now f how c.requires.alone
+    (taken-is c.args.stream.now.ledger c.take.new.self c.args.part.leaf c.args.search.now c.args.fuel.now c.requires.ready c.requires.alone ? ?)
+    (subst (λ (z : Booked). LeavesHeld z y c.args.part.leaf t f how) c.tell.ensures.keeps.ledger left)) c.search_leaf.ensures.leaves
+
+pub returns-clause-less : goal.returns-clause-less
+returns-clause-less g c =
+    IfOk-weaker c.search_leaf.result _ _
+    (λ how less none. less-taken c.args.stream.now.ledger c.take.new.self c.tell.new.stream.ledger c.search_leaf.new.stream.ledger c.args.part.leaf c.args.stream.now.parts.items c.tell.new.stream.parts.items c.search_leaf.new.stream.parts.items
+    ? c.tell.ensures.keeps.ledger (same-count c.args.stream.now c.tell.new.stream c.tell.ensures.keeps.parts) (less none)) c.search_leaf.ensures.less
+
+pub returns-clause-front : goal.returns-clause-front
+returns-clause-front g c = front-same c.args.stream.now c.tell.new.stream _ _ c.tell.ensures.keeps.compiled c.search_leaf.ensures.front
+
+pub returns-clause-after : goal.returns-clause-after
+returns-clause-after g c = g.met.R.Reader.goes_on c.args.reader.now c.tell.new.reader c.search_leaf.new.reader c.tell.ensures.after c.search_leaf.ensures.after
