@@ -11,9 +11,9 @@ ghost use Rattle.asp_path.specs.Trees.{cube_of, status_of};
 ghost use Rattle.asp_core.specs.Invariant.{IsCube};
 ghost use Rattle.asp_book.specs.Books.{board};
 ghost use Rattle.asp_search_laws.specs.Steps.{IsStep};
-ghost use Rattle.asp_crew.specs.Running.{Goes, IsAlone, IsReady, IsUnderway};
+ghost use Rattle.asp_crew.specs.Running.{IsAlone, IsReady, IsUnderway};
 ghost use Rattle.asp_stream.specs.Streams.{IsFrontOf, IsPart, IsStreamOf, leaves_of};
-ghost use Rattle.asp_stream.specs.Leaves.{EndsLeaf, IsStreamAfter, LeavesHeld, LeavesPart, course_of, parts_left};
+ghost use Rattle.asp_stream.specs.Leaves.{EndsLeaf, GoesOn, IsStreamAfter, LeavesHeld, LeavesPart, parts_left};
 
 use crate::part::Part;
 use crate::stream::{Stream, View, divide, look, tell};
@@ -80,7 +80,7 @@ fn advance<P: Propagator>(
     requires underway { IsUnderway Enum stream.old.ledger search.old fuel.old }
     requires program { stream.old.ledger.task.program ≡ stream.old.compiled.now }
     requires atoms { stream.old.backlog.atoms ≡ atoms_of stream.old.compiled.now }
-    ensures goes { IfOk result (λ c. Goes Enum stream.old.ledger stream.new.ledger search.old search.new fuel.old fuel.new (course_of c)) }
+    ensures goes { IfOk result (GoesOn stream.old.ledger stream.new.ledger search.old search.new fuel.old fuel.new) }
     ensures stream { IfOk result (λ c. (heard : List Atoms) (leaves : List ℕ) → IsStreamOf stream.old heard leaves → IsStreamOf stream.new heard leaves) }
     ensures same { (stream.new.compiled ≡ stream.old.compiled) × (stream.new.parts ≡ stream.old.parts) }
 {

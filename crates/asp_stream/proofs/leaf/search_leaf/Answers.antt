@@ -44,14 +44,14 @@ pub close-requires : goal.close-requires
 close-requires g c =
     let guard =
     close-guard c.args.stream.now.ledger c.run.new.stream.ledger c.args.leaf c.enter.new.self c.run.new.search c.run.new.fuel c.as_slice.result.now c.requires.held
-    (c.as_slice.ensures.value ∙ c.in_ok-cube.ensures.value) (cube-entered c.args.search.now c.enter.new.self c.as_slice.result.now c.in_ok-enter.ensures.ok) c.lawful.ensures.task c.in-Closed.nogood
+    (c.as_slice.ensures.value ∙ c.in_ok-cube.ensures.value) (cube-entered c.args.search.now c.enter.new.self c.as_slice.result.now c.in_ok-enter.ensures.ok) c.in-Closed.nogood
     (subst (λ (o : Left). EndsLeaf c.args.stream.now.ledger c.run.new.stream.ledger c.args.leaf c.enter.new.self c.run.new.search c.run.new.fuel o) c.in-Closed.is c.in_ok-nogood.ensures.ends) in
     record { held = guard.0; within = guard.1; settled = guard.2 }
 
 pub returns-in_ok-close-in-Closed-clause-leaves : goal.returns-in_ok-close-in-Closed-clause-leaves
 returns-in_ok-close-in-Closed-clause-leaves g c =
     after-closed c.args.stream.now.ledger c.run.new.stream.ledger c.args.leaf c.enter.new.self c.run.new.search c.run.new.fuel c.as_slice.result.now c.requires.held
-    (c.as_slice.ensures.value ∙ c.in_ok-cube.ensures.value) (cube-entered c.args.search.now c.enter.new.self c.as_slice.result.now c.in_ok-enter.ensures.ok) c.lawful.ensures.task c.close.new.self c.in-Closed.nogood
+    (c.as_slice.ensures.value ∙ c.in_ok-cube.ensures.value) (cube-entered c.args.search.now c.enter.new.self c.as_slice.result.now c.in_ok-enter.ensures.ok) c.close.new.self c.in-Closed.nogood
     (subst (λ (o : Left). EndsLeaf c.args.stream.now.ledger c.run.new.stream.ledger c.args.leaf c.enter.new.self c.run.new.search c.run.new.fuel o) c.in-Closed.is c.in_ok-nogood.ensures.ends) c.in_ok-close-in-Closed.ensures.ok
 
 pub returns-in_ok-close-in-Closed-clause-less : goal.returns-in_ok-close-in-Closed-clause-less
@@ -63,7 +63,7 @@ pub returns-in_ok-close-in-Closed-clause-stream : goal.returns-in_ok-close-in-Cl
 returns-in_ok-close-in-Closed-clause-stream g c =
     stream-closed c.run.new.stream c.close.new.self _ c.args.leaf c.in-Closed.nogood.lits _ c.in_ok-nogood.ensures.stream
     (close-guard c.args.stream.now.ledger c.run.new.stream.ledger c.args.leaf c.enter.new.self c.run.new.search c.run.new.fuel c.as_slice.result.now c.requires.held
-    (c.as_slice.ensures.value ∙ c.in_ok-cube.ensures.value) (cube-entered c.args.search.now c.enter.new.self c.as_slice.result.now c.in_ok-enter.ensures.ok) c.lawful.ensures.task c.in-Closed.nogood
+    (c.as_slice.ensures.value ∙ c.in_ok-cube.ensures.value) (cube-entered c.args.search.now c.enter.new.self c.as_slice.result.now c.in_ok-enter.ensures.ok) c.in-Closed.nogood
     (subst (λ (o : Left). EndsLeaf c.args.stream.now.ledger c.run.new.stream.ledger c.args.leaf c.enter.new.self c.run.new.search c.run.new.fuel o) c.in-Closed.is c.in_ok-nogood.ensures.ends)) c.in_ok-close-in-Closed.ensures.ok
 
 -- ---- too many answers wait
