@@ -206,3 +206,19 @@ telling p budget w y g how over u heard q wants lawful_w lawful_y now program to
           u heard q wants ended paid journal leaves rest told no);
       few = few;
     }
+
+-- ---- from the beginning on
+pub run-over : (p : Program) (budget : ℕ) (v w x : Booked) (f g : Units) (t : Searching) (how : End) → budget < 2 ^ 64 → v ≡ start_of p budget → f ≡ all_units p budget →
+    w ≡ with_events v (leased_out 0 f) → LeavesPart w x t g (Some how) → IsOver p budget x g how
+run-over p budget v w x f g t how small start units now left = record {
+  small = small;
+  search = t;
+  left = subst (λ (z : Booked). LeavesPart z x t g (Some how))
+      (now ∙ ap (λ (z : Booked). with_events z (leased_out 0 f)) start ∙ ap (λ (u : Units). with_events (start_of p budget) (leased_out 0 u)) units) left;
+}
+
+-- by another word for the program
+pub telling-by : (p q : Program) (budget : ℕ) (x : Booked) (g : Units) (how : End) (heard : List Atoms) (wants : Bool) (u : Told) → q ≡ p → IsOver p budget x g how →
+    (IsOver q budget x g how → IsTellingOf q budget heard wants u) → IsTellingOf p budget heard wants u
+telling-by p q budget x g how heard wants u same over tell =
+    subst (λ (z : Program). IsTellingOf z budget heard wants u) same (tell (subst (λ (z : Program). IsOver z budget x g how) (sym same) over))

@@ -27,7 +27,7 @@ use Rattle.asp_stream.proofs.PartLaws.{stream-with}
 pub lease-fits : (p : Program) (budget : ℕ) (s : Stream) (f : Units) → IsStart p budget s → f ≡ all_units p budget → f.left ≤ (board s.ledger).pool
 lease-fits p budget s f is units = omega (arith, ap (λ (u : Units). u.left) units, ap (λ (v : Booked). (board v).pool) is.ledger)
 
-pub stream-leased : (p : Program) (budget : ℕ) (s : Stream) (w : Booked) (f : Units) → IsStart p budget s → f ≡ all_units p budget → w ≡ with_events s.ledger (leased_out 0 f) →
+stream-leased : (p : Program) (budget : ℕ) (s : Stream) (w : Booked) (f : Units) → IsStart p budget s → f ≡ all_units p budget → w ≡ with_events s.ledger (leased_out 0 f) →
     IsStreamOf (record s { ledger = w }) [] (leaves_of s.parts.items)
 stream-leased p budget s w f is units now = here (eqb f.left 0) now
   where
@@ -43,7 +43,12 @@ stream-leased p budget s w f is units now = here (eqb f.left 0) now
         stream-with s w [] (leaves_of s.parts.items) (event.Lease 0 f.left) is.stream (lease-fits p budget s f is units) same refl (leaves_of s.parts.items)
         (subst (λ (b : Board). Covers b (leaves_of s.parts.items)) (sym (ap board same ∙ board-with s.ledger (event.Lease 0 f.left))) is.stream.covers)
 
--- nothing was heard
+-- where nothing was heard
+pub stream-begins : (p : Program) (budget : ℕ) (s : Stream) (w : Booked) (f : Units) (heard : List Atoms) → IsStart p budget s → f ≡ all_units p budget →
+    w ≡ with_events s.ledger (leased_out 0 f) → heard ≡ [] → IsStreamOf (record s { ledger = w }) heard (leaves_of s.parts.items)
+stream-begins p budget s w f heard is units now none =
+    subst (λ (h : List Atoms). IsStreamOf (record s { ledger = w }) h (leaves_of s.parts.items)) (sym none) (stream-leased p budget s w f is units now)
+
 pub nothing-heard : (p q : Program) (heard : List Atoms) → q ≡ p → heard ≡ [] → IsFrontOf p q heard
 nothing-heard p q heard same none = record { program = same; front = subst (λ (l : List Atoms). IsPrefix l (answers p)) (sym none) (answers p, refl) }
 

@@ -73,6 +73,7 @@ fn told(stream: Stream<'_>, fuel: Fuel, end: End) -> Result<Told, AllocError>
         pace: _,
         heard,
     } = stream;
+    ledger.lawful();
     ledger.back(&fuel)?;
     ledger.lawful();
     let leaves = ledger.leaves();
