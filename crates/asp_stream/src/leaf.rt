@@ -228,10 +228,12 @@ pub(crate) fn work_off<P: Propagator, W: Watch, R: Reader>(
         own,
         factor,
     } = part;
-    if !stream.ledger.take(leaf)? {
+    let taken = stream.ledger.take(leaf)?;
+    if !taken {
         return Ok(None);
     }
-    if !tell(stream, leaf, low, reader)? {
+    let wanted = tell(stream, leaf, low, reader)?;
+    if !wanted {
         stream.ledger.release(leaf)?;
         return Ok(Some(End::Unwanted));
     }

@@ -1,8 +1,7 @@
-use Rattle.std.proofs.Common.{List, Some, [], ◌∷◌, ap, ◌∙◌, subst}
-use Rattle.asp_model.specs.declared.results.Mode.TheVariants.{Enum}
+use Rattle.std.proofs.Common.{List, Some, length, sym, ap, ◌∙◌, subst}
 use Rattle.asp_vars.specs.Literals.{Literal}
-use Rattle.asp_path.specs.Trees.{Node, cube_of}
-use Rattle.asp_book.specs.Books.{board}
+use Rattle.asp_path.specs.Trees.{Node}
+use Rattle.asp_core.specs.Invariant.{IsCube}
 use Rattle.asp_crew.proofs.StepLaws.{cube-entered}
 use Rattle.asp_stream.specs.Leaves.{EndsLeaf}
 use Rattle.asp_stream.specs.declared.leaf.Left.{Left}
@@ -33,7 +32,8 @@ returns-in_err-enter-clause-heard g c = g.met.W.Watch.begins c.args.watch.now
 
 pub run-requires-clause-underway : goal.run-requires-clause-underway
 run-requires-clause-underway g c =
-    entered-underway c.args.stream.now.ledger c.args.search.now c.enter.new.self c.args.fuel.now c.as_slice.result.now c.requires.ready c.in_ok-enter.ensures.ok ?
+    entered-underway c.args.stream.now.ledger c.args.search.now c.enter.new.self c.args.fuel.now c.as_slice.result.now c.requires.ready c.in_ok-enter.ensures.ok
+    (subst (IsCube c.args.stream.now.ledger.task) (sym c.as_slice.ensures.value) c.in_ok-cube.ensures.cube)
 
 pub run-requires-clause-cube : goal.run-requires-clause-cube
 run-requires-clause-cube g c =

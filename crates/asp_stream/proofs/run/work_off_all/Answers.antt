@@ -20,8 +20,8 @@ pub work_off-requires : goal.work_off-requires
 work_off-requires g c = record {
   ready = c.parts.invariant.left.ready;
   alone = c.parts.invariant.left.alone;
-  part = part-popped c.parts.stream (record c.parts.stream { parts = c.pop.new.self }) _ c.in-Some.part c.parts.invariant.stream ?;
-  stream = stream-popped c.parts.stream (record c.parts.stream { parts = c.pop.new.self }) _ c.in-Some.part c.parts.invariant.stream ? refl;
+  part = part-popped c.parts.stream (record c.parts.stream { parts = c.pop.new.self }) _ c.in-Some.part c.parts.invariant.stream c.in-Some.ensures.items;
+  stream = stream-popped c.parts.stream (record c.parts.stream { parts = c.pop.new.self }) _ c.in-Some.part c.parts.invariant.stream c.in-Some.ensures.items refl;
   program = program-same c.args.stream.now c.parts.stream _ c.parts.invariant.compiled c.parts.invariant.front.program;
 }
 
@@ -39,13 +39,13 @@ parts-preserved g c = record {
 
 pub parts-smaller : goal.parts-smaller
 parts-smaller g c =
-    fewer-parts c.parts.stream.ledger c.work_off.new.stream.ledger c.parts.stream.parts.items c.pop.new.self.items c.work_off.new.stream.parts.items c.in-Some.part ?
+    fewer-parts c.parts.stream.ledger c.work_off.new.stream.ledger c.parts.stream.parts.items c.pop.new.self.items c.work_off.new.stream.parts.items c.in-Some.part c.in-Some.ensures.items
     (c.in_ok-work_off-in-Some.ensures.less c.in-None-2.is)
 
 -- ---- no part is left
 pub returns-in-None-clause-leaves : goal.returns-in-None-clause-leaves
 returns-in-None-clause-leaves g c =
-    left-finished c.args.stream.now.ledger c.parts.stream.ledger c.parts.search c.parts.fuel c.parts.invariant.left (covers-nothing c.parts.stream _ c.parts.invariant.stream ?)
+    left-finished c.args.stream.now.ledger c.parts.stream.ledger c.parts.search c.parts.fuel c.parts.invariant.left (covers-nothing c.parts.stream _ c.parts.invariant.stream c.in-None.ensures.cases.0)
 
 pub returns-in-None-clause-stream : goal.returns-in-None-clause-stream
 returns-in-None-clause-stream g c = record { program = c.parts.invariant.stream.program; told = c.parts.invariant.stream.told; counted = c.parts.invariant.stream.counted }
