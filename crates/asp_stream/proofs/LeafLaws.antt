@@ -195,13 +195,13 @@ module _ (w x y : Booked) (leaf : ℕ) (t : Searching) (g : Units) (held : statu
 
   -- or split, and its first half opened
   module _ (lit : Literal) (room : length (board x).nodes < 4194304) (opens : IsOpen x.task.program (cube_of (board x).nodes leaf) lit) where
-    e1 : Event
+    abbrev e1 : Event
     e1 = event.Split 0 leaf lit
 
-    n : ℕ
+    abbrev n : ℕ
     n = length (board x).nodes
 
-    m : Booked
+    abbrev m : Booked
     m = with_events x (e1 ∷ [])
 
     pub split-guard : Guard (board x) e1

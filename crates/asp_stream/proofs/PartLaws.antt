@@ -120,7 +120,7 @@ part-row s heard leaves b part is same part_is =
 
 -- it isn't open
 pub untaken : (v w : Booked) (leaf : ℕ) (r : Bool) → w ≡ with_events v (taken_this 0 leaf r) → r ≡ false → w ≡ v
-untaken v w leaf r now no = now ∙ ap (λ x. with_events v (taken_this 0 leaf x)) no
+untaken v w leaf r now shut = now ∙ ap (λ x. with_events v (taken_this 0 leaf x)) shut
 
 pub stream-untaken : (s : Stream) (w : Booked) (heard : List Atoms) (leaf : ℕ) (leaves : List ℕ) → IsStreamOf s heard (leaf ∷ leaves) → IsAlone (board s.ledger) →
     is_open (status_of (board s.ledger).nodes leaf) ≡ false → w ≡ s.ledger → IsStreamOf (record s { ledger = w }) heard leaves

@@ -1,4 +1,4 @@
-use Rattle.std.proofs.Common.{Some, refl, ap, ◌∙◌, subst}
+use Rattle.std.proofs.Common.{Some, refl, sym, ap, ◌∙◌, subst}
 use Rattle.asp_stream.specs.Leaves.{IsStreamAfter, LeavesPart}
 use Rattle.asp_stream.specs.declared.told.End.{End}
 use Rattle.asp_stream.proofs.LeafLaws.{left-finished, left-on, left-self}
@@ -45,7 +45,7 @@ parts-smaller g c =
 -- ---- no part is left
 pub returns-in-None-clause-leaves : goal.returns-in-None-clause-leaves
 returns-in-None-clause-leaves g c =
-    left-finished c.args.stream.now.ledger c.parts.stream.ledger c.parts.search c.parts.fuel c.parts.invariant.left (covers-nothing c.parts.stream _ c.parts.invariant.stream c.in-None.ensures.cases.0)
+    left-finished c.args.stream.now.ledger c.parts.stream.ledger c.parts.search c.parts.fuel c.parts.invariant.left (covers-nothing c.parts.stream _ c.parts.invariant.stream (sym c.parts.stream.parts.ok.0 ∙ c.in-None.ensures.cases.0))
 
 pub returns-in-None-clause-stream : goal.returns-in-None-clause-stream
 returns-in-None-clause-stream g c = record { program = c.parts.invariant.stream.program; told = c.parts.invariant.stream.told; counted = c.parts.invariant.stream.counted }
