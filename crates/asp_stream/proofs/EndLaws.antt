@@ -44,7 +44,7 @@ use Rattle.asp_backlog.specs.Telling.{IsTold}
 use Rattle.asp_stream.specs.declared.told.End.{End}
 use Rattle.asp_stream.specs.declared.told.End.TheVariants as end
 use Rattle.asp_stream.specs.declared.told.Told.{Told}
-use Rattle.asp_ledger.proofs.LedgerLaws.{board-is, refused-limit, refused-optimum, nothing-sought}
+use Rattle.asp_ledger.proofs.LedgerLaws.{board-is, no-limit, no-optimum, nothing-sought}
 use Rattle.asp_backlog.proofs.ToldLaws.{told-all}
 
 -- ---- the units at the start
@@ -68,8 +68,8 @@ begins-ready p budget w s f small is units program mode known bound =
     (program ∙ sym (ap (λ (t : Task). t.program) is.task)) mode known bound
 
 -- ---- the end
-refused-best : (b : Board) → IsBoard b → optimises b.task.goal ≡ false → b.best ≡ None
-refused-best b is none = here b.best refl is.best
+no-best : (b : Board) → IsBoard b → optimises b.task.goal ≡ false → b.best ≡ None
+no-best b is none = here b.best refl is.best
   where
     here : (o : Option Atoms) → o ≡ b.best → IfSome o (λ S. IsTrue (optimises b.task.goal) × IsTrue (is_answer b.task S)) → b.best ≡ None
     here None e h = sym e
@@ -86,7 +86,7 @@ module _ (p : Program) (budget : ℕ) (v w y : Booked) (t : Searching) (g : Unit
     budget-w : (board w).task.budget ≡ budget
     budget-w = ap (λ (x : Task). x.budget) (board-task w ∙ left.task ∙ is.task)
 
-    -- refused unit was burnt before
+    -- no unit was burnt before
     nothing-burnt : (board w).burnt ≡ 0
     nothing-burnt =
         let units : out_of (board w).out 0 ≡ budget =
@@ -99,7 +99,7 @@ module _ (p : Program) (budget : ℕ) (v w y : Booked) (t : Searching) (g : Unit
     abbrev back : Event
     back = event.Back 0 g.left g.burnt
 
-    -- either refused unit comes back, or all do
+    -- either no unit comes back, or all do
     by-units : (P : Board → Type 0) → (g.left + g.burnt ≡ 0 → P (board w)) → P (happens (board w) back) → P (board y)
     by-units P none some = here (eqb (g.left + g.burnt) 0) refl now
       where
@@ -142,7 +142,7 @@ module _ (p : Program) (budget : ℕ) (v w y : Booked) (t : Searching) (g : Unit
         let is_told : IsToldBy (board y) r = record {
           answers = ap (λ (X : List Atoms). heard ++ X) rest ∙ told-all (board w) heard q (board-is w task-w lawful_w) (nothing-sought w task-w) told
               ∙ ap sorted_once (sym same-answers) ∙ sym (ap (λ k. sorted_once (listed_by k (board y).answers)) none);
-          best = sym (ap (λ (o : Option Atoms). option_map (with_cost (board y).task.program) o) (refused-best (board y) is_board (refused-optimum y enumerates-y)));
+          best = sym (ap (λ (o : Option Atoms). option_map (with_cost (board y).task.program) o) (no-best (board y) is_board (no-optimum y enumerates-y)));
           common = sym (ap (λ k. common_by k (board y).task.program (showing_of (board y))) none);
           end = ap told_end ended ∙ ends;
           leaves = leaves;
@@ -162,7 +162,7 @@ module _ (p : Program) (budget : ℕ) (v w y : Booked) (t : Searching) (g : Unit
   finished-all left = all-left None end.Finished left (λ more. left.over)
 
   unpaid-all : (x : Clash) → LeavesPart v w t g (Some (end.Unpaid x)) → LeavesAll Enum v w t g (Some x)
-  unpaid-all x left = all-left (Some x) (end.Unpaid x) left (refused-limit w (task-w (end.Unpaid x) left), left.over.0, left.over.1)
+  unpaid-all x left = all-left (Some x) (end.Unpaid x) left (no-limit w (task-w (end.Unpaid x) left), left.over.0, left.over.1)
 
   closed-at-end : (b : Board) → is_enough b ≡ false → IsWorkedOff b None → all_closed b.nodes ≡ true
   closed-at-end b more over = sym (ap (λ x. x || all_closed b.nodes) more) ∙ over
@@ -172,7 +172,7 @@ module _ (p : Program) (budget : ℕ) (v w y : Booked) (t : Searching) (g : Unit
   finished-report left u heard q ended paid journal leaves rest told =
       let all = finished-all left in
       let over : IsWorkedOff (board y) None = finished Enum v w y t g None all is.pool now in
-      let more : is_enough (board y) ≡ false = refused-limit y (enumerates-y end.Finished left) in
+      let more : is_enough (board y) ≡ false = no-limit y (enumerates-y end.Finished left) in
       told-report end.Finished left u heard q ended paid journal leaves rest told over (idle-after Enum v w y t g None all is.pool now)
       (sym (ap (λ x. end_by x (all_closed (board y).nodes)) more ∙ ap (end_by false) (closed-at-end (board y) more over)))
 
@@ -181,7 +181,7 @@ module _ (p : Program) (budget : ℕ) (v w y : Booked) (t : Searching) (g : Unit
   unpaid-report x left u heard q ended paid journal leaves rest told =
       let all = unpaid-all x left in
       let over : IsWorkedOff (board y) (Some x) = finished Enum v w y t g (Some x) all is.pool now in
-      let more : is_enough (board y) ≡ false = refused-limit y (enumerates-y (end.Unpaid x) left) in
+      let more : is_enough (board y) ≡ false = no-limit y (enumerates-y (end.Unpaid x) left) in
       told-report (end.Unpaid x) left u heard q ended paid journal leaves rest told over (idle-after Enum v w y t g (Some x) all is.pool now)
       (sym (ap (λ b. end_by b (all_closed (board y).nodes)) more ∙ ap (end_by false) (open-left (board y).nodes over.2.0 over.2.1.unclosed)))
 
