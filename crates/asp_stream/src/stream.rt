@@ -14,7 +14,7 @@ ghost use Rattle.asp_book.specs.Books.{board, with_events};
 ghost use Rattle.asp_search.specs.Beside.{IsOpen};
 ghost use Rattle.asp_search_laws.specs.Searching.{Searching};
 ghost use Rattle.asp_watermark.specs.Floors.{IsLow};
-ghost use Rattle.asp_stream.specs.Streams.{HasHalves, IsCrowded, IsFrontOf, IsStart, IsStreamOf, IsToSplit, Keeps, Knows, MayRise, divided_by, leaves_of};
+ghost use Rattle.asp_stream.specs.Streams.{HasHalves, IsCrowded, IsFrontOf, IsStart, IsStreamOf, Keeps, Knows, MayRise, divided_by, leaves_of};
 
 use asp_backlog::backlog::Backlog;
 use asp_ledger::ledger::Ledger;
