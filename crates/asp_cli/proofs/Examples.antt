@@ -7,7 +7,7 @@ use Rattle.asp_cli.specs.declared.Form.TheVariants.{Text}
 use Rattle.asp_cli.specs.declared.Format.TheVariants.{Aspif, Smodels}
 use Rattle.asp_cli.specs.declared.LogKind.TheVariants.{Blocks, Row}
 use Rattle.asp_cli.specs.declared.Options.{Options}
-use Rattle.asp_cli.specs.declared.names.Name.TheVariants.{Workers, Log, Mode, Format, Budget, Models, OptAll, Output, Quiet, Names, Proof, Make, Queries, Stats, Progress, Split}
+use Rattle.asp_cli.specs.declared.names.Name.TheVariants.{Workers, Log, Mode, Format, Budget, Models, OptAll, Output, Quiet, Names, Proof, Make, Queries, Stats, Progress, Stream, Split}
 use Rattle.asp_cli.specs.Given.{bad_value, help, misuse, missing, no_words, options, rivals, twice, unexpected, unknown, version, words_give}
 use Rattle.asp_cli.specs.Hints.{counterpart, nearest}
 
@@ -29,6 +29,7 @@ standard = record {
   core_min = false;
   stats = false;
   progress = false;
+  stream = false;
   proof = false;
   split = None;
 }
@@ -215,6 +216,24 @@ progress = refl
 progress_of_one : words_give (codes "aspenum" ∷ codes "--progress=1" ∷ []) ≡ misuse (bad_value Progress (codes "1"))
 progress_of_one = refl
 
+stream : words_give (codes "aspenum" ∷ codes "--stream" ∷ []) ≡ options (record standard { stream = true })
+stream = refl
+
+stream_of_one : words_give (codes "aspenum" ∷ codes "--stream=1" ∷ []) ≡ misuse (bad_value Stream (codes "1"))
+stream_of_one = refl
+
+stream_twice : words_give (codes "aspenum" ∷ codes "--stream" ∷ codes "--stream" ∷ []) ≡ misuse (twice Stream)
+stream_twice = refl
+
+stream_of_parts : words_give (codes "aspenum" ∷ codes "--split=2" ∷ codes "--stream" ∷ []) ≡ misuse (rivals Split Stream)
+stream_of_parts = refl
+
+parts_of_a_stream : words_give (codes "aspenum" ∷ codes "--stream" ∷ codes "--split=2" ∷ []) ≡ misuse (rivals Stream Split)
+parts_of_a_stream = refl
+
+stream_of_a_proof : words_give (codes "aspenum" ∷ codes "--proof" ∷ codes "--stream" ∷ []) ≡ options (record standard { stream = true; proof = true })
+stream_of_a_proof = refl
+
 option_as_value : words_give (codes "aspenum" ∷ codes "--mode" ∷ codes "--stats" ∷ []) ≡ misuse (bad_value Mode (codes "--stats"))
 option_as_value = refl
 
@@ -326,6 +345,7 @@ all_options : words_give (codes "aspenum" ∷ codes "--make=2000" ∷ codes "--s
       core_min = false;
       stats = true;
       progress = false;
+      stream = false;
       proof = false;
       split = None;
     })
@@ -393,6 +413,9 @@ swapped = refl
 near_format : nearest (codes "--fromat") ≡ Some (codes "--format")
 near_format = refl
 
+near_stream : nearest (codes "--steam") ≡ Some (codes "--stream")
+near_stream = refl
+
 near_none : nearest (codes "--fast") ≡ None
 near_none = refl
 
@@ -454,6 +477,12 @@ counts_of_queries = refl
 
 queries_with_counts : words_give (codes "aspenum" ∷ codes "--stats" ∷ codes "--queries" ∷ []) ≡ misuse (rivals Stats Queries)
 queries_with_counts = refl
+
+stream_of_queries : words_give (codes "aspenum" ∷ codes "--queries" ∷ codes "--stream" ∷ []) ≡ misuse (rivals Queries Stream)
+stream_of_queries = refl
+
+queries_of_a_stream : words_give (codes "aspenum" ∷ codes "--stream" ∷ codes "--queries" ∷ []) ≡ misuse (rivals Stream Queries)
+queries_of_a_stream = refl
 
 minimal_cores : words_give (codes "aspenum" ∷ codes "--core-min" ∷ []) ≡ options (record standard { core_min = true })
 minimal_cores = refl

@@ -4,7 +4,7 @@ use Rattle.asp_model.specs.declared.results.Mode as results
 use Rattle.asp_model.specs.Asked.{reasoning_of}
 use Rattle.asp_cli.specs.declared.found.Found.{Found}
 use Rattle.asp_cli.specs.declared.names.Name.{Name}
-use Rattle.asp_cli.specs.declared.names.Name.TheVariants.{Mode, Format, Models, OptAll, Workers, Log, Budget, Output, Quiet, Names, Proof, Split, Make, Queries, CoreMin, Stats, Progress}
+use Rattle.asp_cli.specs.declared.names.Name.TheVariants.{Mode, Format, Models, OptAll, Workers, Log, Budget, Output, Quiet, Names, Proof, Split, Make, Queries, CoreMin, Stats, Progress, Stream}
 use Rattle.asp_cli.specs.declared.walk.Awaits.TheVariants as awaits
 use Rattle.asp_cli.specs.declared.walk.State.{State}
 use Rattle.asp_cli.specs.declared.Options.{Options}
@@ -31,6 +31,7 @@ has f Queries = f.queries
 has f CoreMin = f.core_min
 has f Stats = f.stats
 has f Progress = f.progress
+has f Stream = f.stream
 has f Proof = f.proof
 has f Split = is_some f.split
 
@@ -54,16 +55,17 @@ is_smodels (Some Smodels) = true
 -- ---- which options exclude each other
 -- The options that can't stand beside this one, whatever their values. A proof isn't written of parts, nor of several
 -- queries, and it has the answers that `--quiet` leaves out. Proofs, parts and rings are written as text, and of queries no counts are
--- told. Where the program is divided nothing is solved: only `--make` and `--format` have a meaning there.
+-- told; their answers are written as they come in any case. Where the program is divided nothing is solved: only `--make` and `--format` have a meaning there.
 abbrev pub rivals_of : Name → List Name
 rivals_of Proof = Split ∷ Quiet ∷ Output ∷ Queries ∷ []
 rivals_of OptAll = Split ∷ Queries ∷ []
 rivals_of Quiet = Proof ∷ Split ∷ []
 rivals_of Output = Make ∷ Proof ∷ Split ∷ []
 rivals_of Make = Output ∷ []
-rivals_of Queries = Proof ∷ OptAll ∷ Stats ∷ []
+rivals_of Queries = Proof ∷ OptAll ∷ Stats ∷ Stream ∷ []
 rivals_of Stats = Split ∷ Queries ∷ []
-rivals_of Split = Mode ∷ Models ∷ OptAll ∷ Workers ∷ Log ∷ Budget ∷ Output ∷ Quiet ∷ Names ∷ Proof ∷ Queries ∷ CoreMin ∷ Stats ∷ Progress ∷ []
+rivals_of Stream = Split ∷ Queries ∷ []
+rivals_of Split = Mode ∷ Models ∷ OptAll ∷ Workers ∷ Log ∷ Budget ∷ Output ∷ Quiet ∷ Names ∷ Proof ∷ Queries ∷ CoreMin ∷ Stats ∷ Progress ∷ Stream ∷ []
 rivals_of Format = []
 rivals_of _ = Split ∷ []
 
@@ -113,15 +115,15 @@ AreApart f = f.proof ≡ true → seeks_consequences f.mode ≡ false
 abbrev pub IsApart : Options → Type 0
 IsApart o = o.proof ≡ true → seeks_consequences (Some o.mode) ≡ false
 
--- With queries neither a proof nor all optima are asked for; nor a ring, parts, a limit, a smodels text or consequences.
+-- With queries neither a proof, all optima nor a stream is asked for; nor a ring, parts, a limit, a smodels text or consequences.
 abbrev pub IsAlone : Found → Type 0
-IsAlone f = f.queries ≡ true → (f.proof ≡ false) × (f.all_optima ≡ false)
+IsAlone f = f.queries ≡ true → (f.proof ≡ false) × (f.all_optima ≡ false) × (f.stream ≡ false)
 
 abbrev pub AreAsking : Found → Type 0
 AreAsking f = IsAlone f × (f.queries ≡ true → unasked f ≡ None)
 
 abbrev pub IsAsking : Options → Type 0
-IsAsking o = o.queries ≡ true → (o.proof ≡ false) × (o.all_optima ≡ false) × (o.make ≡ None) × (o.split ≡ None) × (o.models ≡ 0) × (o.format ≡ Aspif) × (seeks_consequences (Some o.mode) ≡ false)
+IsAsking o = o.queries ≡ true → (o.proof ≡ false) × (o.all_optima ≡ false) × (o.stream ≡ false) × (o.make ≡ None) × (o.split ≡ None) × (o.models ≡ 0) × (o.format ≡ Aspif) × (seeks_consequences (Some o.mode) ≡ false)
 
 -- what was found with an option's value; none where the option doesn't take it
 abbrev pub found_with : Found → Name → List ℕ → Option Found
@@ -140,6 +142,7 @@ found_with f Queries t = None
 found_with f CoreMin t = None
 found_with f Stats t = None
 found_with f Progress t = None
+found_with f Stream t = None
 found_with f Proof t = None
 found_with f Split t = option_map (λ n. record f { split = Some n }) (number_within 1 100000 t)
 
@@ -161,6 +164,7 @@ options_of f = record {
   core_min = f.core_min;
   stats = f.stats;
   progress = f.progress;
+  stream = f.stream;
   proof = f.proof;
   split = f.split;
 }
@@ -185,6 +189,7 @@ start = record {
     core_min = false;
     stats = false;
     progress = false;
+    stream = false;
     proof = false;
     split = None;
   };

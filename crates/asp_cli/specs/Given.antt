@@ -4,7 +4,7 @@ use Rattle.std.specs.List.{after_first, before_first, position_or_len}
 use Rattle.std.specs.Str.{bytes_eq}
 use Rattle.asp_cli.specs.declared.found.Found.{Found}
 use Rattle.asp_cli.specs.declared.names.Name.{Name}
-use Rattle.asp_cli.specs.declared.names.Name.TheVariants.{OptAll, Quiet, Names, Queries, CoreMin, Stats, Progress, Proof}
+use Rattle.asp_cli.specs.declared.names.Name.TheVariants.{OptAll, Quiet, Names, Queries, CoreMin, Stats, Progress, Stream, Proof}
 use Rattle.asp_cli.specs.declared.walk.Awaits.TheVariants as awaits
 use Rattle.asp_cli.specs.declared.walk.Awaits.{Awaits}
 use Rattle.asp_cli.specs.declared.walk.State.{State}
@@ -120,6 +120,7 @@ told_name f Queries = record { found = record f { queries = true }; awaits = awa
 told_name f CoreMin = record { found = record f { core_min = true }; awaits = awaits.Option }
 told_name f Stats = record { found = record f { stats = true }; awaits = awaits.Option }
 told_name f Progress = record { found = record f { progress = true }; awaits = awaits.Option }
+told_name f Stream = record { found = record f { stream = true }; awaits = awaits.Option }
 told_name f Proof = record { found = record f { proof = true }; awaits = awaits.Option }
 told_name f n = record { found = f; awaits = awaits.Value n }
 

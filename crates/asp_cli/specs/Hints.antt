@@ -2,7 +2,7 @@
 use Rattle.std.specs.Prelude.{ℕ, Bool, true, false, ◌&&◌, ◌||◌, ◌==◌, nat_le, List, [], ◌∷◌, length, Option, Some, None, codes, if◌then◌else◌}
 use Rattle.std.specs.Str.{bytes_eq}
 use Rattle.asp_cli.specs.Names.{text_of}
-use Rattle.asp_cli.specs.declared.names.Name.TheVariants.{Mode, Format, Models, OptAll, Workers, Log, Budget, Output, Quiet, Names, Proof, Split, Make, Stats, Progress}
+use Rattle.asp_cli.specs.declared.names.Name.TheVariants.{Mode, Format, Models, OptAll, Workers, Log, Budget, Output, Quiet, Names, Proof, Split, Make, Stats, Progress, Stream}
 
 -- what is here for an option of clasp's
 abbrev pub counterpart : List ℕ → Option (List ℕ)
@@ -58,8 +58,9 @@ first_near strict w = if is_near strict w (text_of Mode) then Some (text_of Mode
     else (if is_near strict w (text_of Make) then Some (text_of Make)
     else (if is_near strict w (text_of Stats) then Some (text_of Stats)
     else (if is_near strict w (text_of Progress) then Some (text_of Progress)
+    else (if is_near strict w (text_of Stream) then Some (text_of Stream)
     else (if is_near strict w (codes "--help") then Some (codes "--help")
-    else (if is_near strict w (codes "--version") then Some (codes "--version") else None))))))))))))))))
+    else (if is_near strict w (codes "--version") then Some (codes "--version") else None)))))))))))))))))
 
 abbrev pub first_of : Option (List ℕ) → Option (List ℕ) → Option (List ℕ)
 first_of (Some name) other = Some name

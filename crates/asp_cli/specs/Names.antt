@@ -2,7 +2,7 @@
 use Rattle.std.specs.Prelude.{List, ℕ, Option, Some, None, codes, if◌then◌else◌}
 use Rattle.std.specs.Str.{bytes_eq}
 use Rattle.asp_cli.specs.declared.names.Name.{Name}
-use Rattle.asp_cli.specs.declared.names.Name.TheVariants.{Mode, Format, Models, OptAll, Workers, Log, Budget, Output, Quiet, Names, Proof, Split, Make, Queries, CoreMin, Stats, Progress}
+use Rattle.asp_cli.specs.declared.names.Name.TheVariants.{Mode, Format, Models, OptAll, Workers, Log, Budget, Output, Quiet, Names, Proof, Split, Make, Queries, CoreMin, Stats, Progress, Stream}
 
 abbrev pub text_of : Name → List ℕ
 text_of Mode = codes "--mode"
@@ -22,6 +22,7 @@ text_of Queries = codes "--queries"
 text_of CoreMin = codes "--core-min"
 text_of Stats = codes "--stats"
 text_of Progress = codes "--progress"
+text_of Stream = codes "--stream"
 
 abbrev pub takes_of : Name → List ℕ
 takes_of Mode = codes "auto, enum, opt, brave or cautious"
@@ -41,6 +42,7 @@ takes_of Queries = codes "no value"
 takes_of CoreMin = codes "no value"
 takes_of Stats = codes "no value"
 takes_of Progress = codes "no value"
+takes_of Stream = codes "no value"
 
 -- the option that a text names
 abbrev pub named : List ℕ → Option Name
@@ -60,7 +62,8 @@ named t = if bytes_eq t (codes "--mode") then Some Mode
     else (if bytes_eq t (codes "--queries") then Some Queries
     else (if bytes_eq t (codes "--core-min") then Some CoreMin
     else (if bytes_eq t (codes "--stats") then Some Stats
-    else (if bytes_eq t (codes "--progress") then Some Progress else None))))))))))))))))
+    else (if bytes_eq t (codes "--progress") then Some Progress
+    else (if bytes_eq t (codes "--stream") then Some Stream else None)))))))))))))))))
 
 -- The word for which a word stands. The short forms have long ones, and five words of clasp's have ours; any other stands for itself.
 abbrev pub meant : List ℕ → List ℕ

@@ -44,6 +44,8 @@ pub struct Found {
     pub stats: bool,
     /// Whether lines while the run goes on were asked for.
     pub progress: bool,
+    /// Whether answers were asked for as soon as they are known to come next.
+    pub stream: bool,
     /// Whether the proof was asked for.
     pub proof: bool,
     /// Into how many parts the program is to be divided.
@@ -70,6 +72,7 @@ pub fn has(found: &Found, name: Name) -> bool
         Name::CoreMin => found.core_min,
         Name::Stats => found.stats,
         Name::Progress => found.progress,
+        Name::Stream => found.stream,
         Name::Proof => found.proof,
         Name::Split => found.split.is_some(),
     }
@@ -173,8 +176,9 @@ fn rivals_of(name: Name) -> &'static [Name]
         Name::Quiet => &[Name::Proof, Name::Split],
         Name::Output => &[Name::Make, Name::Proof, Name::Split],
         Name::Make => &[Name::Output],
-        Name::Queries => &[Name::Proof, Name::OptAll, Name::Stats],
+        Name::Queries => &[Name::Proof, Name::OptAll, Name::Stats, Name::Stream],
         Name::Stats => &[Name::Split, Name::Queries],
+        Name::Stream => &[Name::Split, Name::Queries],
         Name::Split => &[
             Name::Mode,
             Name::Models,
@@ -190,6 +194,7 @@ fn rivals_of(name: Name) -> &'static [Name]
             Name::CoreMin,
             Name::Stats,
             Name::Progress,
+            Name::Stream,
         ],
         Name::Format => &[],
         _ => &[Name::Split],
@@ -294,7 +299,8 @@ pub fn with(found: Found, name: Name, text: &str) -> Option<Found>
         | Name::Queries
         | Name::CoreMin
         | Name::Stats
-        | Name::Progress => None,
+        | Name::Progress
+        | Name::Stream => None,
         Name::Split => {
             let parts = number(text, 1, MOST_PARTS)?;
             Some(Found {
@@ -330,6 +336,7 @@ pub fn options(found: &Found) -> Options
         core_min: found.core_min,
         stats: found.stats,
         progress: found.progress,
+        stream: found.stream,
         proof: found.proof,
         split: found.split,
     }

@@ -130,6 +130,8 @@ fn first_near(strict: bool, word: &str) -> Option<&'static str>
         Some(Name::Stats.text())
     } else if is_near(strict, word, Name::Progress.text()) {
         Some(Name::Progress.text())
+    } else if is_near(strict, word, Name::Stream.text()) {
+        Some(Name::Stream.text())
     } else if is_near(strict, word, "--help") {
         Some("--help")
     } else if is_near(strict, word, "--version") {

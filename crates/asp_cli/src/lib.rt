@@ -84,7 +84,7 @@ pub struct Options {
     /// The number of nodes of the ring that is solved in place of a program that is read, if one is: 3 to 2000.
     pub make: Option<u32>,
     /// Whether queries follow the program, each of which is answered. There is no limit then, and neither a proof, all optima,
-    /// consequences, parts nor a ring is asked for.
+    /// a stream, consequences, parts nor a ring is asked for.
     pub queries: bool,
     /// Whether of a core no literal may be left out.
     pub core_min: bool,
@@ -92,6 +92,8 @@ pub struct Options {
     pub stats: bool,
     /// Whether the notes get lines while one search goes on.
     pub progress: bool,
+    /// Whether an enumeration is to write each answer as soon as no smaller one can come. Queries don't follow the program then.
+    pub stream: bool,
     /// Whether a run that is finished, or found as many answers as were asked for, writes a proof in place of its results.
     pub proof: bool,
     /// Into how many parts at most the program is divided in place of being solved, if it is: 1 to 100000. A proof isn't

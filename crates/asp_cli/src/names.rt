@@ -22,6 +22,7 @@ pub enum Name {
     CoreMin,
     Stats,
     Progress,
+    Stream,
 }
 
 impl Name {
@@ -47,6 +48,7 @@ impl Name {
             Name::CoreMin => "--core-min",
             Name::Stats => "--stats",
             Name::Progress => "--progress",
+            Name::Stream => "--stream",
         }
     }
 
@@ -70,7 +72,8 @@ impl Name {
             | Name::Queries
             | Name::CoreMin
             | Name::Stats
-            | Name::Progress => "no value",
+            | Name::Progress
+            | Name::Stream => "no value",
         }
     }
 }
@@ -113,6 +116,8 @@ pub fn named(word: &str) -> Option<Name>
         Some(Name::Stats)
     } else if word == Name::Progress.text() {
         Some(Name::Progress)
+    } else if word == Name::Stream.text() {
+        Some(Name::Stream)
     } else {
         None
     }

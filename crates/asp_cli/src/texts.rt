@@ -8,7 +8,7 @@ pub const USAGE: &str =
 \x20              [--models N] [--opt-all] [--workers 1..64] [--log blocks|row]\n\
 \x20              [--budget N] [--output text|json] [--quiet] [--names] [--proof]\n\
 \x20              [--split 1..100000] [--make 3..2000] [--queries] [--core-min]\n\
-\x20              [--stats] [--progress]";
+\x20              [--stats] [--progress] [--stream]";
 
 /// The program's name and version.
 pub const VERSION: &str = "aspenum 0.1.0\n";
@@ -54,13 +54,16 @@ name, after '=':\n\
 \x20 --make N          solve a ring of N nodes, 3 to 2000, and read no program\n\
 \x20 --queries         answer the queries after the program's end, one by one: lines\n\
 \x20                   '6 n l1 .. ln', up to a second line '0'; not beside --proof,\n\
-\x20                   --opt-all, --models, --output, --stats, --make, --split,\n\
+\x20                   --opt-all, --models, --stream, --stats, --make, --split,\n\
 \x20                   smodels texts, brave or cautious\n\
 \x20 --core-min        leave out literals of a query's core as long as the others\n\
 \x20                   suffice\n\
 \x20 --stats           write counts of the run to standard error\n\
 \x20 --progress        write a line to standard error when the conflicts or the\n\
 \x20                   answers have doubled, and for each cheaper answer\n\
+\x20 --stream          of all answers, write each as soon as none that stands before\n\
+\x20                   it can come: the same lines, by one thread; without effect\n\
+\x20                   beside --proof, --quiet, --models or --output json\n\
 \x20 -h, --help        write this page\n\
 \x20 --version         write the version\n\
 \n\

@@ -47,6 +47,7 @@ fn start() -> State
         core_min: false,
         stats: false,
         progress: false,
+        stream: false,
         proof: false,
         split: None,
     };
@@ -209,6 +210,13 @@ fn alone<'a>(found: Found, word: &'a str) -> Result<State, CliError<'a>>
         Ok(Name::Progress) => Ok(State {
             found: Found {
                 progress: true,
+                ..found
+            },
+            awaits: Awaits::Option,
+        }),
+        Ok(Name::Stream) => Ok(State {
+            found: Found {
+                stream: true,
                 ..found
             },
             awaits: Awaits::Option,

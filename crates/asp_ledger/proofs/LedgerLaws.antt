@@ -1,8 +1,7 @@
 -- A ledger after one event more, and what holds of a ledger's board.
-use Rattle.std.proofs.Common.{◌≡◌, ℕ, ◌+◌, ◌<◌, ◌≤◌, eqb, Bool, true, false, not, ◌&&◌, List, [], ◌∷◌, ◌++◌, length, None, refl, sym, ap, ◌∙◌, subst}
+use Rattle.std.proofs.Common.{◌≡◌, ℕ, ◌+◌, ◌<◌, ◌≤◌, eqb, true, false, not, ◌&&◌, List, [], ◌∷◌, ◌++◌, length, None, refl, sym, ap, ◌∙◌, subst}
 use Rattle.std.proofs.lemmas.Bool.{false≢true}
 use Rattle.std.specs.Prelude.{nat_le}
-use Rattle.asp_model.specs.declared.program.Program.{Program}
 use Rattle.asp_model.specs.Sets.{Atoms}
 use Rattle.asp_vars.specs.Conflicts.{has_all}
 use Rattle.asp_vars.specs.Entailment.{HitsOnly}
@@ -19,7 +18,7 @@ use Rattle.asp_core.specs.Units.{out_of}
 use Rattle.asp_core.specs.Invariant.{IsBoard}
 use Rattle.asp_core.proofs.HeldLaws.{IsLawful-push, run-push}
 use Rattle.asp_core.proofs.ResultLaws.{IsBoard-replay, task-run}
-use Rattle.asp_book.specs.Books.{Booked, board, with_events, IsJournalOf}
+use Rattle.asp_book.specs.Books.{Booked, board, IsJournalOf}
 use Rattle.asp_ledger.specs.declared.ledger.Ledger.TheInside.{Inside}
 use Rattle.asp_ledger.specs.Ledgers.{enumeration}
 use Rattle.asp_ledger.specs.Stored.{IsLedger, ledger_of}
@@ -58,12 +57,6 @@ ledger-happens i j e is program budget guard tree events =
       lawful = subst (λ (u : Task). IsJournalOf u j.journal.items) (sym same) (subst (IsJournalOf t) (sym events) (IsLawful-push (start t) i.journal.items e is.lawful guard));
     }
 
--- and what contracts see of it
-pub ledger-with : (i j : Inside) (v : Booked) (e : Event) → ledger_of i ≡ v → j.program ≡ i.program → j.budget ≡ i.budget → j.journal.items ≡ i.journal.items ++ e ∷ [] →
-    ledger_of j ≡ with_events v (e ∷ [])
-ledger-with i j v e view program budget events =
-    (λ k. let z : Booked = record { task = enumeration (program k).value (budget k); journal = events k } in z) ∙ ap (λ (u : Booked). with_events u (e ∷ [])) view
-
 -- ---- each event
 open-is : (s : Status) → is_open s ≡ true → s ≡ status.Open
 open-is status.Open e = refl
@@ -75,41 +68,45 @@ module _ (i j : Inside) (v : Booked) (view : ledger_of i ≡ v) (is : IsLedger i
   here-tree : i.tree ≡ (board v).nodes
   here-tree = is.tree ∙ ap (λ (u : Booked). (board u).nodes) view
 
-  by-event : (e : Event) → Guard (board v) e → j.tree ≡ (happens (board v) e).nodes → j.journal.items ≡ i.journal.items ++ e ∷ [] → IsLedger j
-  by-event e guard tree events =
+  here-task : v.task ≡ enumeration v.task.program v.task.budget
+  here-task = subst (λ (u : Booked). u.task ≡ enumeration u.task.program u.task.budget) view refl
+
+  by-event : (e : Event) → Guard (board v) e → j.tree ≡ (happens (board v) e).nodes → (x : Event) → j.journal.items ≡ i.journal.items ++ x ∷ [] → x ≡ e → IsLedger j
+  by-event e guard tree x pushed same =
       ledger-happens i j e is program budget (subst (λ (u : Booked). Guard (board u) e) (sym view) guard)
-      (tree ∙ ap (λ (u : Booked). (happens (board u) e).nodes) (sym view)) events
+      (tree ∙ ap (λ (u : Booked). (happens (board u) e).nodes) (sym view)) (pushed ∙ ap (λ (y : Event). i.journal.items ++ y ∷ []) same)
 
   pub ledger-took : (leaf : ℕ) → is_open (status_of i.tree leaf) ≡ true → held_by 0 (board v).nodes ≡ 0 → j.tree ≡ with_status i.tree leaf (status.Held 0) →
-      j.journal.items ≡ i.journal.items ++ event.Take 0 leaf ∷ [] → IsLedger j
-  ledger-took leaf opened free tree events =
+      (x : Event) → j.journal.items ≡ i.journal.items ++ x ∷ [] → x ≡ event.Take 0 leaf → IsLedger j
+  ledger-took leaf opened free tree x pushed same =
       by-event (event.Take 0 leaf) (open-is (status_of (board v).nodes leaf) (ap (λ (ns : List Node). is_open (status_of ns leaf)) (sym here-tree) ∙ opened), free)
-      (tree ∙ ap (λ (ns : List Node). with_status ns leaf (status.Held 0)) here-tree) events
+      (tree ∙ ap (λ (ns : List Node). with_status ns leaf (status.Held 0)) here-tree) x pushed same
 
   pub ledger-split : (leaf : ℕ) (l : Literal) → status_of (board v).nodes leaf ≡ status.Held 0 → IsVariable (board v).task.program l.var → has_var (cube_of (board v).nodes leaf) l.var ≡ false →
-      length i.tree < 4194304 → j.tree ≡ split i.tree leaf l → j.journal.items ≡ i.journal.items ++ event.Split 0 leaf l ∷ [] → IsLedger j
-  ledger-split leaf l held variable new room tree events =
-      by-event (event.Split 0 leaf l) (held, subst (λ (ns : List Node). length ns < 4194304) here-tree room, variable, new) (tree ∙ ap (λ (ns : List Node). split ns leaf l) here-tree) events
+      length i.tree < 4194304 → j.tree ≡ split i.tree leaf l → (x : Event) → j.journal.items ≡ i.journal.items ++ x ∷ [] → x ≡ event.Split 0 leaf l → IsLedger j
+  ledger-split leaf l held variable new room tree x pushed same =
+      by-event (event.Split 0 leaf l) (held, subst (λ (ns : List Node). length ns < 4194304) here-tree room, variable, new)
+      (tree ∙ ap (λ (ns : List Node). split ns leaf l) here-tree) x pushed same
 
-  pub ledger-delivered : (S : Atoms) → v.task ≡ enumeration v.task.program v.task.budget → is_answer v.task S ≡ true → j.tree ≡ i.tree →
-      j.journal.items ≡ i.journal.items ++ event.Deliver 0 S ∷ [] → IsLedger j
-  ledger-delivered S task answer tree events =
+  pub ledger-delivered : (S : Atoms) → is_answer v.task S ≡ true → j.tree ≡ i.tree → (x : Event) → j.journal.items ≡ i.journal.items ++ x ∷ [] → x ≡ event.Deliver 0 S → IsLedger j
+  ledger-delivered S answer tree x pushed same =
       by-event (event.Deliver 0 S)
-      (lists-all v task S, ap (λ (t : Task). is_answer t S) (task-run (start v.task) v.journal) ∙ answer, no-limit v task) (tree ∙ here-tree) events
+      (lists-all v here-task S, ap (λ (t : Task). is_answer t S) (task-run (start v.task) v.journal) ∙ answer, no-limit v here-task) (tree ∙ here-tree) x pushed same
 
   pub ledger-closed : (leaf : ℕ) (n : List Literal) → status_of (board v).nodes leaf ≡ status.Held 0 → has_all (cube_of (board v).nodes leaf) n ≡ true →
       HitsOnly (board v).task.program (is_excused (board v)) n → j.tree ≡ with_status i.tree leaf status.Closed →
-      j.journal.items ≡ i.journal.items ++ event.Close 0 leaf n ∷ [] → IsLedger j
-  ledger-closed leaf n held within settled tree events =
-      by-event (event.Close 0 leaf n) (held, within, settled) (tree ∙ ap (λ (ns : List Node). with_status ns leaf status.Closed) here-tree) events
+      (x : Event) → j.journal.items ≡ i.journal.items ++ x ∷ [] → x ≡ event.Close 0 leaf n → IsLedger j
+  ledger-closed leaf n held within settled tree x pushed same =
+      by-event (event.Close 0 leaf n) (held, within, settled) (tree ∙ ap (λ (ns : List Node). with_status ns leaf status.Closed) here-tree) x pushed same
 
   pub ledger-released : (leaf : ℕ) → status_of (board v).nodes leaf ≡ status.Held 0 → j.tree ≡ with_status i.tree leaf status.Open →
-      j.journal.items ≡ i.journal.items ++ event.Release 0 leaf ∷ [] → IsLedger j
-  ledger-released leaf held tree events =
-      by-event (event.Release 0 leaf) held (tree ∙ ap (λ (ns : List Node). with_status ns leaf status.Open) here-tree) events
+      (x : Event) → j.journal.items ≡ i.journal.items ++ x ∷ [] → x ≡ event.Release 0 leaf → IsLedger j
+  ledger-released leaf held tree x pushed same =
+      by-event (event.Release 0 leaf) held (tree ∙ ap (λ (ns : List Node). with_status ns leaf status.Open) here-tree) x pushed same
 
-  pub ledger-leased : (n : ℕ) → n ≤ (board v).pool → j.tree ≡ i.tree → j.journal.items ≡ i.journal.items ++ event.Lease 0 n ∷ [] → IsLedger j
-  ledger-leased n fits tree events = by-event (event.Lease 0 n) fits (tree ∙ here-tree) events
+  pub ledger-leased : (n : ℕ) → n ≤ (board v).pool → j.tree ≡ i.tree → (x : Event) → j.journal.items ≡ i.journal.items ++ x ∷ [] → x ≡ event.Lease 0 n → IsLedger j
+  ledger-leased n fits tree x pushed same = by-event (event.Lease 0 n) fits (tree ∙ here-tree) x pushed same
 
-  pub ledger-back : (left burnt : ℕ) → left + burnt ≡ out_of (board v).out 0 → j.tree ≡ i.tree → j.journal.items ≡ i.journal.items ++ event.Back 0 left burnt ∷ [] → IsLedger j
-  ledger-back left burnt all tree events = by-event (event.Back 0 left burnt) all (tree ∙ here-tree) events
+  pub ledger-back : (left burnt : ℕ) → left + burnt ≡ out_of (board v).out 0 → j.tree ≡ i.tree →
+      (x : Event) → j.journal.items ≡ i.journal.items ++ x ∷ [] → x ≡ event.Back 0 left burnt → IsLedger j
+  ledger-back left burnt all tree x pushed same = by-event (event.Back 0 left burnt) all (tree ∙ here-tree) x pushed same

@@ -1,8 +1,5 @@
--- How a ledger and a backlog are stored.
-use Rattle.std.specs.Prelude.{◌≡◌, map}
-use Rattle.asp_model.specs.Sets.{IsAscending}
-use Rattle.asp_rows.specs.declared.row.Row.{Row}
-use Rattle.asp_rows.specs.Listed.{AreRows, IsRowOf}
+-- How a ledger is stored.
+use Rattle.std.specs.Prelude.{◌≡◌}
 use Rattle.asp_book.specs.Books.{Booked, board, IsJournalOf}
 use Rattle.asp_ledger.specs.declared.ledger.Ledger.TheInside.{Inside}
 use Rattle.asp_ledger.specs.Ledgers.{enumeration}

@@ -2,19 +2,20 @@
 use Rattle.std.proofs.Common.{◌≡◌, ℕ, ◌+◌, ◌≤◌, Bool, true, false, List, [], ◌++◌, length, refl, sym, ap, ◌∙◌, subst, arith, append_assoc, append-nil, length-append}
 use Rattle.std.specs.Prelude.{Option, Result, Ok, Err, OnOk, OnErr}
 use Rattle.std.specs.Io.KnownBytes.{Appends, Keeps}
-use Rattle.std.proofs.KnownBytes.{Appends-nil, Appends-trans, Appends-kept}
+use Rattle.std.proofs.KnownBytes.{Appends-nil, Appends-kept}
 use Rattle.std.proofs.Math.Seq.{take-length}
 use mathlib.Core.List.{IsPrefix}
 use Rattle.asp_io.specs.Causes.{Rose, AppendsFront, HasCause}
 use Rattle.asp_buffer.specs.Out.{Puts, out}
-use Rattle.asp_buffer.proofs.OutLaws.{front-more, front-after, puts_then, puts_same, printed, Printed}
+use Rattle.asp_buffer.proofs.OutLaws.{front-more, puts_then, puts_same, printed, Printed}
 use Rattle.asp_model.specs.declared.program.Program.{Program}
 use Rattle.asp_model.specs.declared.results.End.{End}
 use Rattle.asp_model.specs.Models.{answers}
 use Rattle.asp_model.specs.Sets.{Atoms}
 use Rattle.asp_model.specs.Texts.{answers_from}
 use Rattle.asp_print.specs.Parts.{closing}
-use Rattle.asp_watermark.proofs.PartLaws.{text-append, text-front}
+use Rattle.asp_watermark.proofs.PartLaws.{text-front}
+use Rattle.asp_outlet.specs.Hearing.{next_parts}
 use Rattle.asp_outlet.specs.Outlets.{Ends, Hears, IsAfter, Moment, last_text, next_text, whole_text}
 
 -- ---- what goes to a sink where nothing waits
@@ -42,71 +43,10 @@ printed-of : {T E : Type 0} (held held' : Option (List ℕ)) (faults faults' : �
 printed-of held held' faults faults' (Ok v) text p = printed _ _ (Ok v) text refl refl p
 printed-of held held' faults faults' (Err e) text p = printed _ _ (Err e) text refl tt p
 
--- ---- what is heard
-pub hears_nothing : (p : Program) (a : Moment) → Hears p a a []
-hears_nothing p a = record {
-  heard = sym (append-nil a.heard);
-  written = λ e. (e, Appends-nil a.held, refl);
-  cut = λ e f. cc;
-  silent = λ e. (e, refl, refl);
-}
-
-next-next : (p : Program) (heard more x y : List Atoms) → more ≡ heard ++ x → next_text p heard (x ++ y) ≡ next_text p heard x ++ next_text p more y
-next-next p heard more x y e =
-    let count : length heard + 1 + length x ≡ length more + 1 = omega (arith, ap length e, length-append heard x) in
-    text-append p (length heard + 1) x y ∙ ap (λ n. answers_from p (length heard + 1) x ++ answers_from p n y) count
-
-module _ (p : Program) (a b c : Moment) (x y : List Atoms) (h : Hears p a b x) (k : Hears p b c y) where
-  abbrev X : List ℕ
-  X = next_text p a.heard x
-
-  abbrev Y : List ℕ
-  Y = next_text p b.heard y
-
-  together : next_text p a.heard (x ++ y) ≡ X ++ Y
-  together = next-next p a.heard b.heard x y h.heard
-
-  written-then : c.failed ≡ false → (a.failed ≡ false) × Appends a.held c.held (next_text p a.heard (x ++ y)) × (c.faults ≡ a.faults)
-  written-then e =
-      let second = k.written e in
-      let first = h.written second.0 in
-      (first.0, subst (λ (t : List ℕ). Appends a.held c.held t) (sym together) (Appends-trans a.held b.held c.held X Y first.1 second.1), second.2 ∙ first.2)
-
-  cut-first : a.failed ≡ false → b.failed ≡ true → AppendsFront a.held c.held (next_text p a.heard (x ++ y)) × Rose a.faults c.faults
-  cut-first e f =
-      let first = h.cut e f in
-      let second = k.silent f in
-      let front : AppendsFront a.held c.held X = subst (λ (held : Option (List ℕ)). AppendsFront a.held held X) (sym second.1) first.0 in
-      (subst (λ (t : List ℕ). AppendsFront a.held c.held t) (sym together) (front-more a.held c.held X Y front), subst (λ (n : ℕ). Rose a.faults n) (sym second.2) first.1)
-
-  cut-second : b.failed ≡ false → c.failed ≡ true → AppendsFront a.held c.held (next_text p a.heard (x ++ y)) × Rose a.faults c.faults
-  cut-second e f =
-      let first = h.written e in
-      let second = k.cut e f in
-      (subst (λ (t : List ℕ). AppendsFront a.held c.held t) (sym together) (front-after a.held b.held c.held X Y first.1 second.0), subst (λ (n : ℕ). Rose n c.faults) first.2 second.1)
-
-  cut-then : (failed : Bool) → b.failed ≡ failed → a.failed ≡ false → c.failed ≡ true → AppendsFront a.held c.held (next_text p a.heard (x ++ y)) × Rose a.faults c.faults
-  cut-then true is e f = cut-first e is
-  cut-then false is e f = cut-second is f
-
-  silent-then : a.failed ≡ true → (c.failed ≡ true) × (c.held ≡ a.held) × (c.faults ≡ a.faults)
-  silent-then e =
-      let first = h.silent e in
-      let second = k.silent first.0 in
-      (second.0, second.1 ∙ first.1, second.2 ∙ first.2)
-
-  pub hears_then : Hears p a c (x ++ y)
-  hears_then = record {
-    heard = k.heard ∙ ap (λ (t : List Atoms). t ++ y) h.heard ∙ append_assoc a.heard x y;
-    written = written-then;
-    cut = cut-then b.failed refl;
-    silent = silent-then;
-  }
-
 -- ---- the whole text
 pub whole_joins : (p : Program) (end : End) (heard rest : List Atoms) → next_text p [] heard ++ last_text p heard end rest ≡ whole_text p end (heard ++ rest)
 whole_joins p end heard rest =
-    let both : next_text p [] heard ++ next_text p heard rest ≡ answers_from p 1 (heard ++ rest) = sym (next-next p [] heard heard rest refl) in
+    let both : next_text p [] heard ++ next_text p heard rest ≡ answers_from p 1 (heard ++ rest) = sym (next_parts p [] heard heard rest refl) in
     sym (append_assoc (next_text p [] heard) (next_text p heard rest) (closing end (length heard + length rest)))
     ∙ ap (λ (t : List ℕ). t ++ closing end (length heard + length rest)) both
     ∙ ap (λ n. answers_from p 1 (heard ++ rest) ++ closing end n) (sym (length-append heard rest))
@@ -119,8 +59,8 @@ all-heard p a m sets none h =
     ap (λ (t : List Atoms). next_text p t sets) none ∙ ap (λ (t : List Atoms). next_text p [] t) (sym is)
 
 ends-of : {T E : Type 0} (a : Moment) (held : Option (List ℕ)) (faults : ℕ) (r : Result T E) (text : List ℕ) → Puts (out a.held a.faults []) (out held faults []) r text → Ends a held faults r text
-ends-of a held faults (Ok v) text puts = let q = printed-of a.held held a.faults faults (Ok v) text puts in record { all = (q.all, q.quiet); front = tt }
-ends-of a held faults (Err e) text puts = let q = printed-of a.held held a.faults faults (Err e) text puts in record { all = tt; front = (q.front, q.cause) }
+ends-of a held faults (Ok v) text puts = let q = printed-of a.held held a.faults faults (Ok v) text puts in record { all = (q.all, q.quiet); front = tt; later = q.later }
+ends-of a held faults (Err e) text puts = let q = printed-of a.held held a.faults faults (Err e) text puts in record { all = tt; front = (q.front, q.cause); later = q.later }
 
 pub ends_after : {T E : Type 0} (p : Program) (end : End) (rest : List Atoms) (a m : Moment) (held : Option (List ℕ)) (faults : ℕ) (r : Result T E) → a.heard ≡ [] → IsAfter p a m →
     m.failed ≡ false → Puts (out m.held m.faults []) (out held faults []) r (last_text p m.heard end rest) → Ends a held faults r (whole_text p end (m.heard ++ rest))
@@ -137,7 +77,7 @@ ends_silent p end rest a m e none fine h failed =
     let first = h.1.cut fine failed in
     let front : AppendsFront a.held m.held (next_text p [] m.heard) = subst (λ (t : List ℕ). AppendsFront a.held m.held t) (all-heard p a m h.0 none h.1) first.0 in
     let longer : AppendsFront a.held m.held (next_text p [] m.heard ++ last_text p m.heard end rest) = front-more a.held m.held _ (last_text p m.heard end rest) front in
-    record { all = tt; front = (subst (λ (t : List ℕ). AppendsFront a.held m.held t) (whole_joins p end m.heard rest) longer, first.1) }
+    record { all = tt; front = (subst (λ (t : List ℕ). AppendsFront a.held m.held t) (whole_joins p end m.heard rest) longer, first.1); later = h.1.later }
 
 -- ---- a front of the lines of all answers
 written-front : (a b : Option (List ℕ)) (text : List ℕ) → Appends a b text → AppendsFront a b text

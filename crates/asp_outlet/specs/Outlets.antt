@@ -57,6 +57,7 @@ pub record Hears (p : Program) (a b : Moment) (sets : List Atoms) : Type 0 where
   pub written : b.failed ≡ false → (a.failed ≡ false) × Appends a.held b.held (next_text p a.heard sets) × (b.faults ≡ a.faults)
   pub cut : a.failed ≡ false → b.failed ≡ true → AppendsFront a.held b.held (next_text p a.heard sets) × Rose a.faults b.faults
   pub silent : a.failed ≡ true → (b.failed ≡ true) × (b.held ≡ a.held) × (b.faults ≡ a.faults)
+  pub later : a.faults ≤ b.faults
 
 -- some answers were heard between
 abbrev pub IsAfter : Program → Moment → Moment → Type 0
@@ -66,3 +67,4 @@ IsAfter p a b = (sets : List Atoms) × Hears p a b sets
 pub record Ends {T E : Type 0} (a : Moment) (held : Option (List ℕ)) (faults : ℕ) (result : Result T E) (text : List ℕ) : Type 0 where
   pub all : OnOk result (Appends a.held held text × (faults ≡ a.faults))
   pub front : OnErr result (AppendsFront a.held held text × Rose a.faults faults)
+  pub later : a.faults ≤ faults

@@ -7,6 +7,7 @@ ghost use Rattle.asp_print.specs.Parts.{closing};
 ghost use Rattle.asp_outlet.specs.Outlets.{Ends, Hears, IsAfter, Moment, last_text, moment, next_text, whole_text};
 
 use crate::listing::Listing;
+use crate::reader::Reader;
 use asp_io::{Failed, Sink};
 use asp_model::interp::Interp;
 use asp_model::program::Program;
@@ -90,7 +91,7 @@ impl<'a, K: Sink> Outlet<'a, K> {
 
     /// Hears the answers that come next in the list of all answers, writes their lines and sends them on. After a write that failed it
     /// writes nothing. False where one has failed.
-    pub fn hear(&mut self, rows: &Rows) -> bool
+    pub fn write_next(&mut self, rows: &Rows) -> bool
         requires atoms { rows.now.atoms ≡ atoms_of self.old.listing.program }
         requires front { IsPrefix (self.old.listing.sets ++ rows.now.sets) (answers self.old.listing.program) }
         requires room { length self.old.listing.sets + length rows.now.sets + 1 < 2 ^ 64 }
@@ -131,4 +132,39 @@ impl<'a, K: Sink> Outlet<'a, K> {
         }
         write_end(&mut self.listing, self.sink, end, rest)
     }
+}
+
+impl<K: Sink> Reader for Outlet<'_, K> {
+    ghost use Rattle.std.proofs.Common.{◌≡◌, ◌∙◌, List, [], ◌++◌, refl, subst};
+    ghost use Rattle.std.specs.Prelude.{not};
+    ghost use Rattle.asp_model.specs.declared.program.Program.{Program};
+    ghost use Rattle.asp_model.specs.Sets.{Atoms};
+    ghost use Rattle.asp_outlet.specs.Outlets.{Hears, moment};
+    ghost use Rattle.asp_outlet.specs.Hearing.{hears_nothing, hears_then};
+
+    ghost program = { λ o. o.listing.program };
+
+    ghost heard = { λ o. o.listing.sets };
+
+    ghost wants = { λ o. not o.failed };
+
+    ghost IsAfter = { λ o q. (q.sink.ghost_name ≡ o.sink.ghost_name) × (q.listing.program ≡ o.listing.program)
+        × ((sets : List Atoms) × Hears o.listing.program
+        (moment o.listing.sets (K.held o.sink.now) (K.faults o.sink.now) o.failed)
+        (moment q.listing.sets (K.held q.sink.now) (K.faults q.sink.now) q.failed) sets) };
+
+    fn hear(&mut self, rows: &Rows) -> bool {
+        self.write_next(rows)
+    }
+
+    ghost begins = { λ o. (refl, refl, ([], hears_nothing o.listing.program (moment o.listing.sets (K.held o.sink.now) (K.faults o.sink.now) o.failed))) };
+
+    ghost goes_on = { λ u v w a b.
+        let p = moment u.listing.sets (K.held u.sink.now) (K.faults u.sink.now) u.failed in
+        let q = moment v.listing.sets (K.held v.sink.now) (K.faults v.sink.now) v.failed in
+        let r = moment w.listing.sets (K.held w.sink.now) (K.faults w.sink.now) w.failed in (
+          b.0 ∙ a.0,
+          b.1 ∙ a.1,
+          (a.2.0 ++ b.2.0, hears_then u.listing.program p q r a.2.0 b.2.0 a.2.1 (subst (λ (o : Program). Hears o q r b.2.0) a.1 b.2.1)),
+        ) };
 }

@@ -6,8 +6,11 @@ const FEWEST: usize = 64;
 /// The most answers that may wait in a leaf before it is looked at.
 const MOST: usize = 65_536;
 
-/// How many words of rows may wait in a leaf before it is looked at: 64 MiB.
-const WORDS: usize = 8_388_608;
+/// How many words of rows may wait in a leaf before it is looked at: 32 MiB.
+const WORDS: usize = 4_194_304;
+
+/// So many words more does a row that waits take than its own, in the set that keeps the rows in their order.
+const MORE: usize = 10;
 
 /// By how much a leaf's limit is raised at most, where splits shed few answers.
 const MOST_FACTOR: usize = 16;
@@ -32,7 +35,7 @@ impl Pace {
     pub fn new(atoms: usize) -> Pace {
         Pace {
             told: 0,
-            most: (WORDS / (atoms / 64 + 1)).clamp(1, MOST),
+            most: (WORDS / (atoms / 64 + 1 + MORE)).max(1),
             later: 0,
             factor: 1,
             due: FEWEST,
@@ -43,8 +46,8 @@ impl Pace {
     fn limit(&self) -> usize {
         (self.told / 4)
             .clamp(FEWEST, MOST)
-            .min(self.most)
             .saturating_mul(self.factor)
+            .min(self.most)
     }
 
     /// A leaf is begun, in which so many of the answers lie that wait.

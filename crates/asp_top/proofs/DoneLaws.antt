@@ -14,7 +14,7 @@ use Rattle.asp_prepare.specs.Naming.{ask_of, prepared_of, searched, set_aside}
 use Rattle.asp_prepare.specs.Told.{told_with}
 use Rattle.asp_prepare.proofs.ToldLaws.{same-ask, whole-parted}
 use Rattle.asp_top.specs.Parting.{Divides}
-use Rattle.asp_top.specs.Runs.{Concludes, Delivers, Does, DoesBy, IsCounted, Solves, layout_of}
+use Rattle.asp_top.specs.Runs.{Concludes, Delivers, Does, DoesBy, IsCounted, Solves, SolvesBy, layout_of, streams}
 use Rattle.asp_top.specs.declared.counts.Tally.{Tally}
 use Rattle.asp_top.specs.declared.status.Outcome.{Outcome}
 
@@ -43,7 +43,7 @@ counted-by workers layout p F r t h h' w w' o (inr d) counted =
 pub from-ok : {E : Type 0} (P : Report → Type 0) (s : Result Report E) (r : Report) → s ≡ Ok r → IfOk s P → P r
 from-ok {E = E} P s r is has = subst (λ (x : Result Report E). IfOk x P) is has
 
-pub does-solve : (given : Options) (p : Program) (h h' : Option (List ℕ)) (w w' : ℕ) (o : Outcome) → given.split ≡ None → Solves given p h h' w w' o → Does given p h h' w w' o
+pub does-solve : (given : Options) (p : Program) (h h' : Option (List ℕ)) (w w' : ℕ) (o : Outcome) → given.split ≡ None → SolvesBy (streams given p) given p h h' w w' o → Does given p h h' w w' o
 does-solve given p h h' w w' o asked solves = subst (λ (m : Option ℕ). DoesBy m given p h h' w w' o) (sym asked) solves
 
 pub does-divide : (given : Options) (p : Program) (x : Prepared) (most : ℕ) (h h' : Option (List ℕ)) (w w' : ℕ) (o : Outcome) →

@@ -1,3 +1,4 @@
+pub mod StreamLaws
 pub mod RunLaws
 pub mod DoneLaws
 pub mod WholeLaws

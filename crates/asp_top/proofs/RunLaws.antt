@@ -1,5 +1,5 @@
 -- What each status means, from what reading, solving and writing did.
-use Rattle.std.proofs.Common.{◌≡◌, ℕ, ◌<◌, ◌≤◌, Bool, true, false, ◌||◌, List, [], ◌∷◌, length, refl, sym, ap, ◌∙◌, subst, inl, inr, arith}
+use Rattle.std.proofs.Common.{◌≡◌, ◌⊎◌, ℕ, ◌<◌, ◌≤◌, Bool, true, false, ◌||◌, List, [], ◌∷◌, length, refl, sym, ap, ◌∙◌, subst, inl, inr, arith}
 use Rattle.std.specs.Prelude.{ℤ, Option, None, Some, Result, Ok, Err, IfErr, IfOk, IfSome, IsErrOf, OnOk, is_some}
 use Rattle.std.proofs.lemmas.Bool.{false≢true}
 use Rattle.std.proofs.KnownBytes.{Keeps-refl}
@@ -31,10 +31,13 @@ use Rattle.asp_prepare.specs.Told.{report_text, report_with, told_with}
 use Rattle.asp_prepare.proofs.AskedLaws.{asked-sound, limited-has}
 use Rattle.asp_prepare.proofs.ToldLaws.{told-model, told-says, told-text}
 use Rattle.asp_top.specs.Meaning.{status_for}
+use Rattle.asp_top.specs.Codes.{IsLost}
 use Rattle.asp_named.specs.Named.{has_numbers}
 use Rattle.asp_top.specs.Notes.{is_written}
 use Rattle.asp_top.specs.Parting.{Divides, HandingMeans}
-use Rattle.asp_top.specs.Runs.{Around, DeliveryMeans, Does, DoesBy, EndsUnready, IsAnswered, IsDivided, IsExact, IsGiven, IsOver, IsReady, IsSaid, IsSentOn, IsSolved, Means, Prepares, Runs, Says, Solves, TellsClosed, around, layout_of, status_of, status_unready}
+use Rattle.asp_top.specs.Runs.{Around, DeliveryMeans, Does, DoesBy, EndsUnready, IsAnswered, IsDivided, IsExact, IsGiven, IsOver, IsReady, IsReported, IsSaid, IsSentOn, IsSolved, IsStreamCut, Means, Prepares, Runs, Says, Solves, SolvesBy, Streams, TellsClosed, around, layout_of, status_of, status_unready, streams}
+use Rattle.asp_top.proofs.StreamLaws.{is-listing, means-asked, streamed-cut, streamed-solved}
+use Rattle.asp_equal.specs.declared.reduce.Aside.{Aside}
 use Rattle.asp_model.specs.Sound.{IsSound}
 use Rattle.asp_cli.specs.declared.Options.{Options}
 
@@ -72,7 +75,8 @@ exact given a report Unknown m quiet = given-exact given a m.solved.program Unkn
 exact given a report Enough m quiet = given-exact given a m.solved.program Enough m.solved.source (λ w. inl refl) quiet
 exact given a report Parts m quiet = given-exact given a m.divided.program Parts m.divided.source (λ w. inl refl) quiet
 exact given a report (WriteFault closed) (inl m) quiet = given-exact given a m.solved.program (WriteFault closed) m.solved.source (λ w. absurd (w m.cause)) quiet
-exact given a report (WriteFault closed) (inr m) quiet = given-exact given a m.divided.program (WriteFault closed) m.divided.source (λ w. absurd (w m.cause)) quiet
+exact given a report (WriteFault closed) (inr (inl m)) quiet = given-exact given a m.divided.program (WriteFault closed) m.divided.source (λ w. absurd (w m.cause)) quiet
+exact given a report (WriteFault closed) (inr (inr m)) quiet = given-exact given a m.0.program (WriteFault closed) m.0.source (λ w. absurd (w m.1)) quiet
 exact given a report Unnamed m quiet = given-exact given a m.program Unnamed m.source (λ w. inr refl) quiet
 exact given a report Help m quiet = absurd m
 exact given a report Usage m quiet = absurd m
@@ -113,7 +117,7 @@ record Unread (f : Format) (a : Around) (e : ReadError) : Type 0 where
   pub quiet : ¬ (e ≡ errors.ReadFault) → a.reads' ≡ a.reads
 
 unread-means : (given : Options) (a : Around) (e : ReadError) → given.make ≡ None → Keeps a.held a.held' → Unread given.format a e → Means given a None (status_of e)
-unread-means given a errors.Memory reads kept u = record { none = refl; kept = kept }
+unread-means given a errors.Memory reads kept u = inl (record { none = refl; kept = kept })
 unread-means given a errors.ReadFault reads kept u = (reads, record { untouched = record { none = refl; kept = kept }; cause = u.cause refl; stops = u.stops })
 unread-means given a errors.TooLong reads kept u = (reads, record { untouched = record { none = refl; kept = kept }; says = u.text; said = u.some_text; stops = u.stops })
 unread-means given a (errors.Refused f l) reads kept u = (reads, record { untouched = record { none = refl; kept = kept }; says = u.text; said = u.some_text; stops = u.stops })
@@ -134,7 +138,7 @@ runs-unread given a e reads kept writes u =
 runs-memory : (given : Options) (a : Around) → Keeps a.held a.held' → a.reads ≤ a.reads' → a.writes ≤ a.writes' → a.reads' ≡ a.reads
     → Runs given a (record { status = Memory; report = None })
 runs-memory given a kept reads writes quiet =
-    let means : Means given a None Memory = record { none = refl; kept = kept } in
+    let means : Means given a None Memory = inl (record { none = refl; kept = kept }) in
     record { means = means; exact = exact given a None Memory means (λ isn't. quiet); later = (reads, writes) }
 
 written : (given : Options) (a : Around) (report : Option Report) → (s : IsSolved given a report) → (end : End) (model : Bool) → s.done.results.end ≡ end → has_model s.done.results ≡ model
@@ -167,13 +171,13 @@ delivered given a s report solved (inr m) =
 handed : (given : Options) (a : Around) (s : Status) (report : Option Report) → (divided : IsDivided given a report)
     → HandingMeans (parts_text divided.cubes) a.held a.held' a.writes a.writes' s → Means given a report s
 handed given a s report divided (inl m) = subst (Means given a report) (sym m.0) (record { divided = divided; text = m.1 })
-handed given a s report divided (inr m) = subst (Means given a report) (sym m.0.1) (inr (record { divided = divided; text = m.1; cause = m.2 }))
+handed given a s report divided (inr m) = subst (Means given a report) (sym m.0.1) (inr (inl (record { divided = divided; text = m.1; cause = m.2 })))
 
 runs-solved : (given : Options) (a : Around) (p : Program) (o : Outcome) → given.split ≡ None → IsGiven given.format given.make a p → IsSound p →
-    HasNumbers given p → a.reads ≤ a.reads' → a.reads' ≡ a.reads
+    HasNumbers given p → a.reads ≤ a.reads' → a.reads' ≡ a.reads → streams given p ≡ false
     → Solves given p a.held a.held' a.writes a.writes' o → Runs given a o
-runs-solved given a p o whole from sound numbers reads quiet (inl m) = subst (Runs given a) (sym m.0) (runs-memory given a m.1 reads (omega (arith, m.2)) quiet)
-runs-solved given a p o whole from sound numbers reads quiet (inr s) =
+runs-solved given a p o whole from sound numbers reads quiet off (inl m) = subst (Runs given a) (sym m.0) (runs-memory given a m.1 reads (omega (arith, m.2)) quiet)
+runs-solved given a p o whole from sound numbers reads quiet off (inr s) =
     let solved : IsSolved given a o.report = record {
       program = p;
       source = from;
@@ -181,7 +185,7 @@ runs-solved given a p o whole from sound numbers reads quiet (inr s) =
       numbers = numbers;
       whole = whole;
       done = s.0;
-      reports = s.2.reports;
+      reports = subst (λ (b : Bool). IsReported b (set_aside given p) s.0 o.report) (sym off) s.2.reports;
       is = s.1.0;
       says =
           told-says given p (ask_of given p) s.0 s.0.results.end (asked-sound given p sound numbers) s.1.0.says;
@@ -189,6 +193,24 @@ runs-solved given a p o whole from sound numbers reads quiet (inr s) =
     } in
     let means = delivered given a o.status o.report solved s.2.means in
     record { means = means; exact = exact given a o.report o.status means (λ isn't. quiet); later = (reads, s.2.later) }
+
+-- its answers were written while they were found
+runs-streamed : (given : Options) (a : Around) (p : Program) (o : Outcome) → given.split ≡ None → IsGiven given.format given.make a p → IsSound p →
+    HasNumbers given p → a.reads ≤ a.reads' → a.reads' ≡ a.reads → streams given p ≡ true
+    → Streams (searched given p) given.budget a.held a.held' a.writes a.writes' o → Runs given a o
+runs-streamed given a p o whole from sound numbers reads quiet on (inl cut) =
+    let short = streamed-cut given a p o from sound numbers on cut in
+    let means : Means given a o.report o.status = by cut.why short in
+    record { means = means; exact = exact given a o.report o.status means (λ isn't. quiet); later = (reads, cut.later) }
+  where
+    by : ((o.status ≡ Memory) × (a.writes' ≡ a.writes)) ⊎ (IsLost o.status × Rose a.writes a.writes') → IsStreamCut given a o.report → Means given a o.report o.status
+    by (inl m) short = subst (Means given a o.report) (sym m.0) (inr short)
+    by (inr m) short = subst (Means given a o.report) (sym m.0.1) (inr (inr (short, m.1)))
+runs-streamed given a p o whole from sound numbers reads quiet on (inr d) =
+    let solved = streamed-solved given a p d.0 d.1 o whole from sound numbers on d.2 d.3 in
+    let means = delivered given a o.status o.report solved
+    (means-asked given p (searched given p) d.0 d.1 a.held a.held' a.writes a.writes' o.status (is-listing given p on) d.3.means) in
+    record { means = means; exact = exact given a o.report o.status means (λ isn't. quiet); later = (reads, d.3.later) }
 
 runs-divided : (given : Options) (a : Around) (p : Program) (most : ℕ) (o : Outcome) → given.split ≡ Some most → IsGiven given.format given.make a p → a.reads ≤ a.reads' → a.reads' ≡ a.reads
     → Divides p most a.held a.held' a.writes a.writes' o → Runs given a o
@@ -258,10 +280,18 @@ prepares given l l' r r' p (Err status) ready same numbers wanting = subst (IsOv
 
 -- it is solved
 pub runs-ready : (given : Options) (l l' : Option (List ℕ)) (r r' : ℕ) (h h' : Option (List ℕ)) (w w' : ℕ) (p : Program) (o : Outcome) →
-    given.split ≡ None → IsReady given l l' r r' p → HasNumbers given p → Solves given p h h' w w' o
+    given.split ≡ None → IsReady given l l' r r' p → HasNumbers given p → streams given p ≡ false → Solves given p h h' w w' o
     → Runs given (around l l' r r' h h' w w') o
-runs-ready given l l' r r' h h' w w' p o whole ready numbers solves =
-    runs-solved given (around l l' r r' h h' w w') p o whole (ready.source h h' w w') ready.sound numbers ready.later ready.quiet solves
+runs-ready given l l' r r' h h' w w' p o whole ready numbers off solves =
+    runs-solved given (around l l' r r' h h' w w') p o whole (ready.source h h' w w') ready.sound numbers ready.later ready.quiet off solves
+
+-- at once, or its answers while they are found
+runs-by : (given : Options) (l l' : Option (List ℕ)) (r r' : ℕ) (h h' : Option (List ℕ)) (w w' : ℕ) (p : Program) (o : Outcome) (b : Bool) →
+    given.split ≡ None → IsReady given l l' r r' p → HasNumbers given p → streams given p ≡ b → SolvesBy b given p h h' w w' o
+    → Runs given (around l l' r r' h h' w w') o
+runs-by given l l' r r' h h' w w' p o false whole ready numbers off solves = runs-ready given l l' r r' h h' w w' p o whole ready numbers off solves
+runs-by given l l' r r' h h' w w' p o true whole ready numbers on solves =
+    runs-streamed given (around l l' r r' h h' w w') p o whole (ready.source h h' w w') ready.sound numbers ready.later ready.quiet on solves
 
 -- it is divided
 runs-parted : (given : Options) (l l' : Option (List ℕ)) (r r' : ℕ) (h h' : Option (List ℕ)) (w w' : ℕ) (p : Program) (most : ℕ) (o : Outcome) → given.split ≡ Some most → IsReady given l l' r r' p
@@ -275,7 +305,7 @@ pub runs-done : (given : Options) (l l' : Option (List ℕ)) (r r' : ℕ) (h h' 
 runs-done given l l' r r' h h' w w' p o ready numbers done = go given.split refl done
   where
     go : (m : Option ℕ) → given.split ≡ m → DoesBy m given p h h' w w' o → Runs given (around l l' r r' h h' w w') o
-    go None asked d = runs-ready given l l' r r' h h' w w' p o asked ready numbers d
+    go None asked d = runs-by given l l' r r' h h' w w' p o (streams given p) asked ready numbers refl d
     go (Some most) asked d = runs-parted given l l' r r' h h' w w' p most o asked ready d
 
 -- the units of a report are of its program
@@ -297,6 +327,10 @@ unsplit (Some n) e = absurd cc
 none-is-some : {A : Type 0} (x : A) → None ≡ Some x → ⊥
 none-is-some x e = cc
 
+unreported : (b : Bool) (A : Aside) (done : Report) → IsReported b A done None → ⊥
+unreported false A done is = none-is-some _ is
+unreported true A done is = none-is-some _ is.3
+
 begun : (byte : ℕ) (bytes : List ℕ) → byte ∷ bytes ≡ [] → ⊥
 begun byte bytes e = cc
 
@@ -309,11 +343,11 @@ unwritten : (given : Options) (l l' : Option (List ℕ)) (r r' : ℕ) (status : 
 unwritten given l l' r r' status over = by status (over (Some []) 0).means
   where
     by : (s : Status) → Means given (around l l' r r' (Some []) (Some []) 0 0) None s → is_written s ≡ false
-    by All m = absurd (none-is-some _ m.solved.reports)
-    by NoModel m = absurd (none-is-some _ m.solved.reports)
-    by Partial m = absurd (none-is-some _ m.solved.reports)
-    by Unknown m = absurd (none-is-some _ m.solved.reports)
-    by Enough m = absurd (none-is-some _ m.solved.reports)
+    by All m = absurd (unreported _ _ _ m.solved.reports)
+    by NoModel m = absurd (unreported _ _ _ m.solved.reports)
+    by Partial m = absurd (unreported _ _ _ m.solved.reports)
+    by Unknown m = absurd (unreported _ _ _ m.solved.reports)
+    by Enough m = absurd (unreported _ _ _ m.solved.reports)
     by Help m = absurd m
     by Memory m = refl
     by Usage m = refl
@@ -350,7 +384,8 @@ lost-nothing given l l' r r' status is_closed over = by status (over (Some []) 0
     by TooLong m = tt
     by Unnamed m = tt
     by (WriteFault closed) (inl m) = absurd (no-rise m.cause)
-    by (WriteFault closed) (inr m) = absurd (no-rise m.cause)
+    by (WriteFault closed) (inr (inl m)) = absurd (no-rise m.cause)
+    by (WriteFault closed) (inr (inr m)) = absurd (no-rise m.1)
     by Parts m = tt
 
 pub nothing-closed : (given : Options) (l l' : Option (List ℕ)) (r r' : ℕ) (status : Status) (o : Outcome) (is_closed : Bool) →

@@ -398,7 +398,7 @@ part-of true p Opt m end r is = is
 part-of true p (Consequences w) m end r is = is
 
 -- ---- the program whose answers were sought
-named-last : (a b c : Bool) → b ≡ false → (a && b && c) ≡ false
+pub named-last : (a b c : Bool) → b ≡ false → (a && b && c) ≡ false
 named-last true false c e = refl
 named-last false false c e = refl
 named-last a true c e = absurd (false≢true (sym e))
@@ -413,7 +413,7 @@ last-named true true c d x y e = e
 last-named true false c d x y e = absurd (false≢true y)
 last-named false b c d x y e = absurd (false≢true x)
 
-unsought-mode : (o : Option Mode) (p : Program) (mode : Mode) → mode_of o p ≡ mode → reasoning_of mode ≡ None → seeks_consequences (Some o) ≡ false
+pub unsought-mode : (o : Option Mode) (p : Program) (mode : Mode) → mode_of o p ≡ mode → reasoning_of mode ≡ None → seeks_consequences (Some o) ≡ false
 unsought-mode None p mode is listed = refl
 unsought-mode (Some Enum) p mode is listed = refl
 unsought-mode (Some Opt) p mode is listed = refl

@@ -1,5 +1,5 @@
 -- What the notes say of a run.
-use Rattle.std.specs.Prelude.{◌≡◌, ℕ, ◌≤◌, Bool, true, false, not, ◌&&◌, ◌==◌, if◌then◌else◌, List, [], ◌++◌, codes, decimal, Option, None, Some, Result, OnOk, OnErr}
+use Rattle.std.specs.Prelude.{◌≡◌, ℕ, ◌≤◌, Bool, true, false, not, ◌&&◌, ◌||◌, ◌==◌, is_some, if◌then◌else◌, List, [], ◌++◌, codes, decimal, Option, None, Some, Result, OnOk, OnErr}
 use Rattle.std.specs.List.{flat_map}
 use Rattle.std.specs.Io.KnownBytes.{Appends}
 use Rattle.asp_io.specs.Causes.{Rose, AppendsFront}
@@ -13,6 +13,7 @@ use Rattle.asp_top.specs.declared.status.Outcome.{Outcome}
 use Rattle.asp_top.specs.declared.status.Status.{Status}
 use Rattle.asp_top.specs.declared.counts.Tally.{Tally}
 use Rattle.asp_top.specs.declared.counts.Item.{Item}
+use Rattle.asp_prepare.specs.Naming.{is_json, is_settled}
 use Rattle.asp_top.specs.Counts.{item_text, loop_items, program_items, report_items, search_items, worker_items}
 use Rattle.asp_top.specs.Usage.{usage_text}
 use Rattle.asp_faults.specs.Faults.{fault_text}
@@ -109,15 +110,46 @@ optima_text given mode = if is_idle_request given mode then codes "aspenum: --op
 abbrev pub asked_text : Options → Mode → List ℕ
 asked_text given mode = limit_text given mode ++ optima_text given mode
 
--- a row of slots where one worker searched
+abbrev pub is_enumeration : Mode → Bool
+is_enumeration Enum = true
+is_enumeration _ = false
+
+-- whether answers are written as lines, where they are listed
+abbrev pub lists_lines : Options → Bool
+lists_lines given = not (is_json given.form) && (not (is_some given.make || given.quiet) && is_settled given)
+
+-- Whether answers are written while they are found: where that was asked for, and all answers are listed as lines.
+abbrev pub is_streamed : Options → Mode → Bool
+is_streamed given mode = given.stream && (is_enumeration mode && ((given.models == 0) && lists_lines given))
+
+abbrev pub is_idle_stream : Options → Mode → Bool
+is_idle_stream given mode = given.stream && not (is_streamed given mode)
+
+abbrev pub stream_text : Options → Mode → List ℕ
+stream_text given mode = if is_idle_stream given mode then codes "aspenum: --stream has no effect: no list of all answers is written as lines\n" else []
+
+-- a row of slots where one thread searched
 abbrev pub is_idle_row : Options → Bool
-is_idle_row given = (given.workers == 1) && is_row given.log
+is_idle_row given = ((given.workers == 1) || given.stream) && is_row given.log
 
 abbrev pub row_text : Options → List ℕ
 row_text given = if is_idle_row given then codes "aspenum: --log has no effect: one thread searches\n" else []
 
+-- several workers where one thread searched
+abbrev pub is_idle_crew : Options → Bool
+is_idle_crew given = given.stream && not (given.workers == 1)
+
+abbrev pub crew_text : Options → List ℕ
+crew_text given = if is_idle_crew given then codes "aspenum: --workers has no effect: --stream searches with one thread\n" else []
+
+abbrev pub threads_text : Options → List ℕ
+threads_text given = row_text given ++ crew_text given
+
+abbrev pub sought_text : Options → Mode → List ℕ
+sought_text given mode = asked_text given mode ++ stream_text given mode
+
 abbrev pub idle_text : Options → Mode → List ℕ
-idle_text given mode = asked_text given mode ++ row_text given
+idle_text given mode = sought_text given mode ++ threads_text given
 
 -- the lines for options that had no effect on what was sought
 abbrev pub idle_of : Options → Option Report → List ℕ

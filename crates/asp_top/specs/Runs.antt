@@ -1,5 +1,5 @@
 -- What each status of a run says of the words, of the bytes read and of the bytes written.
-use Rattle.std.specs.Prelude.{◌≡◌, ◌⊎◌, ℕ, ◌≤◌, ◌==◌, Bool, true, false, ◌||◌, if◌then◌else◌, List, Option, None, Some, Result, Ok, Err, IfSome, is_some, length, ℤ}
+use Rattle.std.specs.Prelude.{◌≡◌, ◌⊎◌, ℕ, ◌≤◌, ◌==◌, Bool, true, false, ◌||◌, if◌then◌else◌, List, [], ◌++◌, Option, None, Some, Result, Ok, Err, IfSome, is_some, length, ℤ}
 use Rattle.std.specs.Io.KnownBytes.{Appends, Keeps, IsAtEnd}
 use Rattle.asp_io.specs.Causes.{Rose, AppendsFront}
 use Rattle.asp_read.specs.declared.fault.Fault.{Fault}
@@ -19,7 +19,10 @@ use Rattle.asp_make.specs.Ring.{ring}
 use Rattle.asp_make.specs.Texts.{parts_text}
 use Rattle.asp_cli.specs.Given.{Given, help, misuse, options, version}
 use Rattle.asp_cli.specs.declared.Options.{Options}
-use Rattle.asp_model.specs.Models.{atoms_of}
+use Rattle.asp_cli.specs.declared.Form.TheVariants as forms
+use Rattle.asp_model.specs.Models.{answers, atoms_of}
+use Rattle.asp_model.specs.Sets.{Atoms}
+use Rattle.asp_model.specs.Texts.{answers_from}
 use Rattle.asp_vars.specs.Numbering.{bodies_of}
 use Rattle.asp_counts.specs.Telling.{AreNumbered}
 use Rattle.asp_crew_laws.specs.declared.report.Report.{Report}
@@ -34,11 +37,15 @@ use Rattle.asp_prepare.specs.declared.layout.Layout.{Layout}
 use Rattle.asp_prepare.specs.declared.prepared.Prepared.{Prepared}
 use Rattle.asp_prepare.specs.declared.prepared.Unready.{Unready}
 use Rattle.asp_prepare.specs.declared.prepared.Unready.TheVariants as unready
-use Rattle.asp_prepare.specs.Meaning.{has_model}
+use Rattle.asp_prepare.specs.Meaning.{has_model, mode_of}
 use Rattle.asp_prepare.specs.Naming.{HasNumbers, WhyNot, ask_of, asked, is_named, prepared_of, searched, set_aside}
 use Rattle.asp_prepare.specs.Told.{SaysOf, report_text, report_with, told_with}
 use Rattle.asp_top.specs.Meaning.{status_for}
-use Rattle.asp_top.specs.Notes.{IsNoted, is_answered, is_written, note_of, notes_of}
+use Rattle.asp_stream.specs.Endings.{HasReport, report_of}
+use Rattle.asp_stream.specs.declared.told.End.{End as StreamEnd}
+use Rattle.asp_stream.specs.declared.told.End.TheVariants as ends
+use Rattle.asp_stream.specs.declared.told.Told.{Told}
+use Rattle.asp_top.specs.Notes.{IsNoted, is_answered, is_streamed, is_written, note_of, notes_of}
 use Rattle.asp_top.specs.Parting.{AreParts, Divides}
 use Rattle.asp_top.specs.Progress.{IsTold}
 use Rattle.asp_top.specs.Usage.{misuse_note}
@@ -82,6 +89,21 @@ abbrev pub IsGiven : Format → Option ℕ → Around → Program → Type 0
 IsGiven f None a p = IsRead f a p
 IsGiven f (Some n) a p = (p ≡ ring n) × IsUnasked a
 
+-- ---- answers written while they are found
+-- whether they are
+abbrev pub streams : Options → Program → Bool
+streams given p = is_streamed given (mode_of given.mode p)
+
+-- the report with these answers
+abbrev pub with_answers : List Atoms → Report → Report
+with_answers Ss r = record r { results = record r.results { answers = Ss } }
+
+-- What is reported of a run, told with what was set aside: all that it found; or of one whose answers were written while they were
+-- found, only the last of them, as they were found.
+abbrev pub IsReported : Bool → Aside → Report → Option Report → Type 0
+IsReported false A done report = report ≡ Some (told_with A done)
+IsReported true A done report = (heard rest : List Atoms) × (done.results.answers ≡ heard ++ rest) × (report ≡ Some (with_answers rest done))
+
 -- ---- outputs get atoms, and facts and copies are set aside, before the search
 -- No parts are asked for. The report is that of a run on what is left of the program, with what is asked and the units that were given;
 -- with what was set aside it says of the program what was asked, and has a proof if that was asked for. Where consequences are told by name all
@@ -93,7 +115,7 @@ pub record IsSolved (given : Options) (a : Around) (report : Option Report) : Ty
   pub numbers : HasNumbers given program
   pub whole : given.split ≡ None
   pub done : Report
-  pub reports : report ≡ Some (told_with (set_aside given program) done)
+  pub reports : IsReported (streams given program) (set_aside given program) done report
   pub is : IsReport (searched given program) (ask_of given program) given.budget done
   pub says : SaysOf (asked given program) (ask_of given program) (report_with (set_aside given program) done) done.results.end
   pub proof : HasProof given.proof done
@@ -140,6 +162,15 @@ pub record ArePartsCutOff (given : Options) (a : Around) (report : Option Report
   pub text : AppendsFront a.held a.held' (parts_text divided.cubes)
   pub cause : Rose a.writes a.writes'
 
+-- A run whose answers are written while they are found ended before: a front of the lines of all answers was written, and nothing is
+-- reported.
+pub record IsStreamCut (given : Options) (a : Around) (report : Option Report) : Type 0 where
+  pub program : Program
+  pub source : IsGiven given.format given.make a program
+  pub streamed : streams given program ≡ true
+  pub none : report ≡ None
+  pub text : AppendsFront a.held a.held' (answers_from program 1 (answers program))
+
 -- nothing was solved and nothing written
 pub record IsUntouched (a : Around) (report : Option Report) : Type 0 where
   pub none : report ≡ None
@@ -185,13 +216,13 @@ Means given a report Partial = IsWritten given a report Unfinished true
 Means given a report Unknown = IsWritten given a report Unfinished false
 Means given a report Enough = IsWritten given a report Limited true
 Means given a report Help = ⊥
-Means given a report Memory = IsUntouched a report
+Means given a report Memory = IsUntouched a report ⊎ IsStreamCut given a report
 Means given a report Usage = ⊥
 Means given a report (Refused fault line) = Reads given × IsRefused given.format a report (errors.Refused fault line)
 Means given a report ReadFault = Reads given × IsUnread given.format a report
 Means given a report TooLong = Reads given × IsRefused given.format a report errors.TooLong
 Means given a report Unnamed = IsUnnamed given a report
-Means given a report (WriteFault closed) = IsCutOff given a report ⊎ ArePartsCutOff given a report
+Means given a report (WriteFault closed) = IsCutOff given a report ⊎ (ArePartsCutOff given a report ⊎ (IsStreamCut given a report × Rose a.writes a.writes'))
 Means given a report Parts = IsParted given a report
 
 -- an accepted text, where one is read
@@ -251,9 +282,50 @@ Solves given p held held' writes writes' o =
     ⊎ ((r : Report) × (IsReport (searched given p) (ask_of given p) given.budget r × HasProof given.proof r) ×
     Delivers (layout_of given) (searched given p) (told_with (set_aside given p) r) held held' writes writes' o)
 
+-- ---- a list that is written while it is found
+-- Memory ran out or a write failed before, and a front of the list's lines was written.
+pub record IsCutShort (p : Program) (held held' : Option (List ℕ)) (writes writes' : ℕ) (o : Outcome) : Type 0 where
+  pub none : o.report ≡ None
+  pub text : AppendsFront held held' (answers_from p 1 (answers p))
+  pub why : ((o.status ≡ Memory) × (writes' ≡ writes)) ⊎ (IsLost o.status × Rose writes writes')
+  pub later : writes ≤ writes'
+
+-- as lines, each answer with them
+abbrev pub as_lines : Layout
+as_lines = record { form = forms.Text; brief = false; names = false }
+
+-- The text of the report of what was heard and left was written, or cut off by a fault; what is left is reported.
+pub record DeliversRest (p : Program) (heard : List Atoms) (t : Told) (held held' : Option (List ℕ)) (writes writes' : ℕ) (o : Outcome) : Type 0 where
+  pub reports : o.report ≡ Some (report_of [] t)
+  pub means : DeliveryMeans as_lines p (report_of heard t) held held' writes writes' o.status
+  pub later : writes ≤ writes'
+  pub quiet : TellsFaults writes writes' o.status
+
+-- how the results of a stream end; none where no more was wanted
+abbrev pub ending : StreamEnd → Option End
+ending ends.Finished = Some Finished
+ending (ends.Unpaid x) = Some Unfinished
+ending ends.Unwanted = None
+
+-- the text was written as far as it went, by how the stream ended
+abbrev pub EndsStream : StreamEnd → Program → List Atoms → Told → Option (List ℕ) → Option (List ℕ) → ℕ → ℕ → Outcome → Type 0
+EndsStream ends.Finished p heard t held held' writes writes' o = DeliversRest p heard t held held' writes writes' o
+EndsStream (ends.Unpaid x) p heard t held held' writes writes' o = DeliversRest p heard t held held' writes writes' o
+EndsStream ends.Unwanted p heard t held held' writes writes' o = IsCutShort p held held' writes writes' o
+
+-- All answers that were sought with these units were found and written, unless it was cut short.
+abbrev pub Streams : Program → ℕ → Option (List ℕ) → Option (List ℕ) → ℕ → ℕ → Outcome → Type 0
+Streams p units held held' writes writes' o = IsCutShort p held held' writes writes' o
+    ⊎ ((heard : List Atoms) × (t : Told) × HasReport p units heard t × DeliversRest p heard t held held' writes writes' o)
+
+-- The program was solved as was asked: its answers written while they were found, or all at once.
+abbrev pub SolvesBy : Bool → Options → Program → Option (List ℕ) → Option (List ℕ) → ℕ → ℕ → Outcome → Type 0
+SolvesBy false given p held held' writes writes' o = Solves given p held held' writes writes' o
+SolvesBy true given p held held' writes writes' o = Streams (searched given p) given.budget held held' writes writes' o
+
 -- The program was divided where parts are asked for, and else solved.
 abbrev pub DoesBy : Option ℕ → Options → Program → Option (List ℕ) → Option (List ℕ) → ℕ → ℕ → Outcome → Type 0
-DoesBy None given p held held' writes writes' o = Solves given p held held' writes writes' o
+DoesBy None given p held held' writes writes' o = SolvesBy (streams given p) given p held held' writes writes' o
 DoesBy (Some most) given p held held' writes writes' o = Divides p most held held' writes writes' o
 
 abbrev pub Does : Options → Program → Option (List ℕ) → Option (List ℕ) → ℕ → ℕ → Outcome → Type 0
@@ -311,9 +383,9 @@ pub record Misuses (a : Around) (o : Outcome) : Type 0 where
   pub untouched : IsUntouched a o.report
   pub unasked : IsUnasked a
 
--- No workers are started: one search does it all with one worker and of queries, and none where parts are asked for.
+-- No workers are started: one search does it all with one worker, of queries and for a stream, and none where parts are asked for.
 abbrev pub is_alone : Options → Bool
-is_alone given = (given.workers == 1) || is_some given.split || given.queries
+is_alone given = (given.workers == 1) || is_some given.split || given.queries || given.stream
 
 -- how many workers are started
 abbrev pub crew_of : Options → ℕ

@@ -2,7 +2,7 @@
 ghost use Rattle.std.specs.Prelude.{◌≡◌, ◌++◌, codes, decimal};
 ghost use Rattle.asp_buffer.specs.Out.{Puts, out};
 ghost use Rattle.asp_top.specs.Counts.{loop_items, program_items, report_items, search_items};
-ghost use Rattle.asp_top.specs.Notes.{IsNoted, Writes, asked_text, counts_if, counts_of, idle_of, idle_text, is_answered, is_idle_limit, is_idle_request, is_idle_row, is_list, is_optimum, items_text, later_notes, limit_text, loops_text, note_of, notes_of, optima_text, program_text, row_text, stats_of, worker_text, workers_text};
+ghost use Rattle.asp_top.specs.Notes.{IsNoted, Writes, asked_text, counts_if, counts_of, crew_text, idle_of, idle_text, is_answered, is_enumeration, is_idle_crew, is_idle_limit, is_idle_request, is_idle_row, is_idle_stream, is_list, is_optimum, is_streamed, items_text, later_notes, limit_text, lists_lines, loops_text, note_of, notes_of, optima_text, program_text, row_text, sought_text, stats_of, stream_text, threads_text, worker_text, workers_text};
 
 use crate::counts::{
     Tally, loop_items, program_items, put_items, report_items, search_items, worker_items,
@@ -10,7 +10,7 @@ use crate::counts::{
 use crate::status::{Outcome, Status};
 use crate::usage::write_usage;
 use asp_buffer::{Waiting, flush, put};
-use asp_cli::Options;
+use asp_cli::{Form, Options};
 use asp_counts::counts::Counts;
 use asp_counts::tallies::WorkerCounts;
 use asp_crew::report::Report;
@@ -297,11 +297,60 @@ fn write_optima<N: Sink>(notes: &mut N, options: &Options, mode: Mode) -> Result
     }
 }
 
-// A row of slots where one worker searched.
+fn is_enumeration(mode: Mode) -> bool
+    ensures { result ≡ is_enumeration mode }
+{
+    match mode {
+        Mode::Enum => true,
+        _ => false,
+    }
+}
+
+// Whether answers are written as lines, where they are listed.
+fn lists_lines(options: &Options) -> bool
+    ensures { result ≡ lists_lines options.now }
+{
+    match options.form {
+        Form::Text => {
+            !(options.make.is_some() || options.quiet)
+                && !(options.proof || options.split.is_some())
+        }
+        Form::Json => false,
+    }
+}
+
+/// Whether answers are written while they are found: where that was asked for, and all answers are listed as lines.
+pub fn is_streamed(options: &Options, mode: Mode) -> bool
+    ensures { result ≡ is_streamed options.now mode }
+{
+    options.stream && is_enumeration(mode) && options.models == 0 && lists_lines(options)
+}
+
+fn is_idle_stream(options: &Options, mode: Mode) -> bool
+    ensures { result ≡ is_idle_stream options.now mode }
+{
+    options.stream && !is_streamed(options, mode)
+}
+
+fn write_stream<N: Sink>(notes: &mut N, options: &Options, mode: Mode) -> Result<(), Failed>
+    ensures { Writes (N.held notes.old) (N.held notes.new) (N.faults notes.old) (N.faults notes.new)
+        result (stream_text options.now mode) }
+{
+    if is_idle_stream(options, mode) {
+        write(
+            notes,
+            b"aspenum: --stream has no effect: no list of all answers is written as lines\n",
+        )
+    } else {
+        write(notes, b"")
+    }
+}
+
+// A row of slots where one thread searched.
 fn is_idle_row(options: &Options) -> bool
     ensures { result ≡ is_idle_row options.now }
 {
-    options.workers == 1 && options.log.is_row()
+    (options.workers == 1 || options.stream) && options.log.is_row()
 }
 
 fn write_row<N: Sink>(notes: &mut N, options: &Options) -> Result<(), Failed>
@@ -318,6 +367,35 @@ fn write_row<N: Sink>(notes: &mut N, options: &Options) -> Result<(), Failed>
     }
 }
 
+// Several workers where one thread searched.
+fn is_idle_crew(options: &Options) -> bool
+    ensures { result ≡ is_idle_crew options.now }
+{
+    options.stream && options.workers != 1
+}
+
+fn write_crew<N: Sink>(notes: &mut N, options: &Options) -> Result<(), Failed>
+    ensures { Writes (N.held notes.old) (N.held notes.new) (N.faults notes.old) (N.faults notes.new)
+        result (crew_text options.now) }
+{
+    if is_idle_crew(options) {
+        write(
+            notes,
+            b"aspenum: --workers has no effect: --stream searches with one thread\n",
+        )
+    } else {
+        write(notes, b"")
+    }
+}
+
+fn write_threads<N: Sink>(notes: &mut N, options: &Options) -> Result<(), Failed>
+    ensures { Writes (N.held notes.old) (N.held notes.new) (N.faults notes.old) (N.faults notes.new)
+        result (threads_text options.now) }
+{
+    write_row(notes, options)?;
+    write_crew(notes, options)
+}
+
 fn write_asked<N: Sink>(notes: &mut N, options: &Options, mode: Mode) -> Result<(), Failed>
     ensures { Writes (N.held notes.old) (N.held notes.new) (N.faults notes.old) (N.faults notes.new)
         result (asked_text options.now mode) }
@@ -326,13 +404,21 @@ fn write_asked<N: Sink>(notes: &mut N, options: &Options, mode: Mode) -> Result<
     write_optima(notes, options, mode)
 }
 
+fn write_sought<N: Sink>(notes: &mut N, options: &Options, mode: Mode) -> Result<(), Failed>
+    ensures { Writes (N.held notes.old) (N.held notes.new) (N.faults notes.old) (N.faults notes.new)
+        result (sought_text options.now mode) }
+{
+    write_asked(notes, options, mode)?;
+    write_stream(notes, options, mode)
+}
+
 // Writes the lines for options that had no effect in this mode.
 fn write_idle<N: Sink>(notes: &mut N, options: &Options, mode: Mode) -> Result<(), Failed>
     ensures { Writes (N.held notes.old) (N.held notes.new) (N.faults notes.old) (N.faults notes.new)
         result (idle_text options.now mode) }
 {
-    write_asked(notes, options, mode)?;
-    write_row(notes, options)
+    write_sought(notes, options, mode)?;
+    write_threads(notes, options)
 }
 
 fn write_idle_of<N: Sink>(

@@ -19,9 +19,10 @@ use crate::notes::{note_status, write};
 use crate::parts::divide;
 use crate::prepare::prepare;
 use crate::progress::{Progress, end};
-use crate::search::{solve, solve_by_crew};
+use crate::search::solve_by_crew;
 use crate::series::run_series;
 use crate::status::{Outcome, Status};
+use crate::stream::solve_or_stream;
 use crate::usage::{note_misuse, write_three};
 use asp_cli::{CliError, Options, WordFault, page_back, page_front, usage, version};
 use asp_counts::watch::Watch;
@@ -86,7 +87,7 @@ fn divide_or_solve<K: Sink, W: Watch>(
     ensures heard { W.IsAfter watch.old watch.new }
 {
     match options.split {
-        None => solve(alloc, options, prepared, sink, tally, watch),
+        None => solve_or_stream(alloc, options, prepared, sink, tally, watch),
         Some(most) => divide(alloc, &prepared.compiled, most, sink),
     }
 }
@@ -163,6 +164,7 @@ fn outcome_by_crew<R: Threads + Wait + Sync, S: Source, K: Sink, G: Gate + Sync,
     requires ring { IsRing options.now.make }
     requires crew { IsCrew options.now.workers }
     requires whole { options.now.split ≡ None }
+    requires at_once { options.now.stream ≡ false }
     requires apart { IsApart options.now }
     ensures runs { Runs options.now (around (S.left source.old) (S.left source.new) (S.faults source.old) (S.faults source.new)
         (K.held sink.old) (K.held sink.new) (K.faults sink.old) (K.faults sink.new)) result.0 }
@@ -183,8 +185,8 @@ fn outcome_by_crew<R: Threads + Wait + Sync, S: Source, K: Sink, G: Gate + Sync,
 }
 
 /// A run after the words. It reads a program from the source, or makes a ring, solves it with one search, writes the text
-/// of its results to the sink, or of the proof that was asked for, and flushes it; where parts are asked for, it divides the
-/// program and writes these. The notes get a line for each status
+/// of its results to the sink, or of the proof that was asked for, and flushes it; where that was asked for, it writes each answer as
+/// soon as no smaller one can come. Where parts are asked for, it divides the program and writes these. The notes get a line for each status
 /// that isn't one of results, and the counts where they are asked for; before them lines while the run goes on, where they
 /// are.
 pub fn run_alone<S: Source, K: Sink, N: Sink>(
@@ -232,6 +234,7 @@ fn run_by_crew<R: Threads + Wait + Sync, S: Source, K: Sink, N: Sink, G: Gate + 
     requires ring { IsRing options.now.make }
     requires crew { IsCrew options.now.workers }
     requires whole { options.now.split ≡ None }
+    requires at_once { options.now.stream ≡ false }
     requires apart { IsApart options.now }
     ensures runs { Runs options.now (around (S.left source.old) (S.left source.new) (S.faults source.old) (S.faults source.new)
         (K.held sink.old) (K.held sink.new) (K.faults sink.old) (K.faults sink.new)) result }
@@ -255,11 +258,11 @@ fn run_by_crew<R: Threads + Wait + Sync, S: Source, K: Sink, N: Sink, G: Gate + 
     outcome
 }
 
-// Whether no workers are started: with one worker, of queries, and where nothing is solved.
+// Whether no workers are started: with one worker, of queries, for a stream, and where nothing is solved.
 fn is_alone(options: &Options) -> bool
     ensures { result ≡ is_alone options.now }
 {
-    options.workers == 1 || options.split.is_some() || options.queries
+    options.workers == 1 || options.split.is_some() || options.queries || options.stream
 }
 
 // A run after the words, with as many workers as are asked for. One search starts no thread.

@@ -8,15 +8,22 @@ use asp_model::results::{End, Results};
 use asp_prepare::told::has_model;
 use asp_rows::sets::Sets;
 
-/// The status of results that were written.
-pub fn status_for(results: &Results<Sets>) -> Status
-    ensures { result ≡ status_for results.now.end (has_model results.now) }
+/// The status of results that were written and ended so, with a model or without.
+pub fn status_by(end: End, model: bool) -> Status
+    ensures { result ≡ status_for end model }
 {
-    match (results.end, has_model(results)) {
+    match (end, model) {
         (End::Finished, true) => Status::All,
         (End::Finished, false) => Status::NoModel,
         (End::Limited, _) => Status::Enough,
         (End::Unfinished, true) => Status::Partial,
         (End::Unfinished, false) => Status::Unknown,
     }
+}
+
+/// The status of results that were written.
+pub fn status_for(results: &Results<Sets>) -> Status
+    ensures { result ≡ status_for results.now.end (has_model results.now) }
+{
+    status_by(results.end, has_model(results))
 }

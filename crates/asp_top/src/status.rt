@@ -20,7 +20,7 @@ pub enum Status {
     Enough,
     /// Help or the version was asked for and written.
     Help,
-    /// Memory ran out, and nothing was written to the sink.
+    /// Memory ran out, and nothing was written to the sink; or of a list that is written while it is found, a front of it.
     Memory,
     /// The words of the command line are faulty.
     Usage,
@@ -64,7 +64,8 @@ impl Status {
 }
 
 /// How a run ended, and its report where the search ended: with the statuses All, NoModel, Partial, Unknown and Enough,
-/// and where the results could not be written.
+/// and where the results could not be written. Of a list that was written while it was found it has only the answers that were left at
+/// the end.
 #[derive(Drop)]
 pub struct Outcome {
     /// The run's status, which gives the exit code.

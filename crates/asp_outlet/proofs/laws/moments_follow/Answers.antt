@@ -1,4 +1,4 @@
-use Rattle.asp_outlet.proofs.OutletLaws.{hears_nothing, hears_then}
+use Rattle.asp_outlet.specs.Hearing.{hears_nothing, hears_then}
 use Rattle.asp_outlet.proofs.laws.moments_follow.Goals as goal
 
 pub returns : goal.returns

@@ -1,9 +1,10 @@
 use Rattle.asp_top.proofs.RunLaws.{nothing-closed, nothing-to-send, runs-ready}
+use Rattle.asp_top.proofs.StreamLaws.{at-once}
 use Rattle.asp_top.proofs.runs.outcome_by_crew.Goals as goal
 
 pub returns-in-Ok-clause-runs : goal.returns-in-Ok-clause-runs
 returns-in-Ok-clause-runs g c = runs-ready c.args.options.now _ _ _ _ _ _ _ _ c.in-Ok.ensures.0 _ c.requires.whole c.in-Ok.ensures.1 c.in-Ok.ensures.2
-    (c.solve_by_crew-done.ensures.solves c.in-Ok.ensures.0 c.in-Ok.ensures.3)
+    (at-once c.args.options.now c.in-Ok.ensures.0 c.requires.at_once) (c.solve_by_crew-done.ensures.solves c.in-Ok.ensures.0 c.in-Ok.ensures.3)
 
 pub returns-in-Err-clause-runs : goal.returns-in-Err-clause-runs
 returns-in-Err-clause-runs g c = rw c.failed.ensures (c.in-Err.ensures _ _)

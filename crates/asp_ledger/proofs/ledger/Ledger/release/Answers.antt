@@ -1,8 +1,10 @@
-use Rattle.std.proofs.Common.{List, [], ◌∷◌, ◌++◌, refl, sym, ap, ◌∙◌}
-use Rattle.asp_core.specs.declared.event.Event.{Event}
+use Rattle.std.proofs.Common.{refl}
+use Rattle.asp_ledger.specs.declared.ledger.Ledger.TheInside.{Inside}
 use Rattle.asp_ledger.proofs.LedgerLaws.{ledger-released}
 use Rattle.asp_ledger.proofs.ledger.Ledger.release.Goals as goal
 
 pub invariant_of-self-2 : goal.invariant_of-self-2
 invariant_of-self-2 c =
-    ledger-released c.self.inside (record c.self.inside { tree = c.release.new.self; journal = c.push.new.self }) c.args.self.now c.self.view_is c.self.invariant refl refl c.args.leaf c.requires c.release.ensures (c.in_ok-push.ensures.items ∙ ap (λ (e : Event). c.self.inside.journal.items ++ e ∷ []) c.of.ensures)
+    let i : Inside = c.self.inside in
+    ledger-released i (record i { tree = c.release.new.self; journal = c.push.new.self }) c.args.self.now c.self.view_is c.self.invariant refl refl c.args.leaf
+    c.requires c.release.ensures _ c.in_ok-push.ensures.items c.of.ensures

@@ -1,8 +1,10 @@
-use Rattle.std.proofs.Common.{List, [], ◌∷◌, ◌++◌, refl, sym, ap, ◌∙◌}
-use Rattle.asp_core.specs.declared.event.Event.{Event}
+use Rattle.std.proofs.Common.{refl, sym, ◌∙◌}
+use Rattle.asp_ledger.specs.declared.ledger.Ledger.TheInside.{Inside}
 use Rattle.asp_ledger.proofs.LedgerLaws.{ledger-took}
 use Rattle.asp_ledger.proofs.ledger.Ledger.take.Goals as goal
 
 pub invariant_of-self-2 : goal.invariant_of-self-2
 invariant_of-self-2 c =
-    ledger-took c.self.inside (record c.self.inside { tree = c.hold.new.self; journal = c.push.new.self }) c.args.self.now c.self.view_is c.self.invariant refl refl c.args.leaf ? c.requires c.hold.ensures (c.in_ok-push.ensures.items ∙ ap (λ (e : Event). c.self.inside.journal.items ++ e ∷ []) c.of.ensures)
+    let i : Inside = c.self.inside in
+    ledger-took i (record i { tree = c.hold.new.self; journal = c.push.new.self }) c.args.self.now c.self.view_is c.self.invariant refl refl c.args.leaf
+    (sym c.is_open.ensures ∙ c.if-not-is_open.false) c.requires c.hold.ensures _ c.in_ok-push.ensures.items c.of.ensures
