@@ -5,7 +5,7 @@ use Rattle.std.specs.Bool.{beq}
 use Rattle.std.specs.List.{AllByRecursion, list_any}
 use Rattle.std.proofs.lemmas.Bool.{false≢true, and_parts, eqb-true, eq-eqb, or_cases, or_from}
 use Rattle.std.proofs.lemmas.List.{take_more}
-use Rattle.std.proofs.lemmas.List.Folds.{list_any-append}
+use Rattle.std.proofs.lemmas.List.Folds.{list_any-append, list_any_at}
 use Rattle.asp_model.specs.declared.program.Program.{Program}
 use Rattle.asp_model.specs.declared.results.Mode.{Mode}
 use Rattle.asp_model.specs.declared.results.Reasoning.{Reasoning}
@@ -15,7 +15,7 @@ use Rattle.asp_model.specs.Holding.{all_hold}
 use Rattle.asp_model.specs.Models.{atoms_of, is_stable}
 use Rattle.asp_model.specs.Sets.{Atoms, IsAscending, IsSubset, has}
 use Rattle.asp_model.proofs.SetLaws.{get_or-below}
-use Rattle.asp_model.proofs.MemberLaws.{each-append}
+use Rattle.asp_model.proofs.MemberLaws.{each-append, each_of, list_any-weaker}
 use Rattle.asp_vars.specs.Entailment.{is_done}
 use Rattle.asp_vars.specs.Literals.{Literal, T, complement, has_literal, hits}
 use Rattle.asp_vars.specs.Numbering.{values, var_of_atom}
@@ -34,7 +34,7 @@ use Rattle.asp_search_laws.specs.Searching.{Searching, used}
 use Rattle.asp_watermark.specs.Floors.{IsLow}
 use Rattle.asp_watermark.proofs.LeafLaws.{second-cube}
 use Rattle.asp_ledger.specs.Ledgers.{enumeration}
-use Rattle.asp_stream.specs.Lows.{IsSure, IsSureVar, IsToCome}
+use Rattle.asp_stream.specs.Lows.{IsSure, IsSureVar, IsToCome, says_true}
 use Rattle.asp_stream.specs.Streams.{Knows}
 use Rattle.asp_ledger.proofs.LedgerLaws.{nothing-sought}
 
@@ -133,6 +133,10 @@ has-taken (x ∷ atoms) (suc n) a h = here (has-taken atoms n a) (or_cases (eqb 
 pub gathers-among : (P : ℕ → Type 0) (atoms : List ℕ) (n : ℕ) (items : List ℕ) → Gathers P atoms n items → IsAmong atoms items
 gathers-among P atoms n items is = record { rising = is.rising; stand = λ a h. has-taken atoms n a (is.early a h) }
 
+pub has-at : (atoms all : List ℕ) (i : ℕ) → atoms ≡ all → i < length atoms → has all (get_or atoms i 0) ≡ true
+has-at atoms all i same lt =
+    subst (λ (l : List ℕ). has l (get_or atoms i 0) ≡ true) same (list_any_at (λ b. eqb b (get_or atoms i 0)) atoms i 0 lt (eq-eqb (get_or atoms i 0) (get_or atoms i 0) refl))
+
 -- ---- the atoms that are sure
 abbrev pub IsSureAtom : Searching → List Literal → ℕ → Type 0
 IsSureAtom s more a = (q : List Literal) (S : Atoms) → s.cube ≡ Some q → IsToCome s q more S → has S a ≡ true
@@ -141,12 +145,18 @@ pub sure-atom : (s : Searching) (more : List Literal) (a v : ℕ) → has (atoms
 sure-atom s more a v atom var sure q S entered comes =
     sym (value-atom s.program S a atom) ∙ ap (λ k. get_or (values s.program S) k false) (sym var) ∙ sure q S entered comes
 
-beq-true : (x : Bool) → beq x true ≡ true → x ≡ true
-beq-true true h = refl
-beq-true false h = h
+beq-same : (x : Bool) → beq x true ≡ x
+beq-same true = refl
+beq-same false = refl
 
-pub said-sure : (s : Searching) (more : List Literal) (v : ℕ) → has_literal more (T v) ≡ true → IsSureVar s more v
-said-sure s more v said q S entered comes = beq-true (get_or (values s.program S) v false) (hits-has (values s.program S) more (T v) comes.has said)
+said-literal : (lits : List Literal) (v : ℕ) → says_true lits v ≡ true → has_literal lits (T v) ≡ true
+said-literal lits v said =
+    list_any-weaker (λ (l : Literal). eqb l.var v && l.truth) (λ (l : Literal). eqb l.var v && beq l.truth true) lits
+    (each_of (λ (l : Literal). (eqb l.var v && l.truth) ≡ true → (eqb l.var v && beq l.truth true) ≡ true) (λ l e. ap (λ x. eqb l.var v && x) (beq-same l.truth) ∙ e) lits) said
+
+pub said-sure : (s : Searching) (more : List Literal) (v : ℕ) → says_true more v ≡ true → IsSureVar s more v
+said-sure s more v said q S entered comes =
+    sym (beq-same (get_or (values s.program S) v false)) ∙ hits-has (values s.program S) more (T v) comes.has (said-literal more v said)
 
 pub fixed-sure : (s : Searching) (more : List Literal) (v : ℕ) → IsFixed s v true → IsSureVar s more v
 fixed-sure s more v fixed q S entered comes = fixed q S entered comes.stable comes.path comes.new

@@ -4,6 +4,7 @@ ghost use Rattle.std.specs.List.{AllByRecursion};
 ghost use Rattle.asp_model.specs.Models.{atoms_of};
 ghost use Rattle.asp_model.specs.Sets.{Atoms};
 ghost use Rattle.asp_vars.specs.Literals.{Literal};
+ghost use Rattle.asp_vars.specs.Numbering.{IsVar, var_count};
 ghost use Rattle.asp_vars.specs.Paid.{Units};
 ghost use Rattle.asp_rows.specs.Listed.{IsRowOf};
 ghost use Rattle.asp_path.specs.declared.status.Status.TheVariants as status;
@@ -208,6 +209,7 @@ fn splits<P: Propagator>(
     last: Option<&Row>,
     bit: Option<Bit>,
 ) -> bool
+    requires { IsVar (var_count search.now.program) lit.var }
     ensures { (q : List Literal) → search.now.cube ≡ Some q → IsTrue result → IsOpen search.now.program q lit }
 {
     if !search.is_open(lit) {
@@ -222,6 +224,7 @@ fn splits<P: Propagator>(
 
 // The literal by which the leaf is to be split, if it is: that its least open atom is false.
 fn cut<P: Propagator>(stream: &Stream<'_>, search: &Search<'_, P>) -> Option<Lit>
+    requires { search.now.program ≡ stream.now.compiled.now }
     ensures open { (q : List Literal) → search.now.cube ≡ Some q → IfSome result (IsOpen search.now.program q) }
     ensures room { IsSome result → length (board stream.now.ledger).nodes < 4194304 }
 {
