@@ -92,3 +92,99 @@ returns-in-Unwanted-clause-ends g c =
     (along-same c.args.stream.now.ledger c.advance.new.stream.ledger c.look.new.stream.ledger c.args.search.now c.advance.new.search c.advance.new.fuel
     (along-step _ c.steps.stream.ledger c.advance.new.stream.ledger _ c.steps.search c.advance.new.search c.steps.fuel c.advance.new.fuel _
     c.steps.invariant.along c.in_ok-course.ensures.goes) c.look.ensures.keeps.ledger)
+
+pub returns-in_err-course-clause-same : goal.returns-in_err-course-clause-same
+returns-in_err-course-clause-same g c = (c.advance.ensures.same.0 ∙ c.steps.invariant.compiled, c.advance.ensures.same.1 ∙ c.steps.invariant.parts)
+
+pub returns-in_err-course-clause-front : goal.returns-in_err-course-clause-front
+returns-in_err-course-clause-front g c = c.steps.invariant.front
+
+pub returns-in_err-course-clause-after : goal.returns-in_err-course-clause-after
+returns-in_err-course-clause-after g c = c.steps.invariant.after
+
+pub returns-in_err-course-clause-heard : goal.returns-in_err-course-clause-heard
+returns-in_err-course-clause-heard g c = c.steps.invariant.heard
+
+pub returns-in-Closed-clause-same : goal.returns-in-Closed-clause-same
+returns-in-Closed-clause-same g c = (c.advance.ensures.same.0 ∙ c.steps.invariant.compiled, c.advance.ensures.same.1 ∙ c.steps.invariant.parts)
+
+pub returns-in-Closed-clause-front : goal.returns-in-Closed-clause-front
+returns-in-Closed-clause-front g c = c.steps.invariant.front
+
+pub returns-in-Closed-clause-after : goal.returns-in-Closed-clause-after
+returns-in-Closed-clause-after g c = c.steps.invariant.after
+
+pub returns-in-Closed-clause-heard : goal.returns-in-Closed-clause-heard
+returns-in-Closed-clause-heard g c = g.met.W.Watch.goes_on c.args.watch.now c.steps.watch c.tell.new.self c.steps.invariant.heard c.tell.ensures
+
+pub returns-in-Closed-clause-unwanted : goal.returns-in-Closed-clause-unwanted
+returns-in-Closed-clause-unwanted g c = λ e. absurd (let f : ⊥ = cc in f)
+
+pub returns-in-Closed-clause-stream : goal.returns-in-Closed-clause-stream
+returns-in-Closed-clause-stream g c = leaves-same c.steps.stream c.advance.new.stream _ c.args.leaf c.advance.ensures.same.1 (c.in_ok-course.ensures.stream _ _ c.steps.invariant.stream)
+
+pub returns-in-Unpaid-clause-same : goal.returns-in-Unpaid-clause-same
+returns-in-Unpaid-clause-same g c = (c.advance.ensures.same.0 ∙ c.steps.invariant.compiled, c.advance.ensures.same.1 ∙ c.steps.invariant.parts)
+
+pub returns-in-Unpaid-clause-front : goal.returns-in-Unpaid-clause-front
+returns-in-Unpaid-clause-front g c = c.steps.invariant.front
+
+pub returns-in-Unpaid-clause-after : goal.returns-in-Unpaid-clause-after
+returns-in-Unpaid-clause-after g c = c.steps.invariant.after
+
+pub returns-in-Unpaid-clause-heard : goal.returns-in-Unpaid-clause-heard
+returns-in-Unpaid-clause-heard g c = g.met.W.Watch.goes_on c.args.watch.now c.steps.watch c.tell.new.self c.steps.invariant.heard c.tell.ensures
+
+pub returns-in-Unpaid-clause-unwanted : goal.returns-in-Unpaid-clause-unwanted
+returns-in-Unpaid-clause-unwanted g c = λ e. absurd (let f : ⊥ = cc in f)
+
+pub returns-in-Unpaid-clause-stream : goal.returns-in-Unpaid-clause-stream
+returns-in-Unpaid-clause-stream g c = leaves-same c.steps.stream c.advance.new.stream _ c.args.leaf c.advance.ensures.same.1 (c.in_ok-course.ensures.stream _ _ c.steps.invariant.stream)
+
+pub returns-in_err-look-clause-same : goal.returns-in_err-look-clause-same
+returns-in_err-look-clause-same g c = (c.look.ensures.keeps.compiled ∙ c.advance.ensures.same.0 ∙ c.steps.invariant.compiled, c.look.ensures.keeps.parts ∙ c.advance.ensures.same.1 ∙ c.steps.invariant.parts)
+
+pub returns-in_err-look-clause-front : goal.returns-in_err-look-clause-front
+returns-in_err-look-clause-front g c = front-same c.args.stream.now c.advance.new.stream _ _ (c.advance.ensures.same.0 ∙ c.steps.invariant.compiled) c.look.ensures.front
+
+pub returns-in_err-look-clause-after : goal.returns-in_err-look-clause-after
+returns-in_err-look-clause-after g c = g.met.R.Reader.goes_on c.args.reader.now c.steps.reader c.look.new.reader c.steps.invariant.after c.look.ensures.after
+
+pub returns-in_err-look-clause-heard : goal.returns-in_err-look-clause-heard
+returns-in_err-look-clause-heard g c = g.met.W.Watch.goes_on c.args.watch.now c.steps.watch c.tell.new.self c.steps.invariant.heard c.tell.ensures
+
+pub returns-in-Crowded-clause-same : goal.returns-in-Crowded-clause-same
+returns-in-Crowded-clause-same g c = (c.look.ensures.keeps.compiled ∙ c.advance.ensures.same.0 ∙ c.steps.invariant.compiled, c.look.ensures.keeps.parts ∙ c.advance.ensures.same.1 ∙ c.steps.invariant.parts)
+
+pub returns-in-Crowded-clause-front : goal.returns-in-Crowded-clause-front
+returns-in-Crowded-clause-front g c = front-same c.args.stream.now c.advance.new.stream _ _ (c.advance.ensures.same.0 ∙ c.steps.invariant.compiled) c.look.ensures.front
+
+pub returns-in-Crowded-clause-after : goal.returns-in-Crowded-clause-after
+returns-in-Crowded-clause-after g c = g.met.R.Reader.goes_on c.args.reader.now c.steps.reader c.look.new.reader c.steps.invariant.after c.look.ensures.after
+
+pub returns-in-Crowded-clause-heard : goal.returns-in-Crowded-clause-heard
+returns-in-Crowded-clause-heard g c = g.met.W.Watch.goes_on c.args.watch.now c.steps.watch c.tell.new.self c.steps.invariant.heard c.tell.ensures
+
+pub returns-in-Unwanted-clause-same : goal.returns-in-Unwanted-clause-same
+returns-in-Unwanted-clause-same g c = (c.look.ensures.keeps.compiled ∙ c.advance.ensures.same.0 ∙ c.steps.invariant.compiled, c.look.ensures.keeps.parts ∙ c.advance.ensures.same.1 ∙ c.steps.invariant.parts)
+
+pub returns-in-Unwanted-clause-front : goal.returns-in-Unwanted-clause-front
+returns-in-Unwanted-clause-front g c = front-same c.args.stream.now c.advance.new.stream _ _ (c.advance.ensures.same.0 ∙ c.steps.invariant.compiled) c.look.ensures.front
+
+pub returns-in-Unwanted-clause-after : goal.returns-in-Unwanted-clause-after
+returns-in-Unwanted-clause-after g c = g.met.R.Reader.goes_on c.args.reader.now c.steps.reader c.look.new.reader c.steps.invariant.after c.look.ensures.after
+
+pub returns-in-Unwanted-clause-heard : goal.returns-in-Unwanted-clause-heard
+returns-in-Unwanted-clause-heard g c = g.met.W.Watch.goes_on c.args.watch.now c.steps.watch c.tell.new.self c.steps.invariant.heard c.tell.ensures
+
+pub returns-in-Crowded-clause-stream : goal.returns-in-Crowded-clause-stream
+returns-in-Crowded-clause-stream g c = c.in_ok-look.ensures.stream
+
+pub returns-in-Unwanted-clause-stream : goal.returns-in-Unwanted-clause-stream
+returns-in-Unwanted-clause-stream g c = c.in_ok-look.ensures.stream
+
+pub returns-in-Crowded-clause-unwanted : goal.returns-in-Crowded-clause-unwanted
+returns-in-Crowded-clause-unwanted g c = λ e. absurd (let f : ⊥ = cc in f)
+
+pub returns-in-Unwanted-clause-unwanted : goal.returns-in-Unwanted-clause-unwanted
+returns-in-Unwanted-clause-unwanted g c = λ e. c.in_ok-look.ensures.unwanted c.in-Unwanted.is
