@@ -1,4 +1,4 @@
-use Rattle.std.proofs.Common.{◌≡◌, ℕ, ◌<◌, ◌×◌, ◌∷◌, length, refl, sym, ap, ◌∙◌, subst}
+use Rattle.std.proofs.Common.{◌≡◌, ℕ, ◌<◌, ◌∷◌, length, refl, sym, ap, ◌∙◌, subst}
 use Rattle.asp_model.specs.declared.results.Mode.TheVariants.{Enum}
 use Rattle.asp_vars.specs.Literals.{Literal}
 use Rattle.asp_path.specs.Trees.{cube_of}
@@ -10,7 +10,7 @@ use Rattle.asp_stream.specs.Streams.{IsCrowded, leaves_of}
 use Rattle.asp_stream.specs.declared.leaf.Course.{Course}
 use Rattle.asp_stream.specs.declared.stream.View.{View}
 use Rattle.asp_stream.proofs.CourseLaws.{along-same, along-step, ends-closed, ends-crowded, ends-unpaid, ends-unwanted, knows-now}
-use Rattle.asp_stream.proofs.PartLaws.{front-same, leaves-same, stream-atoms, stream-front}
+use Rattle.asp_stream.proofs.PartLaws.{front-same, leaves-same, program-same, stream-atoms, stream-front}
 use Rattle.asp_stream.proofs.leaf.run.Goals as goal
 
 pub steps-init : goal.steps-init
@@ -35,7 +35,7 @@ pub look-requires : goal.look-requires
 look-requires g c = record {
   stream =
       leaves-same c.steps.stream c.advance.new.stream _ c.args.leaf c.advance.ensures.same.1 (c.in_ok-course.ensures.stream _ _ c.steps.invariant.stream);
-  program = c.steps.invariant.front.program ∙ (λ k. (c.steps.invariant.compiled (sym k)).now) ∙ (λ k. (c.advance.ensures.same.0 (sym k)).now);
+  program = program-same c.args.stream.now c.advance.new.stream _ (c.advance.ensures.same.0 ∙ c.steps.invariant.compiled) c.steps.invariant.front.program;
   knows =
       knows-now c.args.stream.now.ledger c.advance.new.stream.ledger c.args.leaf c.args.search.now c.advance.new.search c.advance.new.fuel
       (along-step _ c.steps.stream.ledger c.advance.new.stream.ledger _ c.steps.search c.advance.new.search c.steps.fuel c.advance.new.fuel _
