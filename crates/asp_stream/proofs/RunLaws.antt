@@ -52,6 +52,9 @@ stream-begins p budget s w f heard is units now none =
 pub nothing-heard : (p q : Program) (heard : List Atoms) → q ≡ p → heard ≡ [] → IsFrontOf p q heard
 nothing-heard p q heard same none = record { program = same; front = subst (λ (l : List Atoms). IsPrefix l (answers p)) (sym none) (answers p, refl) }
 
+pub front-by : (p p' q : Program) (heard : List Atoms) → p' ≡ p → IsFrontOf p' q heard → IsFrontOf p q heard
+front-by p p' q heard same is = subst (λ (x : Program). IsFrontOf x q heard) same is
+
 -- ---- the next part is the last of those that wait
 or-swaps : (a b : Bool) → (a || (b || false)) ≡ true → (b || a) ≡ true
 or-swaps true true e = refl
