@@ -1,6 +1,6 @@
 -- What a search knows of the answers still to come on its path is a low of its leaf.
-use Rattle.std.proofs.Common.{◌≡◌, ◌⊎◌, ℕ, zero, suc, ◌+◌, ◌<◌, Bool, true, false, ◌&&◌, ◌||◌, cond, eqb, List, [], ◌∷◌, ◌++◌, get_or, take, length, Option, None, Some, refl, sym, ap, ◌∙◌, subst, inl, inr, arith}
-use Rattle.std.specs.Prelude.{IsTrue, ℤ}
+use Rattle.std.proofs.Common.{◌≡◌, ◌⊎◌, ℕ, zero, suc, ◌+◌, ◌<◌, Bool, true, false, ◌&&◌, ◌||◌, cond, eqb, List, [], ◌∷◌, ◌++◌, get_or, take, length, Option, None, Some, Result, Ok, Err, refl, sym, ap, ◌∙◌, subst, inl, inr, arith}
+use Rattle.std.specs.Prelude.{IfOk, IsTrue, ℤ}
 use Rattle.std.specs.Bool.{beq}
 use Rattle.std.specs.List.{AllByRecursion, list_any}
 use Rattle.std.proofs.lemmas.Bool.{false≢true, and_parts, eqb-true, eq-eqb, or_cases, or_from}
@@ -18,10 +18,13 @@ use Rattle.asp_model.proofs.SetLaws.{get_or-below}
 use Rattle.asp_model.proofs.MemberLaws.{each-append, each_of, list_any-weaker}
 use Rattle.asp_vars.specs.Entailment.{is_done}
 use Rattle.asp_vars.specs.Literals.{Literal, T, complement, has_literal, hits}
-use Rattle.asp_vars.specs.Numbering.{values, var_of_atom}
+use Rattle.asp_vars.specs.Numbering.{IsVar, values, var_count, var_of_atom}
+use Rattle.asp_vars.specs.Tabled.{IsAtomVar}
 use Rattle.asp_vars.proofs.LiteralLaws.{hits-append, hits-has}
 use Rattle.asp_vars.proofs.NumberingLaws.{value-atom}
-use Rattle.asp_rows.specs.Bits.{IsAmong}
+use Rattle.asp_rows.specs.declared.row.Row.{Row}
+use Rattle.asp_rows.specs.Bits.{IsAmong, encode}
+use Rattle.asp_rows.specs.Listed.{IsRowOf}
 use Rattle.asp_path.specs.Trees.{cube_of, split}
 use Rattle.asp_core.specs.declared.event.Event.TheVariants as event
 use Rattle.asp_core.specs.declared.task.Task.{Task}
@@ -163,6 +166,21 @@ fixed-sure s more v fixed q S entered comes = fixed q S entered comes.stable com
 
 pub sure-set : (s : Searching) (more : List Literal) (atoms : List ℕ) (n : ℕ) (items : List ℕ) → Gathers (IsSureAtom s more) atoms n items → IsSure s more items
 sure-set s more atoms n items is q S entered comes a h = is.each a h q S entered comes
+
+pub atom-is-var : (p : Program) (v : ℕ) → IsAtomVar p v → IsVar (var_count p) v
+atom-is-var p v is = (is.0, omega (arith, is.1))
+
+-- ---- rows
+pub row-if : {E : Type 0} (r : Result Row E) (atoms all S : Atoms) → atoms ≡ all → IsAmong all S → IfOk r (λ row. row.words.items ≡ encode atoms S) → IfOk r (λ row. row.set ≡ S) → IfOk r (IsRowOf all)
+row-if (Ok row) atoms all S same among words set = record {
+  words = words ∙ ap (λ (A : Atoms). encode A S) same ∙ ap (encode all) (sym set);
+  among = subst (IsAmong all) (sym set) among;
+}
+row-if (Err e) atoms all S same among words set = tt
+
+pub sure-if : {E : Type 0} (r : Result Row E) (s : Searching) (more : List Literal) (S : Atoms) → IsSure s more S → IfOk r (λ row. row.set ≡ S) → IfOk r (λ row. IsSure s more row.set)
+sure-if (Ok row) s more S sure set = subst (IsSure s more) (sym set) sure
+sure-if (Err e) s more S sure set = tt
 
 -- ---- lows of leaves
 neither : (x y : Bool) → (x ≡ true → y ≡ true) → y ≡ false → x ≡ false

@@ -114,7 +114,8 @@ impl<'a> Stream<'a> {
     {
         self.ledger.lawful();
         self.ledger.deliver(set)?;
-        self.backlog.add(set)
+        self.backlog.add(set)?;
+        Ok(())
     }
 }
 
@@ -345,7 +346,8 @@ pub(crate) fn divide<P: Propagator>(
         None => unreachable!(),
         Some(leaves) => {
             stream.ledger.release(leaves.0)?;
-            push_halves(stream, leaves, lit, first, second)
+            push_halves(stream, leaves, lit, first, second)?;
+            Ok(())
         }
     }
 }
