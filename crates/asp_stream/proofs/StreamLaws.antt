@@ -141,6 +141,18 @@ stream-raised p v leaf low heard q parts is low-is may = record {
   covers = is.covers;
 }
 
+-- and by what was seen of it
+pub stream-rose : (p : Program) (v : Booked) (leaf : ℕ) (low : Atoms) (count n : ℕ) (heard after sets : List Atoms) (q w : Pending) (parts : List Part) →
+    IsStream p v count heard q parts (leaf ∷ leaves_of parts) → IsLow (board v) leaf low → MayRise q.floor parts low → sets ≡ filter (is_below (Some low)) q.sets →
+    n ≡ count + length sets → after ≡ heard ++ sets → w ≡ record q { floor = low; sets = filter (λ S. not (is_below (Some low) S)) q.sets } →
+    IsStream p v n after w parts (leaf ∷ leaves_of parts)
+stream-rose p v leaf low count n heard after sets q w parts is low-is may sets-are counted heard-is waits =
+    subst (λ k. IsStream p v k after w parts (leaf ∷ leaves_of parts)) (sym (counted ∙ ap (λ (X : List Atoms). count + length X) sets-are))
+    (subst (λ (X : List Atoms). IsStream p v (count + length (filter (is_below (Some low)) q.sets)) X w parts (leaf ∷ leaves_of parts))
+        (sym (heard-is ∙ ap (λ (X : List Atoms). heard ++ X) sets-are))
+        (subst (λ (z : Pending). IsStream p v (count + length (filter (is_below (Some low)) q.sets)) (heard ++ filter (is_below (Some low)) q.sets) z parts (leaf ∷ leaves_of parts)) (sym waits)
+            (stream-raised p v leaf low heard q parts is low-is may)))
+
 -- ---- a leaf that is split
 stood : (nodes : List Node) (x y : Node) (m : ℕ) →
     ((m < length nodes) × (get_or (nodes ++ x ∷ y ∷ []) m nowhere ≡ get_or nodes m nowhere)) ⊎ ((m ≡ length nodes) ⊎ ((m ≡ length nodes + 1) ⊎ (get_or (nodes ++ x ∷ y ∷ []) m nowhere ≡ nowhere)))

@@ -333,6 +333,7 @@ pub(crate) fn divide<P: Propagator>(
     requires program { stream.old.ledger.task.program ≡ stream.old.compiled.now }
     requires open { IsOpen stream.old.ledger.task.program (cube_of (board stream.old.ledger).nodes leaf) lit }
     requires room { length (board stream.old.ledger).nodes < 4194304 }
+    ensures compiled { stream.new.compiled ≡ stream.old.compiled }
     ensures ledger { OnOk result (stream.new.ledger ≡ divided_by stream.old.ledger leaf lit) }
     ensures parts { OnOk result (length stream.new.parts.items ≡ length stream.old.parts.items + 2) }
     ensures stream { OnOk result ((heard : List Atoms) → IsStreamOf stream.old heard (leaf ∷ leaves_of stream.old.parts.items) → IsStreamOf stream.new heard (leaves_of stream.new.parts.items)) }
