@@ -41,7 +41,7 @@ has-later leaf leaves m h other = here (or_cases (eqb leaf m) (has leaves m) h)
 -- ---- one status changes
 pub status-other : (nodes : List Node) (n m : ℕ) (new : Status) → (m ≡ n → ⊥) → status_of (with_status nodes n new) m ≡ status_of nodes m
 status-other nodes n m new other =
-    ap (λ (x : Node). x.status) (get_or-set_other nodes n m (record { cube = cube_of nodes n; status = new }) nowhere (λ e. other (sym e)))
+    ap (λ (x : Node). x.status) (get_or-set_other nodes n m (record { cube = cube_of nodes n; status = new }) nowhere other)
 
 pub covers-set : (b c : Board) (leaf : ℕ) (new : Status) (leaves : List ℕ) → c.nodes ≡ with_status b.nodes leaf new → Covers b (leaf ∷ leaves) → Covers c (leaf ∷ leaves)
 covers-set b c leaf new leaves nodes covers m h = here (cases_eq m leaf)
@@ -117,18 +117,18 @@ parts-happen b e parts guard are = each_weaker (IsPart b) (IsPart (happens b e))
 low-among : (b : Board) (low : Atoms) (parts : List Part) (m : ℕ) → IsAscending low → AllByRecursion (IsPart b) parts →
     AllByRecursion (λ (p : Part). is_below (Some low) p.low.set ≡ false) parts → has (leaves_of parts) m ≡ true → StaysFrom b low m
 low-among b low [] m up are above h = absurd (false≢true h)
-low-among b low (p ∷ parts) m up are above h = here (or_cases (eqb p.leaf m) (has (leaves_of parts) m) h)
+low-among b low (p ∷ parts) m up are above h = here (low-among b low parts m up are.1 above.1) (or_cases (eqb p.leaf m) (has (leaves_of parts) m) h)
   where
-    here : ((eqb p.leaf m ≡ true) ⊎ (has (leaves_of parts) m ≡ true)) → StaysFrom b low m
-    here (inl e) = (
+    here : (has (leaves_of parts) m ≡ true → StaysFrom b low m) → ((eqb p.leaf m ≡ true) ⊎ (has (leaves_of parts) m ≡ true)) → StaysFrom b low m
+    here later (inl e) = (
       p.low.set,
       subst (λ k. IsLow b k p.low.set) (eqb-true p.leaf m e) are.0.low,
       λ before. false≢true (sym above.0 ∙ before-below p.low.set low are.0.low.rising up before),
     )
-    here (inr e) = low-among b low parts m up are.1 above.1 e
+    here later (inr e) = later e
 
 not-before-itself : (S : Atoms) → IsBefore S S → ⊥
-not-before-itself S before = false≢true (sym before.2.0 ∙ before.1)
+not-before-itself S before = false≢true (sym before.2 ∙ before.1)
 
 pub floor-at : (b : Board) (leaf : ℕ) (floor low : Atoms) (parts : List Part) → IsLow b leaf low → AllByRecursion (IsPart b) parts → MayRise floor parts low →
     Covers b (leaf ∷ leaves_of parts) → IsFloor b (Some low)

@@ -5,6 +5,7 @@ use Rattle.std.specs.Option.{IfSome}
 use Rattle.std.proofs.lemmas.Bool.{false≢true, eqb-true}
 use Rattle.asp_model.specs.declared.program.Program.{Program}
 use Rattle.asp_model.specs.declared.results.Mode.TheVariants.{Enum}
+use Rattle.asp_model.specs.Models.{atoms_of}
 use Rattle.asp_model.specs.Sets.{Atoms}
 use Rattle.asp_vars.specs.Paid.{Clash, Units}
 use Rattle.asp_path.specs.Trees.{all_closed, leaf_count}
@@ -35,7 +36,7 @@ use Rattle.asp_crew.proofs.BookLaws.{board-task, board-with}
 use Rattle.asp_crew.proofs.FinishLaws.{IsLeased, all_of, finished, idle-after, leased-is, leased-works, ready-begins, task-after}
 use Rattle.asp_crew.proofs.ReportLaws.{reports, told-by}
 use Rattle.asp_backlog.specs.Backlogs.{Pending}
-use Rattle.asp_stream.specs.Endings.{all_units, end_of as told_end, report_of, start_of, unpaid_of}
+use Rattle.asp_stream.specs.Endings.{IsOver, IsTellingOf, Tells, all_units, end_of as told_end, report_of, start_of, unpaid_of}
 use Rattle.asp_stream.specs.Leaves.{LeavesPart}
 use Rattle.asp_ledger.specs.Ledgers.{enumeration}
 use Rattle.asp_backlog.specs.Telling.{IsTold}
@@ -80,10 +81,7 @@ module _ (p : Program) (budget : ℕ) (v w y : Booked) (t : Searching) (g : Unit
 
   module _ (how : End) (left : LeavesPart v w t g (Some how)) where
     task-w : w.task ≡ enumeration w.task.program w.task.budget
-    task-w = left.task ∙ is.task ∙ (λ k. enumeration (same (sym k)).program (same (sym k)).budget)
-      where
-        same : w.task ≡ enumeration p budget
-        same = left.task ∙ is.task
+    task-w = subst (λ (x : Task). x ≡ enumeration x.program x.budget) (sym (left.task ∙ is.task)) refl
 
     budget-w : (board w).task.budget ≡ budget
     budget-w = ap (λ (x : Task). x.budget) (board-task w ∙ left.task ∙ is.task)
@@ -98,7 +96,7 @@ module _ (p : Program) (budget : ℕ) (v w y : Booked) (t : Searching) (g : Unit
     pool-w : (board w).pool ≡ 0
     pool-w = left.pool ∙ is.pool
 
-    back : Event
+    abbrev back : Event
     back = event.Back 0 g.left g.burnt
 
     -- either no unit comes back, or all do
@@ -131,13 +129,14 @@ module _ (p : Program) (budget : ℕ) (v w y : Booked) (t : Searching) (g : Unit
         here false same = ap (λ (z : Booked). z.task) same
 
     enumerates-y : y.task ≡ enumeration y.task.program y.task.budget
-    enumerates-y = task-y ∙ task-w ∙ (λ k. enumeration (task-y (sym k)).program (task-y (sym k)).budget)
+    enumerates-y = subst (λ (x : Task). x ≡ enumeration x.program x.budget) (sym task-y) task-w
 
     -- the report's parts, where it is known how it ended
-    pub told-report : (u : Told) (heard : List Atoms) (q : Pending) → u.end ≡ how → u.paid ≡ g → u.leaves ≡ leaf_count (board y).nodes → u.rest.sets ≡ q.sets → IsTold (board w) heard q →
-        IsWorkedOff (board y) (unpaid_of how) → IsIdle (board y) → told_end how ≡ end_of (board y) → IsReport p (asks Enum 0 false) budget (report_of heard y.journal u)
-    told-report u heard q ended paid leaves rest told over idle ends =
-        let r : Report = report_of heard y.journal u in
+    told-report : (u : Told) (heard : List Atoms) (q : Pending) → u.end ≡ how → u.paid ≡ g → u.journal ≡ y.journal → u.leaves ≡ leaf_count (board y).nodes →
+        u.rest.sets ≡ q.sets → IsTold (board w) heard q →
+        IsWorkedOff (board y) (unpaid_of how) → IsIdle (board y) → told_end how ≡ end_of (board y) → IsReport p (asks Enum 0 false) budget (report_of heard u)
+    told-report u heard q ended paid journal leaves rest told over idle ends =
+        let r : Report = report_of heard u in
         let is_board : IsBoard (board y) = board-is y enumerates-y lawful_y in
         let none : sought (board y).task.goal ≡ None = nothing-sought y enumerates-y in
         let is_told : IsToldBy (board y) r = record {
@@ -153,7 +152,7 @@ module _ (p : Program) (budget : ℕ) (v w y : Booked) (t : Searching) (g : Unit
           over = subst (λ (e : End). IsWorkedOff (board y) (unpaid_of e)) (sym ended) over;
         } in
         subst (λ (x : Task). IsReport x.program (asks Enum 0 false) x.budget r) (task-y ∙ left.task ∙ is.task)
-        (reports (asks Enum 0 false) y r enumerates-y lawful_y refl is_told refl refl)
+        (reports (asks Enum 0 false) y r enumerates-y lawful_y journal is_told refl refl)
 
   -- ---- by the end
   all-left : (o : Option Clash) (how : End) → LeavesPart v w t g (Some how) → IsThrough (board w) g o → LeavesAll Enum v w t g o
@@ -168,20 +167,58 @@ module _ (p : Program) (budget : ℕ) (v w y : Booked) (t : Searching) (g : Unit
   closed-at-end : (b : Board) → is_enough b ≡ false → IsWorkedOff b None → all_closed b.nodes ≡ true
   closed-at-end b more over = sym (ap (λ x. x || all_closed b.nodes) more) ∙ over
 
-  pub finished-report : (left : LeavesPart v w t g (Some end.Finished)) (u : Told) (heard : List Atoms) (q : Pending) → u.end ≡ end.Finished → u.paid ≡ g →
-      u.leaves ≡ leaf_count (board y).nodes → u.rest.sets ≡ q.sets → IsTold (board w) heard q → IsReport p (asks Enum 0 false) budget (report_of heard y.journal u)
-  finished-report left u heard q ended paid leaves rest told =
+  finished-report : (left : LeavesPart v w t g (Some end.Finished)) (u : Told) (heard : List Atoms) (q : Pending) → u.end ≡ end.Finished → u.paid ≡ g →
+      u.journal ≡ y.journal → u.leaves ≡ leaf_count (board y).nodes → u.rest.sets ≡ q.sets → IsTold (board w) heard q → IsReport p (asks Enum 0 false) budget (report_of heard u)
+  finished-report left u heard q ended paid journal leaves rest told =
       let all = finished-all left in
       let over : IsWorkedOff (board y) None = finished Enum v w y t g None all is.pool now in
       let more : is_enough (board y) ≡ false = no-limit y (enumerates-y end.Finished left) in
-      told-report end.Finished left u heard q ended paid leaves rest told over (idle-after Enum v w y t g None all is.pool now)
+      told-report end.Finished left u heard q ended paid journal leaves rest told over (idle-after Enum v w y t g None all is.pool now)
       (sym (ap (λ x. end_by x (all_closed (board y).nodes)) more ∙ ap (end_by false) (closed-at-end (board y) more over)))
 
-  pub unpaid-report : (x : Clash) (left : LeavesPart v w t g (Some (end.Unpaid x))) (u : Told) (heard : List Atoms) (q : Pending) → u.end ≡ end.Unpaid x → u.paid ≡ g →
-      u.leaves ≡ leaf_count (board y).nodes → u.rest.sets ≡ q.sets → IsTold (board w) heard q → IsReport p (asks Enum 0 false) budget (report_of heard y.journal u)
-  unpaid-report x left u heard q ended paid leaves rest told =
+  unpaid-report : (x : Clash) (left : LeavesPart v w t g (Some (end.Unpaid x))) (u : Told) (heard : List Atoms) (q : Pending) → u.end ≡ end.Unpaid x → u.paid ≡ g →
+      u.journal ≡ y.journal → u.leaves ≡ leaf_count (board y).nodes → u.rest.sets ≡ q.sets → IsTold (board w) heard q → IsReport p (asks Enum 0 false) budget (report_of heard u)
+  unpaid-report x left u heard q ended paid journal leaves rest told =
       let all = unpaid-all x left in
       let over : IsWorkedOff (board y) (Some x) = finished Enum v w y t g (Some x) all is.pool now in
       let more : is_enough (board y) ≡ false = no-limit y (enumerates-y (end.Unpaid x) left) in
-      told-report (end.Unpaid x) left u heard q ended paid leaves rest told over (idle-after Enum v w y t g (Some x) all is.pool now)
+      told-report (end.Unpaid x) left u heard q ended paid journal leaves rest told over (idle-after Enum v w y t g (Some x) all is.pool now)
       (sym (ap (λ b. end_by b (all_closed (board y).nodes)) more ∙ ap (end_by false) (open-left (board y).nodes over.2.0 over.2.1.unclosed)))
+
+  -- what is told at the end
+  tells : (how : End) → LeavesPart v w t g (Some how) → (u : Told) (heard : List Atoms) (q : Pending) (wants : Bool) → u.end ≡ how → u.paid ≡ g → u.journal ≡ y.journal →
+      u.leaves ≡ leaf_count (board y).nodes → u.rest.sets ≡ q.sets → IsTold (board w) heard q → (how ≡ end.Unwanted → wants ≡ false) → Tells p budget heard wants u how
+  tells end.Finished left u heard q wants ended paid journal leaves rest told refused = finished-report left u heard q ended paid journal leaves rest told
+  tells (end.Unpaid x) left u heard q wants ended paid journal leaves rest told refused = unpaid-report x left u heard q ended paid journal leaves rest told
+  tells end.Unwanted left u heard q wants ended paid journal leaves rest told refused = refused refl
+
+-- w: all was worked off; y: the units are back
+pub telling : (p : Program) (budget : ℕ) (w y : Booked) (g : Units) (how : End) (over : IsOver p budget w g how) (u : Told) (heard : List Atoms) (q : Pending) (wants : Bool) →
+    IsJournalOf w.task w.journal → IsJournalOf y.task y.journal → y ≡ with_events w (given_back 0 g) → w.task.program ≡ p → IsTold (board w) heard q →
+    (how ≡ end.Unwanted → wants ≡ false) → u.end ≡ how → u.paid ≡ g → u.journal ≡ y.journal → u.leaves ≡ leaf_count (board y).nodes → u.rest.sets ≡ q.sets → u.rest.atoms ≡ q.atoms →
+    length heard + length u.rest.sets + 1 < 2 ^ 64 → IsTellingOf p budget heard wants u
+telling p budget w y g how over u heard q wants lawful_w lawful_y now program told refused ended paid journal leaves rest atoms few =
+    let v : Booked = with_events (start_of p budget) (leased_out 0 (all_units p budget)) in
+    record {
+      atoms = atoms ∙ told.atoms ∙ ap atoms_of (ap (λ (x : Task). x.program) (board-task w) ∙ program);
+      tells = subst (Tells p budget heard wants u) (sym ended)
+          (tells p budget v w y over.search g over.small (leased p budget (start_of p budget) v (all_units p budget) over.small refl refl refl) lawful_w lawful_y now how over.left
+          u heard q wants ended paid journal leaves rest told refused);
+      few = few;
+    }
+
+-- ---- from the beginning on
+pub run-over : (p : Program) (budget : ℕ) (v w x : Booked) (f g : Units) (t : Searching) (how : End) → budget < 2 ^ 64 → v ≡ start_of p budget → f ≡ all_units p budget →
+    w ≡ with_events v (leased_out 0 f) → LeavesPart w x t g (Some how) → IsOver p budget x g how
+run-over p budget v w x f g t how small start units now left = record {
+  small = small;
+  search = t;
+  left = subst (λ (z : Booked). LeavesPart z x t g (Some how))
+      (now ∙ ap (λ (z : Booked). with_events z (leased_out 0 f)) start ∙ ap (λ (u : Units). with_events (start_of p budget) (leased_out 0 u)) units) left;
+}
+
+-- by another word for the program
+pub telling-by : (p q : Program) (budget : ℕ) (x : Booked) (g : Units) (how : End) (heard : List Atoms) (wants : Bool) (u : Told) → q ≡ p → IsOver p budget x g how →
+    (IsOver q budget x g how → IsTellingOf q budget heard wants u) → IsTellingOf p budget heard wants u
+telling-by p q budget x g how heard wants u same over tell =
+    subst (λ (z : Program). IsTellingOf z budget heard wants u) same (tell (subst (λ (z : Program). IsOver z budget x g how) (sym same) over))

@@ -1,43 +1,39 @@
 -- One part: its leaf is taken, worked on, and then closed, split or opened again.
 use Rattle.std.proofs.Common.{◌≡◌, ◌⊎◌, ℕ, zero, suc, ◌+◌, ◌-◌, ◌<◌, ◌≤◌, Bool, true, false, cond, eqb, ◌||◌, List, [], ◌∷◌, ◌++◌, get_or, length, set, Option, None, Some, refl, sym, ap, ◌∙◌, subst, inl, inr, arith}
 use Rattle.std.specs.Prelude.{IsTrue}
-use Rattle.std.specs.List.{AllByRecursion}
-use Rattle.std.proofs.lemmas.Bool.{false≢true, eqb-true, eq-eqb, or_cases, cases_eq}
-use Rattle.std.proofs.lemmas.List.{get_or-set_same, get_or-set_other, length-append, length-set}
-use Rattle.std.proofs.lemmas.List.Folds.{list_any-append}
-use Rattle.asp_model.specs.declared.program.Program.{Program}
+use Rattle.std.proofs.lemmas.Bool.{false≢true}
+use Rattle.std.proofs.lemmas.List.{length-set}
 use Rattle.asp_model.specs.declared.results.Mode.TheVariants.{Enum}
-use Rattle.asp_model.specs.Sets.{Atoms, has}
-use Rattle.asp_vars.specs.Literals.{Literal, complement}
+use Rattle.asp_vars.specs.Conflicts.{has_all}
+use Rattle.asp_vars.specs.Literals.{Literal}
 use Rattle.asp_vars.specs.Paid.{Clash, Units}
 use Rattle.asp_vars.specs.declared.nogood.Nogood.{Nogood}
 use Rattle.asp_path.specs.declared.status.Status.{Status}
 use Rattle.asp_path.specs.declared.status.Status.TheVariants as status
-use Rattle.asp_path.specs.Trees.{Node, cube_of, held_count, is_held, is_leaf, is_open, is_unclosed, nowhere, split, status_of, with_status}
+use Rattle.asp_path.specs.Trees.{Node, cube_of, held_count, is_held, is_leaf, is_open, status_of, with_status}
 use Rattle.asp_core.specs.declared.event.Event.{Event}
 use Rattle.asp_core.specs.declared.event.Event.TheVariants as event
 use Rattle.asp_core.specs.declared.task.Task.{Task}
-use Rattle.asp_core.specs.Boards.{Board, is_enough}
+use Rattle.asp_core.specs.Boards.{Board}
 use Rattle.asp_core.specs.Events.{Guard, happens, IsVariable}
 use Rattle.asp_core.proofs.PlaceLaws.{held_count-changed, held_count-split}
 use Rattle.asp_book.specs.Books.{Booked, board, with_events}
 use Rattle.asp_book.specs.Replies.{taken_this}
 use Rattle.asp_search.specs.Beside.{IsOpen}
 use Rattle.asp_search_laws.specs.Searching.{Searching}
-use Rattle.asp_crew.specs.declared.leaf.Left.TheVariants as crew
-use Rattle.asp_crew.specs.Running.{Ends, IsAlone, IsReady, LeavesLeaf, OnlyRecords, status_after}
+use Rattle.asp_crew_laws.specs.Reports.{IsMet}
+use Rattle.asp_crew.specs.Running.{IsAlone, IsReady, OnlyRecords}
 use Rattle.asp_crew.proofs.AddLaws.{adds-events, adds-self, adds-trans}
 use Rattle.asp_crew.proofs.BookLaws.{board-task, board-with, ready-with}
-use Rattle.asp_crew.proofs.FinishLaws.{IsTaken, alone-after, closes, free-now, opens-unpaid}
-use Rattle.asp_crew.proofs.TreeLaws.{status-set}
-use Rattle.asp_ledger.specs.Ledgers.{enumeration}
+use Rattle.asp_crew.proofs.FinishLaws.{IsTaken, alone-after, free-now}
+use Rattle.asp_crew.proofs.TreeLaws.{cube-set, status-set}
 use Rattle.asp_stream.specs.Leaves.{EndsLeaf, LeavesHeld, LeavesPart}
-use Rattle.asp_stream.specs.Streams.{Covers, divided_by}
+use Rattle.asp_stream.specs.Streams.{Covers, Knows, divided_by}
+use Rattle.asp_stream.specs.declared.leaf.Left.{Left}
 use Rattle.asp_stream.specs.declared.leaf.Left.TheVariants as left
 use Rattle.asp_stream.specs.declared.told.End.{End}
 use Rattle.asp_stream.specs.declared.told.End.TheVariants as end
 use Rattle.asp_stream.proofs.CoverLaws.{covers-none, first-status, length-split}
-use Rattle.asp_ledger.proofs.LedgerLaws.{no-limit}
 
 pub open-is : (s : Status) → is_open s ≡ true → s ≡ status.Open
 open-is status.Open e = refl
@@ -62,6 +58,10 @@ taken-is v w leaf s f is alone open_leaf now =
       pool = ap (λ (c : Board). c.pool) b;
     }
 
+-- nothing was recorded
+pub only-same : (v w : Booked) → w ≡ v → OnlyRecords v w
+only-same v w same = subst (OnlyRecords v) (sym same) (record { task = refl; adds = adds-self v; nodes = refl; out = refl; pool = refl })
+
 -- ---- parts in a row
 pub left-self : (v : Booked) (s : Searching) (f : Units) → IsReady Enum v s f → IsAlone (board v) → LeavesPart v v s f None
 left-self v s f ready alone = record { ready = ready; alone = alone; task = refl; adds = adds-self v; pool = refl; out = refl; over = tt }
@@ -79,14 +79,6 @@ left-on u v w s t f g how a b = record {
 
 pub left-finished : (u v : Booked) (s : Searching) (f : Units) → LeavesPart u v s f None → Covers (board v) [] → LeavesPart u v s f (Some end.Finished)
 left-finished u v s f a covers = record { ready = a.ready; alone = a.alone; task = a.task; adds = a.adds; pool = a.pool; out = a.out; over = covers-none (board v) covers }
-
--- the search's ends in asp_crew's words
-ends-closed : (v w : Booked) (leaf : ℕ) (s t : Searching) (g : Units) (n : Nogood) → w.task ≡ enumeration w.task.program w.task.budget →
-    EndsLeaf v w leaf s t g (left.Closed n) → Ends Enum v w s t g (crew.Closed n)
-ends-closed v w leaf s t g n task is = record { ready = is.ready; only = is.only; over = (no-limit w task, is.over) }
-
-ends-unpaid : (v w : Booked) (leaf : ℕ) (s t : Searching) (g : Units) (x : Clash) → EndsLeaf v w leaf s t g (left.Unpaid x) → Ends Enum v w s t g (crew.Unpaid x)
-ends-unpaid v w leaf s t g x is = record { ready = is.ready; only = is.only; over = is.over }
 
 -- ---- a leaf that was held
 -- what is left of it, after it was taken
@@ -107,35 +99,78 @@ one-less : (b c : Board) (leaf : ℕ) (new : Status) → status_of b.nodes leaf 
 one-less b c leaf new held nodes free =
     omega (arith, ap held_count nodes, held_count-changed b.nodes leaf (status.Held 0) new held refl, ap (λ x. let k : ℕ = cond x 1 0 in k) free)
 
--- w: the leaf is held; x: it was searched; y: at the end
-module _ (w x y : Booked) (leaf : ℕ) (s1 t : Searching) (g : Units) (q : List Literal) (held : status_of (board w).nodes leaf ≡ status.Held 0)
-    (task : x.task ≡ enumeration x.task.program x.task.budget) (cube : q ≡ cube_of (board w).nodes leaf) (entered : s1.cube ≡ Some q) where
-  pub after-closed : (n : Nogood) → EndsLeaf w x leaf s1 t g (left.Closed n) → y.task ≡ enumeration y.task.program y.task.budget →
-      y ≡ with_events x (event.Close 0 leaf n.lits ∷ []) → LeavesHeld w y leaf t g None
-  after-closed n ends task-y now =
-      let leaves : LeavesLeaf Enum w y leaf t g None = closes Enum w x y leaf q n s1 t g (ends-closed w x leaf s1 t g n task ends) held cube entered now in
+-- w: the leaf is held; x: it was searched
+module _ (w x : Booked) (leaf : ℕ) (s1 t : Searching) (g : Units) (q : List Literal) (held : status_of (board w).nodes leaf ≡ status.Held 0)
+    (cube : q ≡ cube_of (board w).nodes leaf) (entered : s1.cube ≡ Some q) where
+  pub still-held : (how : Left) → EndsLeaf w x leaf s1 t g how → status_of (board x).nodes leaf ≡ status.Held 0
+  still-held how ends = ap (λ (ns : List Node). status_of ns leaf) ends.only.nodes ∙ held
+
+  same-cube : (how : Left) → EndsLeaf w x leaf s1 t g how → q ≡ cube_of (board x).nodes leaf
+  same-cube how ends = cube ∙ ap (λ (ns : List Node). cube_of ns leaf) (sym ends.only.nodes)
+
+  -- the path is the leaf's still
+  pub still-there : (how : Left) → EndsLeaf w x leaf s1 t g how → Knows x t leaf
+  still-there how ends = record {
+    program = ends.ready.program;
+    mode = ends.ready.mode_is;
+    agrees = ends.ready.work.agrees;
+    cube = ends.cube ∙ entered ∙ ap (λ (k : List Literal). Some k) (same-cube how ends);
+  }
+
+  pub close-guard : (n : Nogood) → EndsLeaf w x leaf s1 t g (left.Closed n) → Guard (board x) (event.Close 0 leaf n.lits)
+  close-guard n ends = (
+    still-held (left.Closed n) ends,
+    subst (λ (k : List Literal). IsTrue (has_all k n.lits)) (same-cube (left.Closed n) ends) (ends.over q entered).0,
+    (ends.over q entered).1,
+  )
+
+  -- y: at the end
+  pub after-closed : (y : Booked) (n : Nogood) → EndsLeaf w x leaf s1 t g (left.Closed n) → y ≡ with_events x (event.Close 0 leaf n.lits ∷ []) → LeavesHeld w y leaf t g None
+  after-closed y n ends now =
+      let e : Event = event.Close 0 leaf n.lits in
+      let b : board y ≡ happens (board x) e = ap board now ∙ board-with x e in
       record {
-        ready = leaves.ready;
-        task = leaves.task;
-        adds = leaves.adds;
-        pool = leaves.pool;
-        out = leaves.out;
+        ready = ready-with Enum x y t g e ends.ready (close-guard n ends) refl now;
+        task = ap (λ (z : Booked). z.task) now ∙ ends.only.task;
+        adds = adds-trans w x y ends.only.adds (adds-events x y (e ∷ []) now (refl, tt));
+        pool = ap (λ (c : Board). c.pool) b ∙ ends.only.pool;
+        out = ap (λ (c : Board). c.out) b ∙ ends.only.out;
         free = one-less (board w) (board y) leaf status.Closed held
-            (leaves.nodes ∙ ap (λ z. with_status (board w).nodes leaf (status_after None z)) (no-limit y task-y)) refl;
+            (ap (λ (c : Board). c.nodes) b ∙ ap (λ (ns : List Node). with_status ns leaf status.Closed) ends.only.nodes) refl;
         over = tt;
       }
 
-  pub after-unpaid : (c : Clash) → EndsLeaf w x leaf s1 t g (left.Unpaid c) → y ≡ with_events x (event.Release 0 leaf ∷ []) → LeavesHeld w y leaf t g (Some (end.Unpaid c))
-  after-unpaid c ends now =
-      let leaves : LeavesLeaf Enum w y leaf t g (Some c) = opens-unpaid Enum w x y leaf q s1 t g held cube entered now c (ends-unpaid w x leaf s1 t g c ends) in
+  pub after-unpaid : (y : Booked) (c : Clash) → EndsLeaf w x leaf s1 t g (left.Unpaid c) → y ≡ with_events x (event.Release 0 leaf ∷ []) → LeavesHeld w y leaf t g (Some (end.Unpaid c))
+  after-unpaid y c ends now =
+      let e : Event = event.Release 0 leaf in
+      let b : board y ≡ happens (board x) e = ap board now ∙ board-with x e in
+      let nodes : (board y).nodes ≡ with_status (board x).nodes leaf status.Open = ap (λ (z : Board). z.nodes) b in
+      let still : status_of (board x).nodes leaf ≡ status.Held 0 = still-held (left.Unpaid c) ends in
+      let is_q : c.cube ≡ q = (let f : Some c.cube ≡ Some q = sym ends.over.2 ∙ entered in let h : c.cube ≡ q = cc in h) in
       record {
-        ready = leaves.ready;
-        task = leaves.task;
-        adds = leaves.adds;
-        pool = leaves.pool;
-        out = leaves.out;
-        free = one-less (board w) (board y) leaf status.Open held leaves.nodes refl;
-        over = (leaves.stopped.1, (leaf, leaves.stopped.2));
+        ready = ready-with Enum x y t g e ends.ready still refl now;
+        task = ap (λ (z : Booked). z.task) now ∙ ends.only.task;
+        adds = adds-trans w x y ends.only.adds (adds-events x y (e ∷ []) now (refl, tt));
+        pool = ap (λ (z : Board). z.pool) b ∙ ends.only.pool;
+        out = ap (λ (z : Board). z.out) b ∙ ends.only.out;
+        free = one-less (board w) (board y) leaf status.Open held (nodes ∙ ap (λ (ns : List Node). with_status ns leaf status.Open) ends.only.nodes) refl;
+        over = (
+          ends.over.1,
+          (
+            leaf,
+            record {
+              unclosed = ap (λ (ns : List Node). status_of ns leaf) nodes ∙ status-set (board x).nodes leaf status.Open (ap is_leaf still);
+              cube = is_q ∙ same-cube (left.Unpaid c) ends ∙ sym (cube-set (board x).nodes leaf status.Open (ap is_leaf still)) ∙ ap (λ (ns : List Node). cube_of ns leaf) (sym nodes);
+              met = subst (λ (z : Board). IsMet z c) (sym b) (record {
+                program = ends.over.3.program;
+                reasoning = ends.over.3.reasoning;
+                known = ends.over.3.known;
+                bound = ends.over.3.bound;
+                conflict = ends.over.3.conflict;
+              });
+            },
+          ),
+        );
       }
 
 -- what was searched, and then its leaf opened
@@ -160,13 +195,13 @@ module _ (w x y : Booked) (leaf : ℕ) (t : Searching) (g : Units) (held : statu
 
   -- or split, and its first half opened
   module _ (lit : Literal) (room : length (board x).nodes < 4194304) (opens : IsOpen x.task.program (cube_of (board x).nodes leaf) lit) where
-    e1 : Event
+    abbrev e1 : Event
     e1 = event.Split 0 leaf lit
 
-    n : ℕ
+    abbrev n : ℕ
     n = length (board x).nodes
 
-    m : Booked
+    abbrev m : Booked
     m = with_events x (e1 ∷ [])
 
     pub split-guard : Guard (board x) e1

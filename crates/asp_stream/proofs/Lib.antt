@@ -1,5 +1,9 @@
+pub mod CourseLaws
 pub mod CoverLaws
 pub mod EndLaws
 pub mod LeafLaws
 pub mod LowLaws
+pub mod PartLaws
+pub mod RunLaws
+pub mod SplitLaws
 pub mod StreamLaws

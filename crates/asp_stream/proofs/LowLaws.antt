@@ -1,11 +1,11 @@
 -- What a search knows of the answers still to come on its path is a low of its leaf.
-use Rattle.std.proofs.Common.{◌≡◌, ◌⊎◌, ℕ, zero, suc, ◌+◌, ◌<◌, Bool, true, false, ◌&&◌, ◌||◌, cond, eqb, List, [], ◌∷◌, ◌++◌, get_or, take, length, Option, None, Some, refl, sym, ap, ◌∙◌, subst, inl, inr, arith}
-use Rattle.std.specs.Prelude.{IsTrue, ℤ}
+use Rattle.std.proofs.Common.{◌≡◌, ◌⊎◌, ℕ, zero, suc, ◌+◌, ◌<◌, Bool, true, false, ◌&&◌, ◌||◌, cond, eqb, List, [], ◌∷◌, ◌++◌, get_or, take, length, Option, None, Some, Result, Ok, Err, refl, sym, ap, ◌∙◌, subst, inl, inr, arith}
+use Rattle.std.specs.Prelude.{IfOk, IsTrue, ℤ}
 use Rattle.std.specs.Bool.{beq}
 use Rattle.std.specs.List.{AllByRecursion, list_any}
 use Rattle.std.proofs.lemmas.Bool.{false≢true, and_parts, eqb-true, eq-eqb, or_cases, or_from}
 use Rattle.std.proofs.lemmas.List.{take_more}
-use Rattle.std.proofs.lemmas.List.Folds.{list_any-append}
+use Rattle.std.proofs.lemmas.List.Folds.{list_any-append, list_any_at}
 use Rattle.asp_model.specs.declared.program.Program.{Program}
 use Rattle.asp_model.specs.declared.results.Mode.{Mode}
 use Rattle.asp_model.specs.declared.results.Reasoning.{Reasoning}
@@ -15,13 +15,16 @@ use Rattle.asp_model.specs.Holding.{all_hold}
 use Rattle.asp_model.specs.Models.{atoms_of, is_stable}
 use Rattle.asp_model.specs.Sets.{Atoms, IsAscending, IsSubset, has}
 use Rattle.asp_model.proofs.SetLaws.{get_or-below}
-use Rattle.asp_model.proofs.MemberLaws.{each-append}
+use Rattle.asp_model.proofs.MemberLaws.{each-append, each_of, list_any-weaker}
 use Rattle.asp_vars.specs.Entailment.{is_done}
 use Rattle.asp_vars.specs.Literals.{Literal, T, complement, has_literal, hits}
-use Rattle.asp_vars.specs.Numbering.{values, var_of_atom}
+use Rattle.asp_vars.specs.Numbering.{IsVar, values, var_count, var_of_atom}
+use Rattle.asp_vars.specs.Tabled.{IsAtomVar}
 use Rattle.asp_vars.proofs.LiteralLaws.{hits-append, hits-has}
 use Rattle.asp_vars.proofs.NumberingLaws.{value-atom}
-use Rattle.asp_rows.specs.Bits.{IsAmong}
+use Rattle.asp_rows.specs.declared.row.Row.{Row}
+use Rattle.asp_rows.specs.Bits.{IsAmong, encode}
+use Rattle.asp_rows.specs.Listed.{IsRowOf}
 use Rattle.asp_path.specs.Trees.{cube_of, split}
 use Rattle.asp_core.specs.declared.event.Event.TheVariants as event
 use Rattle.asp_core.specs.declared.task.Task.{Task}
@@ -34,7 +37,7 @@ use Rattle.asp_search_laws.specs.Searching.{Searching, used}
 use Rattle.asp_watermark.specs.Floors.{IsLow}
 use Rattle.asp_watermark.proofs.LeafLaws.{second-cube}
 use Rattle.asp_ledger.specs.Ledgers.{enumeration}
-use Rattle.asp_stream.specs.Lows.{IsSure, IsSureVar, IsToCome}
+use Rattle.asp_stream.specs.Lows.{IsSure, IsSureVar, IsToCome, says_true}
 use Rattle.asp_stream.specs.Streams.{Knows}
 use Rattle.asp_ledger.proofs.LedgerLaws.{nothing-sought}
 
@@ -50,11 +53,11 @@ gathers-none P atoms = record { rising = tt; early = λ a h. absurd (false≢tru
 take-below : (atoms : List ℕ) (n b : ℕ) → IsAscending atoms → n < length atoms → has (take n atoms) b ≡ true → b < get_or atoms n 0
 take-below [] n b up lt h = absurd (omega (arith, lt))
 take-below (x ∷ atoms) zero b up lt h = absurd (false≢true h)
-take-below (x ∷ atoms) (suc n) b up lt h = here (or_cases (eqb x b) (has (take n atoms) b) h)
+take-below (x ∷ atoms) (suc n) b up lt h = here (take-below atoms n b up.1 (omega (arith, lt))) (or_cases (eqb x b) (has (take n atoms) b) h)
   where
-    here : ((eqb x b ≡ true) ⊎ (has (take n atoms) b ≡ true)) → b < get_or atoms n 0
-    here (inl e) = subst (λ k. k < get_or atoms n 0) (eqb-true x b e) (get_or-below x atoms n up.0 (omega (arith, lt)))
-    here (inr e) = take-below atoms n b up.1 (omega (arith, lt)) e
+    here : (has (take n atoms) b ≡ true → b < get_or atoms n 0) → ((eqb x b ≡ true) ⊎ (has (take n atoms) b ≡ true)) → b < get_or atoms n 0
+    here later (inl e) = subst (λ k. k < get_or atoms n 0) (eqb-true x b e) (get_or-below x atoms n up.0 (omega (arith, lt)))
+    here later (inr e) = later e
 
 each-below : (S : List ℕ) (a : ℕ) → ((b : ℕ) → has S b ≡ true → b < a) → IsAscending S → IsAscending (S ++ a ∷ [])
 each-below [] a below up = (tt, tt)
@@ -120,39 +123,64 @@ has-taken : (atoms : List ℕ) (n a : ℕ) → has (take n atoms) a ≡ true →
 has-taken [] zero a h = h
 has-taken [] (suc n) a h = h
 has-taken (x ∷ atoms) zero a h = absurd (false≢true h)
-has-taken (x ∷ atoms) (suc n) a h = here (or_cases (eqb x a) (has (take n atoms) a) h)
+has-taken (x ∷ atoms) (suc n) a h = here (has-taken atoms n a) (or_cases (eqb x a) (has (take n atoms) a) h)
   where
     or-true : (x : Bool) → (x || true) ≡ true
     or-true true = refl
     or-true false = refl
 
-    here : ((eqb x a ≡ true) ⊎ (has (take n atoms) a ≡ true)) → has (x ∷ atoms) a ≡ true
-    here (inl e) = ap (λ y. y || has atoms a) e
-    here (inr e) = ap (λ y. eqb x a || y) (has-taken atoms n a e) ∙ or-true (eqb x a)
+    here : (has (take n atoms) a ≡ true → has atoms a ≡ true) → ((eqb x a ≡ true) ⊎ (has (take n atoms) a ≡ true)) → has (x ∷ atoms) a ≡ true
+    here later (inl e) = ap (λ y. y || has atoms a) e
+    here later (inr e) = ap (λ y. eqb x a || y) (later e) ∙ or-true (eqb x a)
 
 pub gathers-among : (P : ℕ → Type 0) (atoms : List ℕ) (n : ℕ) (items : List ℕ) → Gathers P atoms n items → IsAmong atoms items
 gathers-among P atoms n items is = record { rising = is.rising; stand = λ a h. has-taken atoms n a (is.early a h) }
 
+pub has-at : (atoms all : List ℕ) (i : ℕ) → atoms ≡ all → i < length atoms → has all (get_or atoms i 0) ≡ true
+has-at atoms all i same lt =
+    subst (λ (l : List ℕ). has l (get_or atoms i 0) ≡ true) same (list_any_at (λ b. eqb b (get_or atoms i 0)) atoms i 0 lt (eq-eqb (get_or atoms i 0) (get_or atoms i 0) refl))
+
 -- ---- the atoms that are sure
-pub IsSureAtom : Searching → List Literal → ℕ → Type 0
+abbrev pub IsSureAtom : Searching → List Literal → ℕ → Type 0
 IsSureAtom s more a = (q : List Literal) (S : Atoms) → s.cube ≡ Some q → IsToCome s q more S → has S a ≡ true
 
 pub sure-atom : (s : Searching) (more : List Literal) (a v : ℕ) → has (atoms_of s.program) a ≡ true → v ≡ var_of_atom s.program a → IsSureVar s more v → IsSureAtom s more a
 sure-atom s more a v atom var sure q S entered comes =
     sym (value-atom s.program S a atom) ∙ ap (λ k. get_or (values s.program S) k false) (sym var) ∙ sure q S entered comes
 
-beq-true : (x : Bool) → beq x true ≡ true → x ≡ true
-beq-true true h = refl
-beq-true false h = h
+beq-same : (x : Bool) → beq x true ≡ x
+beq-same true = refl
+beq-same false = refl
 
-pub said-sure : (s : Searching) (more : List Literal) (v : ℕ) → has_literal more (T v) ≡ true → IsSureVar s more v
-said-sure s more v said q S entered comes = beq-true (get_or (values s.program S) v false) (hits-has (values s.program S) more (T v) comes.has said)
+said-literal : (lits : List Literal) (v : ℕ) → says_true lits v ≡ true → has_literal lits (T v) ≡ true
+said-literal lits v said =
+    list_any-weaker (λ (l : Literal). eqb l.var v && l.truth) (λ (l : Literal). eqb l.var v && beq l.truth true) lits
+    (each_of (λ (l : Literal). (eqb l.var v && l.truth) ≡ true → (eqb l.var v && beq l.truth true) ≡ true) (λ l e. ap (λ x. eqb l.var v && x) (beq-same l.truth) ∙ e) lits) said
+
+pub said-sure : (s : Searching) (more : List Literal) (v : ℕ) → says_true more v ≡ true → IsSureVar s more v
+said-sure s more v said q S entered comes =
+    sym (beq-same (get_or (values s.program S) v false)) ∙ hits-has (values s.program S) more (T v) comes.has (said-literal more v said)
 
 pub fixed-sure : (s : Searching) (more : List Literal) (v : ℕ) → IsFixed s v true → IsSureVar s more v
 fixed-sure s more v fixed q S entered comes = fixed q S entered comes.stable comes.path comes.new
 
 pub sure-set : (s : Searching) (more : List Literal) (atoms : List ℕ) (n : ℕ) (items : List ℕ) → Gathers (IsSureAtom s more) atoms n items → IsSure s more items
 sure-set s more atoms n items is q S entered comes a h = is.each a h q S entered comes
+
+pub atom-is-var : (p : Program) (v : ℕ) → IsAtomVar p v → IsVar (var_count p) v
+atom-is-var p v is = (is.0, omega (arith, is.1))
+
+-- ---- rows
+pub row-if : {E : Type 0} (r : Result Row E) (atoms all S : Atoms) → atoms ≡ all → IsAmong all S → IfOk r (λ row. row.words.items ≡ encode atoms S) → IfOk r (λ row. row.set ≡ S) → IfOk r (IsRowOf all)
+row-if (Ok row) atoms all S same among words set = record {
+  words = words ∙ ap (λ (A : Atoms). encode A S) same ∙ ap (encode all) (sym set);
+  among = subst (IsAmong all) (sym set) among;
+}
+row-if (Err e) atoms all S same among words set = tt
+
+pub sure-if : {E : Type 0} (r : Result Row E) (s : Searching) (more : List Literal) (S : Atoms) → IsSure s more S → IfOk r (λ row. row.set ≡ S) → IfOk r (λ row. IsSure s more row.set)
+sure-if (Ok row) s more S sure set = subst (IsSure s more) (sym set) sure
+sure-if (Err e) s more S sure set = tt
 
 -- ---- lows of leaves
 neither : (x y : Bool) → (x ≡ true → y ≡ true) → y ≡ false → x ≡ false

@@ -1,16 +1,16 @@
 -- A stream after an event, and what its reader heard.
-use Rattle.std.proofs.Common.{◌≡◌, ◌⊎◌, ℕ, zero, suc, ◌+◌, ◌<◌, Bool, true, false, ◌||◌, eqb, List, [], ◌∷◌, ◌++◌, filter, get_or, length, Option, None, Some, refl, sym, ap, ◌∙◌, subst, inl, inr, arith}
+use Rattle.std.proofs.Common.{◌≡◌, ◌⊎◌, ℕ, zero, suc, ◌+◌, ◌<◌, Bool, true, false, not, ◌||◌, eqb, List, [], ◌∷◌, ◌++◌, filter, get_or, length, Option, None, Some, refl, sym, ap, ◌∙◌, subst, inl, inr, arith}
 use Rattle.std.specs.Prelude.{IsTrue}
 use Rattle.std.specs.List.{AllByRecursion}
 use Rattle.std.proofs.lemmas.Bool.{false≢true, eq-eqb, cases_eq}
-use Rattle.std.proofs.lemmas.List.{length-set}
+use Rattle.std.proofs.lemmas.List.{length-append, length-set}
 use Rattle.std.proofs.lemmas.List.Folds.{list_any-append}
 use mathlib.Core.List.{IsPrefix}
 use Rattle.asp_model.specs.declared.program.Program.{Program}
 use Rattle.asp_model.specs.Models.{answers, atoms_of}
 use Rattle.asp_model.specs.declared.results.Mode.TheVariants.{Enum}
 use Rattle.asp_model.specs.Sets.{Atoms, has}
-use Rattle.asp_model.proofs.MemberLaws.{each-append}
+use Rattle.asp_model.proofs.MemberLaws.{each-append, each_weaker}
 use Rattle.asp_vars.specs.Literals.{Literal, complement}
 use Rattle.asp_rows.specs.declared.row.Row.{Row}
 use Rattle.asp_rows.specs.Listed.{IsRowOf}
@@ -19,7 +19,7 @@ use Rattle.asp_path.specs.Trees.{Node, cube_of, is_leaf, is_unclosed, nowhere, s
 use Rattle.asp_core.specs.declared.event.Event.{Event}
 use Rattle.asp_core.specs.declared.event.Event.TheVariants as event
 use Rattle.asp_core.specs.declared.task.Task.{Task}
-use Rattle.asp_core.specs.Boards.{Board}
+use Rattle.asp_core.specs.Boards.{Board, is_answer}
 use Rattle.asp_core.specs.Sorting.{answers_of}
 use Rattle.asp_core.specs.Events.{Guard, happens}
 use Rattle.asp_core.proofs.GrowthLaws.{Grows-happens}
@@ -28,46 +28,76 @@ use Rattle.asp_crew.proofs.BookLaws.{board-task, board-with}
 use Rattle.asp_crew.proofs.TreeLaws.{status-set}
 use Rattle.asp_crew_laws.specs.Runs.{asks}
 use Rattle.asp_crew_laws.proofs.FoundLaws.{answers-same}
-use Rattle.asp_watermark.specs.Floors.{IsLow, listed}
+use Rattle.asp_watermark.specs.Floors.{IsLow, is_below, listed}
 use Rattle.asp_watermark.proofs.BelowLaws.{all-below}
-use Rattle.asp_watermark.proofs.FloorLaws.{IsLow-first}
+use Rattle.asp_watermark.proofs.FloorLaws.{IsFloor-start, IsLow-first, IsLow-nothing}
 use Rattle.asp_backlog.specs.Backlogs.{Pending, with_waiting}
 use Rattle.asp_ledger.specs.Ledgers.{enumeration}
 use Rattle.asp_backlog.specs.Telling.{IsTold}
-use Rattle.asp_stream.specs.Streams.{Covers, HasHalves, IsFrontOf, IsPart, IsStream, divided_by, leaves_of}
+use Rattle.asp_stream.specs.Streams.{Covers, HasHalves, IsFrontOf, IsPart, IsStream, MayRise, divided_by, leaves_of}
 use Rattle.asp_stream.specs.declared.part.Part.{Part}
-use Rattle.asp_stream.proofs.CoverLaws.{first-status, has-later, length-split, parts-happen, status-other}
-use Rattle.asp_ledger.proofs.LedgerLaws.{board-enumerates, board-is, nothing-sought}
-use Rattle.asp_backlog.proofs.ToldLaws.{told-delivered, told-front, told-happens}
+use Rattle.asp_stream.proofs.CoverLaws.{first-status, floor-at, has-later, length-split, parts-happen, status-other}
+use Rattle.asp_ledger.proofs.LedgerLaws.{board-enumerates, board-is, lists-all, no-limit, nothing-sought}
+use Rattle.asp_backlog.proofs.ToldLaws.{told-delivered, told-front, told-happens, told-raised}
 
 -- an enumeration lists the program's answers
 pub listed-are : (v : Booked) → v.task ≡ enumeration v.task.program v.task.budget → listed (board v).task ≡ answers v.task.program
 listed-are v task =
     ap listed (board-enumerates v task) ∙ all-below (answers_of (enumeration v.task.program v.task.budget)) ∙ answers-same v.task.program (asks Enum 0 false) v.task.budget
 
+-- nothing has happened
+pub stream-started : (p : Program) (budget : ℕ) (x : Part) → x.leaf ≡ 0 → x.low.set ≡ [] → IsRowOf (atoms_of p) x.low →
+    IsStream p (record { task = enumeration p budget; journal = [] }) 0 [] (record { atoms = atoms_of p; floor = []; sets = [] }) (x ∷ []) (leaves_of (x ∷ []))
+stream-started p budget x leaf set row = record {
+  program = refl;
+  counted = refl;
+  told = record { atoms = refl; floor = IsFloor-start (board v); heard_is = refl; waiting = refl };
+  parts_are = (
+    record {
+      within = subst (λ k. k < length (board v).nodes) (sym leaf) (omega arith);
+      low = subst (IsLow (board v) x.leaf) (sym set) (IsLow-nothing (board v) x.leaf);
+      row = row;
+    },
+    tt,
+  );
+  covers = here;
+}
+  where
+    v : Booked
+    v = record { task = enumeration p budget; journal = [] }
+
+    here : (m : ℕ) → is_unclosed (status_of (board v).nodes m) ≡ true → has (leaves_of (x ∷ [])) m ≡ true
+    here zero h = ap (λ y. y || false) (eq-eqb x.leaf 0 leaf)
+    here (suc m) h = absurd (false≢true h)
+
 -- an event that delivers nothing
-pub stream-happens : (p : Program) (v w : Booked) (heard : List Atoms) (q : Pending) (parts : List Part) (leaves after : List ℕ) (e : Event) →
-    IsStream p v heard q parts leaves → Guard (board v) e → w ≡ with_events v (e ∷ []) → (happens (board v) e).answers ≡ (board v).answers → Covers (board w) after →
-    IsStream p w heard q parts after
+pub stream-happens : {count : ℕ} (p : Program) (v w : Booked) (heard : List Atoms) (q : Pending) (parts : List Part) (leaves after : List ℕ) (e : Event) →
+    IsStream p v count heard q parts leaves → Guard (board v) e → w ≡ with_events v (e ∷ []) → (happens (board v) e).answers ≡ (board v).answers → Covers (board w) after →
+    IsStream p w count heard q parts after
 stream-happens p v w heard q parts leaves after e is guard now answers covers =
     let b : board w ≡ happens (board v) e = ap board now ∙ board-with v e in
     record {
       program = ap (λ (z : Booked). z.task.program) now ∙ is.program;
+      counted = is.counted;
       told = subst (λ (c : Board). IsTold c heard q) (sym b) (told-happens (board v) e heard q guard (Grows-happens (board v) e guard).task answers is.told);
       parts_are = subst (λ (c : Board). AllByRecursion (IsPart c) parts) (sym b) (parts-happen (board v) e parts guard is.parts_are);
       covers = covers;
     }
 
+pub deliver-guard : (v : Booked) (S : Atoms) → v.task ≡ enumeration v.task.program v.task.budget → is_answer v.task S ≡ true → Guard (board v) (event.Deliver 0 S)
+deliver-guard v S task answer = (lists-all v task S, ap (λ (t : Task). is_answer t S) (board-task v) ∙ answer, no-limit v task)
+
 -- a delivery
-pub stream-delivered : (p : Program) (v w : Booked) (S : Atoms) (heard : List Atoms) (q : Pending) (parts : List Part) (leaves : List ℕ) →
+pub stream-delivered : {count : ℕ} (p : Program) (v w : Booked) (S : Atoms) (heard : List Atoms) (q : Pending) (parts : List Part) (leaves : List ℕ) →
     v.task ≡ enumeration v.task.program v.task.budget → IsJournalOf v.task v.journal → Guard (board v) (event.Deliver 0 S) →
-    w ≡ with_events v (event.Deliver 0 S ∷ []) → IsStream p v heard q parts leaves →
-    IsStream p w heard (record q { sets = with_waiting q.floor S q.sets }) parts leaves
+    w ≡ with_events v (event.Deliver 0 S ∷ []) → IsStream p v count heard q parts leaves →
+    IsStream p w count heard (record q { sets = with_waiting q.floor S q.sets }) parts leaves
 stream-delivered p v w S heard q parts leaves task lawful guard now is =
     let e : Event = event.Deliver 0 S in
     let b : board w ≡ happens (board v) e = ap board now ∙ board-with v e in
     record {
       program = ap (λ (z : Booked). z.task.program) now ∙ is.program;
+      counted = is.counted;
       told = subst (λ (c : Board). IsTold c heard (record q { sets = with_waiting q.floor S q.sets })) (sym b)
           (told-delivered (board v) S heard q (board-is v task lawful) (nothing-sought v task) guard is.told);
       parts_are = subst (λ (c : Board). AllByRecursion (IsPart c) parts) (sym b) (parts-happen (board v) e parts guard is.parts_are);
@@ -80,12 +110,48 @@ pub front-of-told : (v : Booked) (heard : List Atoms) (q : Pending) → v.task �
 front-of-told v heard q task lawful is =
     subst (IsPrefix heard) (listed-are v task) (told-front (board v) heard q (board-is v task lawful) (nothing-sought v task) is)
 
-pub front-of : (p r : Program) (v : Booked) (heard : List Atoms) (q : Pending) (parts : List Part) (leaves : List ℕ) →
-    v.task ≡ enumeration v.task.program v.task.budget → IsJournalOf v.task v.journal → r ≡ p → IsStream p v heard q parts leaves → IsFrontOf p r heard
+pub front-of : {count : ℕ} (p r : Program) (v : Booked) (heard : List Atoms) (q : Pending) (parts : List Part) (leaves : List ℕ) →
+    v.task ≡ enumeration v.task.program v.task.budget → IsJournalOf v.task v.journal → r ≡ p → IsStream p v count heard q parts leaves → IsFrontOf p r heard
 front-of p r v heard q parts leaves task lawful same is = record {
   program = same;
   front = subst (λ (x : Program). IsPrefix heard (answers x)) is.program (front-of-told v heard q task lawful is.told);
 }
+
+-- ---- the floor rises
+-- the atoms of what waits are the program's
+pub stream-atoms : {count : ℕ} (p : Program) (v : Booked) (heard : List Atoms) (q : Pending) (parts : List Part) (leaves : List ℕ) → IsStream p v count heard q parts leaves →
+    q.atoms ≡ atoms_of p
+stream-atoms p v heard q parts leaves is = is.told.atoms ∙ ap (λ (t : Task). atoms_of t.program) (board-task v) ∙ ap atoms_of is.program
+
+pub stream-rows : {count : ℕ} (p : Program) (v : Booked) (heard : List Atoms) (q : Pending) (parts : List Part) (leaves : List ℕ) → IsStream p v count heard q parts leaves →
+    AllByRecursion (λ (x : Part). IsRowOf (atoms_of p) x.low) parts
+stream-rows p v heard q parts leaves is =
+    each_weaker (IsPart (board v)) (λ (x : Part). IsRowOf (atoms_of p) x.low)
+    (λ x part. subst (λ (A : Atoms). IsRowOf A x.low) (ap (λ (t : Task). atoms_of t.program) (board-task v) ∙ ap atoms_of is.program) part.row) parts is.parts_are
+
+pub stream-raised : {count : ℕ} (p : Program) (v : Booked) (leaf : ℕ) (low : Atoms) (heard : List Atoms) (q : Pending) (parts : List Part) →
+    IsStream p v count heard q parts (leaf ∷ leaves_of parts) → IsLow (board v) leaf low → MayRise q.floor parts low →
+    IsStream p v (count + length (filter (is_below (Some low)) q.sets)) (heard ++ filter (is_below (Some low)) q.sets)
+    (record q { floor = low; sets = filter (λ S. not (is_below (Some low) S)) q.sets }) parts (leaf ∷ leaves_of parts)
+stream-raised p v leaf low heard q parts is low-is may = record {
+  program = is.program;
+  counted = ap (λ k. k + length (filter (is_below (Some low)) q.sets)) is.counted ∙ sym (length-append heard (filter (is_below (Some low)) q.sets));
+  told = told-raised (board v) heard q low is.told (floor-at (board v) leaf q.floor low parts low-is is.parts_are may is.covers) may.higher;
+  parts_are = is.parts_are;
+  covers = is.covers;
+}
+
+-- and by what was seen of it
+pub stream-rose : (p : Program) (v : Booked) (leaf : ℕ) (low : Atoms) (count n : ℕ) (heard after sets : List Atoms) (q w : Pending) (parts : List Part) →
+    IsStream p v count heard q parts (leaf ∷ leaves_of parts) → IsLow (board v) leaf low → MayRise q.floor parts low → sets ≡ filter (is_below (Some low)) q.sets →
+    n ≡ count + length sets → after ≡ heard ++ sets → w ≡ record q { floor = low; sets = filter (λ S. not (is_below (Some low) S)) q.sets } →
+    IsStream p v n after w parts (leaf ∷ leaves_of parts)
+stream-rose p v leaf low count n heard after sets q w parts is low-is may sets-are counted heard-is waits =
+    subst (λ k. IsStream p v k after w parts (leaf ∷ leaves_of parts)) (sym (counted ∙ ap (λ (X : List Atoms). count + length X) sets-are))
+    (subst (λ (X : List Atoms). IsStream p v (count + length (filter (is_below (Some low)) q.sets)) X w parts (leaf ∷ leaves_of parts))
+        (sym (heard-is ∙ ap (λ (X : List Atoms). heard ++ X) sets-are))
+        (subst (λ (z : Pending). IsStream p v (count + length (filter (is_below (Some low)) q.sets)) (heard ++ filter (is_below (Some low)) q.sets) z parts (leaf ∷ leaves_of parts)) (sym waits)
+            (stream-raised p v leaf low heard q parts is low-is may)))
 
 -- ---- a leaf that is split
 stood : (nodes : List Node) (x y : Node) (m : ℕ) →
@@ -158,13 +224,14 @@ leaves-halves : (parts : List Part) (right left : Part) → leaves_of (parts ++ 
 leaves-halves [] right left = refl
 leaves-halves (p ∷ parts) right left = ap (λ (l : List ℕ). p.leaf ∷ l) (leaves-halves parts right left)
 
-pub stream-divided : (p : Program) (x : Booked) (leaf : ℕ) (l : Literal) (first second : Row) (heard : List Atoms) (q : Pending) (parts new : List Part) →
-    IsStream p x heard q parts (leaf ∷ leaves_of parts) → Guard (board x) (event.Split 0 leaf l) →
+pub stream-divided : {count : ℕ} (p : Program) (x : Booked) (leaf : ℕ) (l : Literal) (first second : Row) (heard : List Atoms) (q : Pending) (parts new : List Part) →
+    IsStream p x count heard q parts (leaf ∷ leaves_of parts) → Guard (board x) (event.Split 0 leaf l) →
     IsLow (board x) leaf first.set → IsLow (happens (board x) (event.Split 0 leaf l)) (length (board x).nodes + 1) second.set →
     IsRowOf (atoms_of (board x).task.program) first → IsRowOf (atoms_of (board x).task.program) second →
-    HasHalves (length (board x).nodes, length (board x).nodes + 1) first second parts new → IsStream p (divided_by x leaf l) heard q new (leaves_of new)
+    HasHalves (length (board x).nodes, length (board x).nodes + 1) first second parts new → IsStream p (divided_by x leaf l) count heard q new (leaves_of new)
 stream-divided p x leaf l first second heard q parts new is guard low low2 row row2 halves = record {
   program = is.program;
+  counted = is.counted;
   told = subst (λ (c : Board). IsTold c heard q) (sym b2) (told-happens b1 e2 heard q guard2 refl refl (told-happens (board x) e1 heard q guard refl refl is.told));
   parts_are = subst (λ (c : Board). AllByRecursion (IsPart c) new) (sym b2) (parts-happen b1 e2 new guard2 halves-are);
   covers = subst (Covers (board y)) (sym leaves) (covers-divided (board x) leaf l (leaves_of parts) (board y) nodes is.covers (ap is_leaf guard.0));

@@ -9,9 +9,7 @@ use Rattle.asp_book.specs.Books.{Booked, board}
 use Rattle.asp_search.specs.Beside.{IsOpen}
 use Rattle.asp_search_laws.specs.Searching.{Searching}
 use Rattle.asp_crew_laws.specs.Reports.{IsUnpaidAt}
-use Rattle.asp_crew.specs.declared.leaf.Course.{Course as CrewCourse}
-use Rattle.asp_crew.specs.declared.leaf.Course.TheVariants as crew
-use Rattle.asp_crew.specs.Running.{Adds, IsAlone, IsClosing, IsReady, IsStopped, OnlyRecords}
+use Rattle.asp_crew.specs.Running.{Adds, IsAlone, IsClosing, IsReady, IsStopped, IsUnderway, OnlyRecords, work_left}
 use Rattle.asp_stream.specs.declared.leaf.Course.{Course}
 use Rattle.asp_stream.specs.declared.leaf.Course.TheVariants as course
 use Rattle.asp_stream.specs.declared.leaf.Left.{Left}
@@ -23,11 +21,18 @@ use Rattle.asp_stream.specs.declared.told.End.TheVariants as end
 use Rattle.asp_backlog.specs.Telling.{IsTold}
 use Rattle.asp_stream.specs.Streams.{IsStreamOf, leaves_of}
 
--- how a step left the path, in asp_crew's words
-abbrev pub course_of : Course → CrewCourse
-course_of course.Open = crew.Open
-course_of (course.Closed n) = crew.Closed n
-course_of (course.Unpaid x) = crew.Unpaid x
+-- what is known of the way in which a step left the path
+abbrev pub IsCourse : Board → Searching → Searching → Units → Units → Course → Type 0
+IsCourse b s t f g course.Open = work_left t g < work_left s f
+IsCourse b s t f g (course.Closed n) = IsClosing b s n.lits
+IsCourse b s t f g (course.Unpaid x) = IsStopped b s g x
+
+-- one step on a path
+pub record GoesOn (v w : Booked) (s t : Searching) (f g : Units) (how : Course) : Type 0 where
+  pub underway : IsUnderway Enum w t g
+  pub only : OnlyRecords v w
+  pub cube : t.cube ≡ s.cube
+  pub course : IsCourse (board w) s t f g how
 
 -- what is known of the way in which a search left the leaf
 abbrev pub IsLeft : Booked → ℕ → Searching → Units → Left → Type 0
@@ -67,8 +72,10 @@ abbrev pub parts_left : Booked → List Part → ℕ
 parts_left v parts = (4194306 - length (board v).nodes) + length parts
 
 -- At the end what was told and what waits go with the board still; where leaves are left, each that isn't closed is a part's.
-abbrev pub IsStreamAtEnd : Stream → List Atoms → Type 0
-IsStreamAtEnd s heard = (s.ledger.task.program ≡ s.compiled.now) × IsTold (board s.ledger) heard s.backlog
+pub record IsStreamAtEnd (s : Stream) (heard : List Atoms) : Type 0 where
+  pub program : s.ledger.task.program ≡ s.compiled.now
+  pub told : IsTold (board s.ledger) heard s.backlog
+  pub counted : s.heard ≡ length heard
 
 abbrev pub IsStreamAfter : Stream → List Atoms → Option End → Type 0
 IsStreamAfter s heard None = IsStreamOf s heard (leaves_of s.parts.items)

@@ -1,5 +1,6 @@
 -- What a search knows of the answers still to come on its path.
-use Rattle.std.specs.Prelude.{◌≡◌, ℕ, true, false, List, Some, slice_index_or, IsTrue}
+use Rattle.std.specs.Prelude.{◌≡◌, ℕ, ◌==◌, Bool, true, false, ◌&&◌, List, Some, slice_index_or, IsTrue}
+use Rattle.std.specs.List.{list_any}
 use Rattle.asp_model.specs.Sets.{Atoms, IsSubset}
 use Rattle.asp_model.specs.Models.{is_stable}
 use Rattle.asp_vars.specs.Entailment.{is_done}
@@ -21,3 +22,7 @@ IsSureVar s more v = (q : List Literal) (S : Atoms) → s.cube ≡ Some q → Is
 -- Each of these answers has all atoms of the set.
 abbrev pub IsSure : Searching → List Literal → Atoms → Type 0
 IsSure s more low = (q : List Literal) (S : Atoms) → s.cube ≡ Some q → IsToCome s q more S → IsSubset low S
+
+-- whether one of the literals says that the variable is true
+abbrev pub says_true : List Literal → ℕ → Bool
+says_true lits v = list_any (λ l. (l.var == v) && l.truth) lits

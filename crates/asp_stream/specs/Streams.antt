@@ -39,15 +39,16 @@ leaves_of parts = map (λ (p : Part). p.leaf) parts
 abbrev pub Covers : Board → List ℕ → Type 0
 Covers b leaves = (leaf : ℕ) → IsTrue (is_unclosed (status_of b.nodes leaf)) → IsTrue (has leaves leaf)
 
--- A stream of the program's answers, whose leaves that aren't closed are among these.
-pub record IsStream (p : Program) (v : Booked) (heard : List Atoms) (w : Pending) (parts : List Part) (leaves : List ℕ) : Type 0 where
+-- A stream of the program's answers, whose leaves that aren't closed are among these. So many were heard.
+pub record IsStream (p : Program) (v : Booked) (count : ℕ) (heard : List Atoms) (w : Pending) (parts : List Part) (leaves : List ℕ) : Type 0 where
   pub program : v.task.program ≡ p
+  pub counted : count ≡ length heard
   pub told : IsTold (board v) heard w
   pub parts_are : AllByRecursion (IsPart (board v)) parts
   pub covers : Covers (board v) leaves
 
 abbrev pub IsStreamOf : Stream → List Atoms → List ℕ → Type 0
-IsStreamOf s heard leaves = IsStream s.compiled.now s.ledger heard s.backlog s.parts.items leaves
+IsStreamOf s heard leaves = IsStream s.compiled.now s.ledger s.heard heard s.backlog s.parts.items leaves
 
 -- Nothing has happened, nothing waits, and the one part is the tree's one leaf.
 pub record IsStart (p : Program) (budget : ℕ) (s : Stream) : Type 0 where

@@ -1,6 +1,7 @@
 //! One leaf, by one search, whose answers are told while it goes on.
-ghost use Rattle.std.specs.Prelude.{◌≡◌, ◌+◌, ◌∷◌, ◌<◌, ◌≤◌, List, None, ℕ, IfOk, IsSome, Some, length};
+ghost use Rattle.std.specs.Prelude.{◌≡◌, ◌+◌, ◌∷◌, ◌<◌, ◌≤◌, false, List, None, ℕ, IfOk, IsSome, Some, length};
 ghost use Rattle.std.specs.List.{All};
+ghost use Rattle.asp_model.specs.Models.{atoms_of};
 ghost use Rattle.asp_model.specs.Sets.{Atoms};
 ghost use Rattle.asp_model.specs.declared.results.Mode.TheVariants.{Enum};
 ghost use Rattle.asp_vars.specs.Numbering.{var_count};
@@ -10,9 +11,9 @@ ghost use Rattle.asp_path.specs.Trees.{cube_of, status_of};
 ghost use Rattle.asp_core.specs.Invariant.{IsCube};
 ghost use Rattle.asp_book.specs.Books.{board};
 ghost use Rattle.asp_search_laws.specs.Steps.{IsStep};
-ghost use Rattle.asp_crew.specs.Running.{Goes, IsAlone, IsReady, IsUnderway};
+ghost use Rattle.asp_crew.specs.Running.{IsAlone, IsReady, IsUnderway};
 ghost use Rattle.asp_stream.specs.Streams.{IsFrontOf, IsPart, IsStreamOf, leaves_of};
-ghost use Rattle.asp_stream.specs.Leaves.{EndsLeaf, IsStreamAfter, LeavesHeld, LeavesPart, course_of, parts_left};
+ghost use Rattle.asp_stream.specs.Leaves.{EndsLeaf, GoesOn, IsStreamAfter, LeavesHeld, LeavesPart, parts_left};
 
 use crate::part::Part;
 use crate::stream::{Stream, View, divide, look, tell};
@@ -77,13 +78,17 @@ fn advance<P: Propagator>(
     counts: &mut Counts,
 ) -> Result<Course, AllocError>
     requires underway { IsUnderway Enum stream.old.ledger search.old fuel.old }
-    ensures goes { IfOk result (λ c. Goes Enum stream.old.ledger stream.new.ledger search.old search.new fuel.old fuel.new (course_of c)) }
+    requires program { stream.old.ledger.task.program ≡ stream.old.compiled.now }
+    requires atoms { stream.old.backlog.atoms ≡ atoms_of stream.old.compiled.now }
+    ensures goes { IfOk result (GoesOn stream.old.ledger stream.new.ledger search.old search.new fuel.old fuel.new) }
     ensures stream { IfOk result (λ c. (heard : List Atoms) (leaves : List ℕ) → IsStreamOf stream.old heard leaves → IsStreamOf stream.new heard leaves) }
     ensures same { (stream.new.compiled ≡ stream.old.compiled) × (stream.new.parts ≡ stream.old.parts) }
 {
     stream.ledger.lawful();
     match step(search, fuel, counts)? {
-        Step::Decided | Step::Learnt | Step::Restarted => Ok(Course::Open),
+        Step::Decided => Ok(Course::Open),
+        Step::Learnt => Ok(Course::Open),
+        Step::Restarted => Ok(Course::Open),
         Step::Answer(set) => {
             stream.deliver(&set)?;
             Ok(Course::Open)
@@ -110,11 +115,13 @@ fn run<P: Propagator, W: Watch, R: Reader>(
     requires program { R.program reader.old ≡ stream.old.compiled.now }
     ensures same { (stream.new.compiled ≡ stream.old.compiled) × (stream.new.parts ≡ stream.old.parts) }
     ensures ends { IfOk result (EndsLeaf stream.old.ledger stream.new.ledger leaf search.old search.new fuel.new) }
+    ensures unwanted { IfOk result (λ left. left ≡ Left.Unwanted → R.wants reader.new ≡ false) }
     ensures stream { IfOk result (λ left. IsStreamOf stream.new (R.heard reader.new) (leaf ∷ leaves_of stream.new.parts.items)) }
     ensures front { IsFrontOf stream.old.compiled.now (R.program reader.new) (R.heard reader.new) }
     ensures after { R.IsAfter reader.old reader.new }
     ensures heard { W.IsAfter watch.old watch.new }
 {
+    stream.ledger.lawful();
     'steps: loop {
         let course = advance(stream, search, fuel, counts)?;
         watch.tell(counts, None);
@@ -161,6 +168,7 @@ fn search_leaf<P: Propagator, W: Watch, R: Reader>(
     ensures leaves { IfOk result (LeavesHeld stream.old.ledger stream.new.ledger leaf search.new fuel.new) }
     ensures less { IfOk result (λ end. end ≡ None → parts_left stream.new.ledger stream.new.parts.items < 1 + parts_left stream.old.ledger stream.old.parts.items) }
     ensures stream { IfOk result (IsStreamAfter stream.new (R.heard reader.new)) }
+    ensures unwanted { IfOk result (λ end. end ≡ Some End.Unwanted → R.wants reader.new ≡ false) }
     ensures front { IsFrontOf stream.old.compiled.now (R.program reader.new) (R.heard reader.new) }
     ensures after { R.IsAfter reader.old reader.new }
     ensures heard { W.IsAfter watch.old watch.new }
@@ -208,6 +216,7 @@ pub(crate) fn work_off<P: Propagator, W: Watch, R: Reader>(
     ensures leaves { IfOk result (LeavesPart stream.old.ledger stream.new.ledger search.new fuel.new) }
     ensures less { IfOk result (λ end. end ≡ None → parts_left stream.new.ledger stream.new.parts.items < 1 + parts_left stream.old.ledger stream.old.parts.items) }
     ensures stream { IfOk result (IsStreamAfter stream.new (R.heard reader.new)) }
+    ensures unwanted { IfOk result (λ end. end ≡ Some End.Unwanted → R.wants reader.new ≡ false) }
     ensures front { IsFrontOf stream.old.compiled.now (R.program reader.new) (R.heard reader.new) }
     ensures after { R.IsAfter reader.old reader.new }
     ensures heard { W.IsAfter watch.old watch.new }
@@ -219,10 +228,12 @@ pub(crate) fn work_off<P: Propagator, W: Watch, R: Reader>(
         own,
         factor,
     } = part;
-    if !stream.ledger.take(leaf)? {
+    let taken = stream.ledger.take(leaf)?;
+    if !taken {
         return Ok(None);
     }
-    if !tell(stream, leaf, low, reader)? {
+    let wanted = tell(stream, leaf, low, reader)?;
+    if !wanted {
         stream.ledger.release(leaf)?;
         return Ok(Some(End::Unwanted));
     }

@@ -1,10 +1,9 @@
 //! The least set that an answer still to come may be.
 ghost use Rattle.std.specs.Prelude.{◌≡◌, ◌++◌, ◌∷◌, [], if◌then◌else◌, IfOk, OnOk, IsTrue};
 ghost use Rattle.asp_model.specs.Models.{atoms_of};
-ghost use Rattle.asp_vars.specs.Literals.{T, has_literal};
 ghost use Rattle.asp_vars.specs.Numbering.{IsVar, var_count};
 ghost use Rattle.asp_rows.specs.Listed.{IsRowOf};
-ghost use Rattle.asp_stream.specs.Lows.{IsSure, IsSureVar};
+ghost use Rattle.asp_stream.specs.Lows.{IsSure, IsSureVar, says_true};
 
 use asp_model::interp::Interp;
 use asp_model::program::Atom;
@@ -17,14 +16,9 @@ use std::alloc::{AllocError, Global};
 
 // Whether one of the literals says that the variable is true.
 fn says_true(lits: &[Lit], var: Var) -> bool
-    ensures { IsTrue result → IsTrue (has_literal lits.now (T var)) }
+    ensures { result ≡ says_true lits.now var }
 {
-    for lit in lits {
-        if lit.var() == var && lit.truth() {
-            return true;
-        }
-    }
-    false
+    lits.iter().any(|lit| lit.var() == var && lit.truth())
 }
 
 // Whether the variable is true in each answer still to come on the path that has these literals too.
@@ -45,9 +39,10 @@ fn is_sure<P: Propagator>(search: &Search<'_, P>, more: &[Lit], var: Var) -> boo
 fn push_if(set: &mut Vec<Atom>, atom: Atom, sure: bool) -> Result<(), AllocError>
     ensures { OnOk result (set.new.items ≡ (if sure then set.old.items ++ atom ∷ [] else set.old.items)) }
 {
-    if sure {
-        set.push(atom)?;
+    if !sure {
+        return Ok(());
     }
+    set.push(atom)?;
     Ok(())
 }
 

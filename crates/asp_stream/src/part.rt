@@ -5,6 +5,7 @@ ghost use Rattle.asp_model.specs.Sets.{IsAscending};
 ghost use Rattle.asp_rows.specs.Listed.{IsRowOf};
 ghost use Rattle.asp_watermark.specs.Floors.{is_below};
 
+use asp_backlog::backlog::is_before;
 use asp_model::program::Atom;
 use asp_path::tree::Leaf;
 use asp_rows::row::Row;
@@ -29,9 +30,8 @@ pub(crate) fn none_before(parts: &[Part], row: &Row, atoms: &[Atom]) -> bool
     requires parts { AllByRecursion (λ p. IsRowOf atoms.now p.low) parts.now }
     ensures { IsTrue result → AllByRecursion (λ p. is_below (Some row.now.set) p.low.set ≡ false) parts.now }
 {
-    let _ = atoms;
     for part in parts {
-        if part.low < *row {
+        if is_before(&part.low, row, atoms) {
             return false;
         }
     }

@@ -1,12 +1,12 @@
 //! A run of one search that tells its answers while it goes on.
-ghost use Rattle.std.specs.Prelude.{◌≡◌, ◌+◌, [], List, None, Some, IfOk, replicate};
+ghost use Rattle.std.specs.Prelude.{◌≡◌, ◌+◌, false, Bool, ℕ, [], List, None, Some, IfOk, replicate};
 ghost use Rattle.asp_model.specs.Sets.{Atoms};
 ghost use Rattle.asp_model.specs.declared.results.Mode.TheVariants.{Enum};
 ghost use Rattle.asp_vars.specs.Numbering.{var_count};
+ghost use Rattle.asp_core.specs.Units.{out_of};
 ghost use Rattle.asp_book.specs.Books.{board};
-ghost use Rattle.asp_search_laws.specs.Searching.{Searching};
 ghost use Rattle.asp_crew.specs.Running.{IsAlone, IsReady};
-ghost use Rattle.asp_stream.specs.Streams.{IsFrontOf, IsStart, IsStreamOf, leaves_of};
+ghost use Rattle.asp_stream.specs.Streams.{IsFrontOf, IsStreamOf, leaves_of};
 ghost use Rattle.asp_stream.specs.Leaves.{IsStreamAtEnd, LeavesPart};
 ghost use Rattle.asp_stream.specs.Endings.{IsOver, IsTellingOf};
 
@@ -41,10 +41,12 @@ fn work_off_all<P: Propagator, W: Watch, R: Reader>(
     ensures compiled { stream.new.compiled ≡ stream.old.compiled }
     ensures leaves { IfOk result (λ end. LeavesPart stream.old.ledger stream.new.ledger search.new fuel.new (Some end)) }
     ensures stream { IfOk result (λ end. IsStreamAtEnd stream.new (R.heard reader.new)) }
+    ensures unwanted { IfOk result (λ end. end ≡ End.Unwanted → R.wants reader.new ≡ false) }
     ensures front { IsFrontOf stream.old.compiled.now (R.program reader.new) (R.heard reader.new) }
     ensures after { R.IsAfter reader.old reader.new }
     ensures heard { W.IsAfter watch.old watch.new }
 {
+    stream.ledger.lawful();
     'parts: loop {
         match stream.parts.pop() {
             None => return Ok(End::Finished),
@@ -57,7 +59,11 @@ fn work_off_all<P: Propagator, W: Watch, R: Reader>(
 }
 
 // What is to be said of the stream, where the fuel's units were those of its search.
-fn told(stream: Stream<'_>, fuel: Fuel, end: End) -> Result<Told, AllocError> {
+fn told(stream: Stream<'_>, fuel: Fuel, end: End) -> Result<Told, AllocError>
+    requires units { fuel.left + fuel.burnt ≡ out_of (board stream.ledger).out 0 }
+    ensures { IfOk result (λ r. (budget : ℕ) (heard : List Atoms) (wants : Bool) → IsOver stream.entry.compiled.now budget stream.entry.ledger fuel end
+        → IsStreamAtEnd stream.entry heard → (end ≡ End.Unwanted → wants ≡ false) → IsTellingOf stream.entry.compiled.now budget heard wants r) }
+{
     let Stream {
         alloc: _,
         compiled: _,
@@ -67,6 +73,7 @@ fn told(stream: Stream<'_>, fuel: Fuel, end: End) -> Result<Told, AllocError> {
         pace: _,
         heard,
     } = stream;
+    ledger.lawful();
     ledger.back(&fuel)?;
     ledger.lawful();
     let leaves = ledger.leaves();

@@ -1,9 +1,10 @@
 //! What was told, what waits and what is to be worked on.
-ghost use Rattle.std.specs.Prelude.{◌≡◌, ◌+◌, ◌∷◌, ◌<◌, ◌^◌, [], ℕ, List, length, Some, IfOk, IfSome, IsSome, IsTrue, OnOk};
+ghost use Rattle.std.specs.Prelude.{◌≡◌, ◌+◌, ◌∷◌, ◌<◌, ◌^◌, [], ℕ, List, false, length, Some, IfOk, IfSome, IsSome, IsTrue, OnOk};
 ghost use Rattle.std.specs.List.{AllByRecursion};
 ghost use Rattle.asp_model.specs.Models.{atoms_of};
 ghost use Rattle.asp_model.specs.Sets.{Atoms};
 ghost use Rattle.asp_vars.specs.Literals.{Literal};
+ghost use Rattle.asp_vars.specs.Numbering.{IsVar, var_count};
 ghost use Rattle.asp_vars.specs.Paid.{Units};
 ghost use Rattle.asp_rows.specs.Listed.{IsRowOf};
 ghost use Rattle.asp_path.specs.declared.status.Status.TheVariants as status;
@@ -14,7 +15,7 @@ ghost use Rattle.asp_book.specs.Books.{board, with_events};
 ghost use Rattle.asp_search.specs.Beside.{IsOpen};
 ghost use Rattle.asp_search_laws.specs.Searching.{Searching};
 ghost use Rattle.asp_watermark.specs.Floors.{IsLow};
-ghost use Rattle.asp_stream.specs.Streams.{HasHalves, IsCrowded, IsFrontOf, IsStart, IsStreamOf, IsToSplit, Keeps, Knows, MayRise, divided_by, leaves_of};
+ghost use Rattle.asp_stream.specs.Streams.{HasHalves, IsCrowded, IsFrontOf, IsStart, IsStreamOf, Keeps, Knows, MayRise, divided_by, leaves_of};
 
 use asp_backlog::backlog::Backlog;
 use asp_ledger::ledger::Ledger;
@@ -113,7 +114,8 @@ impl<'a> Stream<'a> {
     {
         self.ledger.lawful();
         self.ledger.deliver(set)?;
-        self.backlog.add(set)
+        self.backlog.add(set)?;
+        Ok(())
     }
 }
 
@@ -157,6 +159,7 @@ fn raise<R: Reader>(
     requires rises { MayRise stream.old.backlog.floor stream.old.parts.items low.set }
     ensures keeps { Keeps stream.old stream.new }
     ensures stream { IfOk result (λ wanted. IsStreamOf stream.new (R.heard reader.new) (leaf ∷ leaves_of stream.new.parts.items)) }
+    ensures unwanted { IfOk result (λ wanted. wanted ≡ false → R.wants reader.new ≡ false) }
     ensures front { IsFrontOf stream.old.compiled.now (R.program reader.new) (R.heard reader.new) }
     ensures after { R.IsAfter reader.old reader.new }
 {
@@ -180,6 +183,7 @@ pub(crate) fn tell<R: Reader>(
     requires row { IsRowOf (atoms_of stream.old.compiled.now) low }
     ensures keeps { Keeps stream.old stream.new }
     ensures stream { IfOk result (λ wanted. IsStreamOf stream.new (R.heard reader.new) (leaf ∷ leaves_of stream.new.parts.items)) }
+    ensures unwanted { IfOk result (λ wanted. wanted ≡ false → R.wants reader.new ≡ false) }
     ensures front { IsFrontOf stream.old.compiled.now (R.program reader.new) (R.heard reader.new) }
     ensures after { R.IsAfter reader.old reader.new }
 {
@@ -206,6 +210,7 @@ fn splits<P: Propagator>(
     last: Option<&Row>,
     bit: Option<Bit>,
 ) -> bool
+    requires { IsVar (var_count search.now.program) lit.var }
     ensures { (q : List Literal) → search.now.cube ≡ Some q → IsTrue result → IsOpen search.now.program q lit }
 {
     if !search.is_open(lit) {
@@ -220,6 +225,7 @@ fn splits<P: Propagator>(
 
 // The literal by which the leaf is to be split, if it is: that its least open atom is false.
 fn cut<P: Propagator>(stream: &Stream<'_>, search: &Search<'_, P>) -> Option<Lit>
+    requires { search.now.program ≡ stream.now.compiled.now }
     ensures open { (q : List Literal) → search.now.cube ≡ Some q → IfSome result (IsOpen search.now.program q) }
     ensures room { IsSome result → length (board stream.now.ledger).nodes < 4194304 }
 {
@@ -251,6 +257,7 @@ pub(crate) fn look<P: Propagator, R: Reader>(
     ensures keeps { Keeps stream.old stream.new }
     ensures stream { IfOk result (λ view. IsStreamOf stream.new (R.heard reader.new) (leaf ∷ leaves_of stream.new.parts.items)) }
     ensures view { IfOk result (IsCrowded stream.old.ledger leaf) }
+    ensures unwanted { IfOk result (λ view. view ≡ View.Unwanted → R.wants reader.new ≡ false) }
     ensures front { IsFrontOf stream.old.compiled.now (R.program reader.new) (R.heard reader.new) }
     ensures after { R.IsAfter reader.old reader.new }
 {
@@ -258,7 +265,7 @@ pub(crate) fn look<P: Propagator, R: Reader>(
     if !stream.pace.is_due(stream.backlog.len()) {
         return Ok(View::Open);
     }
-    let low = low(stream.alloc, stream.compiled, search, [].as_slice())?;
+    let low = low(stream.alloc, stream.compiled, search, &[])?;
     if !tell(stream, leaf, low, reader)? {
         return Ok(View::Unwanted);
     }
@@ -326,19 +333,21 @@ pub(crate) fn divide<P: Propagator>(
     requires program { stream.old.ledger.task.program ≡ stream.old.compiled.now }
     requires open { IsOpen stream.old.ledger.task.program (cube_of (board stream.old.ledger).nodes leaf) lit }
     requires room { length (board stream.old.ledger).nodes < 4194304 }
+    ensures compiled { stream.new.compiled ≡ stream.old.compiled }
     ensures ledger { OnOk result (stream.new.ledger ≡ divided_by stream.old.ledger leaf lit) }
     ensures parts { OnOk result (length stream.new.parts.items ≡ length stream.old.parts.items + 2) }
     ensures stream { OnOk result ((heard : List Atoms) → IsStreamOf stream.old heard (leaf ∷ leaves_of stream.old.parts.items) → IsStreamOf stream.new heard (leaves_of stream.new.parts.items)) }
 {
     stream.ledger.lawful();
-    let first = low(stream.alloc, stream.compiled, search, [].as_slice())?;
+    let first = low(stream.alloc, stream.compiled, search, &[])?;
     let more = [lit.complement()];
     let second = low(stream.alloc, stream.compiled, search, more.as_slice())?;
     match stream.ledger.split(leaf, lit)? {
         None => unreachable!(),
         Some(leaves) => {
             stream.ledger.release(leaves.0)?;
-            push_halves(stream, leaves, lit, first, second)
+            push_halves(stream, leaves, lit, first, second)?;
+            Ok(())
         }
     }
 }
