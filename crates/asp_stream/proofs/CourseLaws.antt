@@ -1,5 +1,5 @@
 -- Steps on the path of a leaf, by one search for all answers.
-use Rattle.std.proofs.Common.{◌≡◌, ℕ, ◌+◌, ◌^◌, ◌<◌, ◌≤◌, Bool, true, List, [], ◌∷◌, length, Option, Some, refl, sym, ap, ◌∙◌, subst, inl, arith}
+use Rattle.std.proofs.Common.{◌≡◌, ℕ, ◌+◌, ◌<◌, ◌≤◌, Bool, true, List, [], ◌∷◌, length, Option, Some, refl, sym, ap, ◌∙◌, subst, inl, arith}
 use Rattle.std.specs.Prelude.{not}
 use Rattle.asp_model.specs.Sets.{Atoms}
 use Rattle.asp_model.specs.declared.results.Mode.TheVariants.{Enum}
@@ -9,7 +9,6 @@ use Rattle.asp_vars.specs.Paid.{Clash, Units}
 use Rattle.asp_vars.specs.declared.nogood.Nogood.{Nogood}
 use Rattle.asp_path.specs.Trees.{Node, cube_of}
 use Rattle.asp_core.specs.declared.event.Event.TheVariants as event
-use Rattle.asp_core.specs.declared.task.Task.{Task}
 use Rattle.asp_core.specs.Invariant.{IsCube}
 use Rattle.asp_book.specs.Books.{Booked, board, with_events}
 use Rattle.asp_search.specs.Beside.{Enters, IsOpen}

@@ -1,6 +1,6 @@
 -- What is said at the end is a report.
-use Rattle.std.proofs.Common.{◌≡◌, ℕ, ◌+◌, ◌-◌, ◌^◌, ◌<◌, ◌≤◌, min, Bool, true, false, cond, ◌||◌, eqb, List, [], ◌∷◌, ◌++◌, length, Option, Some, None, refl, sym, ap, ◌∙◌, subst, inl, arith}
-use Rattle.std.specs.Prelude.{ℤ, IsTrue, option_map}
+use Rattle.std.proofs.Common.{◌≡◌, ℕ, ◌+◌, ◌-◌, ◌^◌, ◌<◌, min, Bool, true, false, cond, ◌||◌, eqb, List, [], ◌∷◌, ◌++◌, length, Option, Some, None, refl, sym, ap, ◌∙◌, subst, inl, arith}
+use Rattle.std.specs.Prelude.{IsTrue, option_map}
 use Rattle.std.specs.Option.{IfSome}
 use Rattle.std.proofs.lemmas.Bool.{false≢true, eqb-true}
 use Rattle.asp_model.specs.declared.program.Program.{Program}
@@ -11,14 +11,13 @@ use Rattle.asp_vars.specs.Paid.{Clash, Units}
 use Rattle.asp_path.specs.Trees.{all_closed, leaf_count}
 use Rattle.asp_core.specs.declared.event.Event.{Event}
 use Rattle.asp_core.specs.declared.event.Event.TheVariants as event
-use Rattle.asp_core.specs.declared.goal.Goal.{Goal}
 use Rattle.asp_core.specs.declared.goal.Goal.TheVariants as goal
 use Rattle.asp_core.specs.declared.task.Task.{Task}
 use Rattle.asp_core.specs.Boards.{Board, common_by, is_answer, is_enough, listed_by, optimises, showing_of, sought}
-use Rattle.asp_core.specs.Events.{Guard, happens}
+use Rattle.asp_core.specs.Events.{happens}
 use Rattle.asp_core.specs.Invariant.{IsBoard}
 use Rattle.asp_core.specs.Sorting.{sorted_once}
-use Rattle.asp_core.specs.Units.{out_of, total_out}
+use Rattle.asp_core.specs.Units.{out_of}
 use Rattle.asp_core.proofs.GrowthLaws.{Grows-happens}
 use Rattle.asp_core.proofs.UnitLaws.{out_of-le-total}
 use Rattle.asp_book.specs.Books.{Booked, board, with_events, IsJournalOf}
@@ -29,12 +28,11 @@ use Rattle.asp_search_laws.specs.Searching.{Searching}
 use Rattle.asp_crew_laws.specs.declared.report.Report.{Report}
 use Rattle.asp_crew_laws.specs.Reports.{IsIdle, IsReport, IsToldBy, IsWorkedOff, end_by, end_of}
 use Rattle.asp_crew_laws.specs.Runs.{asks, with_cost}
-use Rattle.asp_crew_laws.specs.Working.{MayBegin}
 use Rattle.asp_crew_laws.proofs.PlayedLaws.{open-left}
 use Rattle.asp_crew.specs.Running.{IsReady, IsThrough, LeavesAll, QueryStands}
 use Rattle.asp_crew.proofs.BookLaws.{board-task, board-with}
-use Rattle.asp_crew.proofs.FinishLaws.{IsLeased, all_of, finished, idle-after, leased-is, leased-works, ready-begins, task-after}
-use Rattle.asp_crew.proofs.ReportLaws.{reports, told-by}
+use Rattle.asp_crew.proofs.FinishLaws.{IsLeased, all_of, finished, idle-after, leased-is, leased-works, ready-begins}
+use Rattle.asp_crew.proofs.ReportLaws.{reports}
 use Rattle.asp_backlog.specs.Backlogs.{Pending}
 use Rattle.asp_stream.specs.Endings.{IsOver, IsTellingOf, Tells, all_units, end_of as told_end, report_of, start_of, unpaid_of}
 use Rattle.asp_stream.specs.Leaves.{LeavesPart}

@@ -1,19 +1,17 @@
 -- What a search knows of the answers still to come on its path is a low of its leaf.
-use Rattle.std.proofs.Common.{◌≡◌, ◌⊎◌, ℕ, zero, suc, ◌+◌, ◌<◌, Bool, true, false, ◌&&◌, ◌||◌, cond, eqb, List, [], ◌∷◌, ◌++◌, get_or, take, length, Option, None, Some, Result, Ok, Err, refl, sym, ap, ◌∙◌, subst, inl, inr, arith}
-use Rattle.std.specs.Prelude.{IfOk, IsTrue, ℤ}
+use Rattle.std.proofs.Common.{◌≡◌, ◌⊎◌, ℕ, zero, suc, ◌+◌, ◌<◌, Bool, true, false, ◌&&◌, ◌||◌, cond, eqb, List, [], ◌∷◌, ◌++◌, get_or, take, length, Option, Some, Result, Ok, Err, refl, sym, ap, ◌∙◌, subst, inl, inr, arith}
+use Rattle.std.specs.Prelude.{IfOk}
 use Rattle.std.specs.Bool.{beq}
-use Rattle.std.specs.List.{AllByRecursion, list_any}
-use Rattle.std.proofs.lemmas.Bool.{false≢true, and_parts, eqb-true, eq-eqb, or_cases, or_from}
+use Rattle.std.proofs.lemmas.Bool.{false≢true, and_parts, eqb-true, eq-eqb, or_cases}
 use Rattle.std.proofs.lemmas.List.{take_more}
 use Rattle.std.proofs.lemmas.List.Folds.{list_any-append, list_any_at}
 use Rattle.asp_model.specs.declared.program.Program.{Program}
-use Rattle.asp_model.specs.declared.results.Mode.{Mode}
 use Rattle.asp_model.specs.declared.results.Reasoning.{Reasoning}
 use Rattle.asp_model.specs.Asked.{reasoning_of}
 use Rattle.asp_model.specs.Consequences.{used_up}
 use Rattle.asp_model.specs.Holding.{all_hold}
 use Rattle.asp_model.specs.Models.{atoms_of, is_stable}
-use Rattle.asp_model.specs.Sets.{Atoms, IsAscending, IsSubset, has}
+use Rattle.asp_model.specs.Sets.{Atoms, IsAscending, has}
 use Rattle.asp_model.proofs.SetLaws.{get_or-below}
 use Rattle.asp_model.proofs.MemberLaws.{each-append, each_of, list_any-weaker}
 use Rattle.asp_vars.specs.Entailment.{is_done}
@@ -25,15 +23,15 @@ use Rattle.asp_vars.proofs.NumberingLaws.{value-atom}
 use Rattle.asp_rows.specs.declared.row.Row.{Row}
 use Rattle.asp_rows.specs.Bits.{IsAmong, encode}
 use Rattle.asp_rows.specs.Listed.{IsRowOf}
-use Rattle.asp_path.specs.Trees.{cube_of, split}
+use Rattle.asp_path.specs.Trees.{cube_of}
 use Rattle.asp_core.specs.declared.event.Event.TheVariants as event
 use Rattle.asp_core.specs.declared.task.Task.{Task}
-use Rattle.asp_core.specs.Boards.{Board, is_answer, is_excused, sought, wanted}
+use Rattle.asp_core.specs.Boards.{is_answer, is_excused, sought, wanted}
 use Rattle.asp_core.specs.Events.{happens}
 use Rattle.asp_book.specs.Books.{Booked, board}
 use Rattle.asp_crew.proofs.BookLaws.{board-task}
 use Rattle.asp_search.specs.Sure.{IsFixed}
-use Rattle.asp_search_laws.specs.Searching.{Searching, used}
+use Rattle.asp_search_laws.specs.Searching.{Searching}
 use Rattle.asp_watermark.specs.Floors.{IsLow}
 use Rattle.asp_watermark.proofs.LeafLaws.{second-cube}
 use Rattle.asp_ledger.specs.Ledgers.{enumeration}

@@ -1,6 +1,5 @@
 -- A stream while a part is worked on: its leaf is taken, and then closed, split or opened again.
-use Rattle.std.proofs.Common.{◌≡◌, ℕ, ◌+◌, ◌-◌, ◌<◌, Bool, true, false, List, [], ◌∷◌, length, Option, None, Some, refl, sym, ap, ◌∙◌, subst, arith}
-use Rattle.std.specs.Prelude.{IsTrue}
+use Rattle.std.proofs.Common.{◌≡◌, ℕ, ◌+◌, ◌-◌, ◌<◌, Bool, true, false, List, [], ◌∷◌, length, refl, sym, ap, ◌∙◌, subst, arith}
 use Rattle.std.specs.List.{AllByRecursion}
 use Rattle.std.proofs.lemmas.List.{length-set}
 use mathlib.Core.List.{IsPrefix}
@@ -8,11 +7,10 @@ use Rattle.asp_model.specs.declared.program.Program.{Program}
 use Rattle.asp_model.specs.Models.{answers, atoms_of}
 use Rattle.asp_model.specs.Sets.{Atoms}
 use Rattle.asp_vars.specs.Literals.{Literal}
-use Rattle.asp_rows.specs.declared.row.Row.{Row}
 use Rattle.asp_rows.specs.Listed.{IsRowOf}
 use Rattle.asp_path.specs.declared.status.Status.{Status}
 use Rattle.asp_path.specs.declared.status.Status.TheVariants as status
-use Rattle.asp_path.specs.Trees.{Node, cube_of, is_leaf, is_open, status_of, with_status}
+use Rattle.asp_path.specs.Trees.{cube_of, is_leaf, is_open, status_of, with_status}
 use Rattle.asp_core.specs.declared.event.Event.{Event}
 use Rattle.asp_core.specs.declared.event.Event.TheVariants as event
 use Rattle.asp_core.specs.declared.task.Task.{Task}
@@ -24,12 +22,11 @@ use Rattle.asp_book.specs.Replies.{taken_this}
 use Rattle.asp_crew.specs.Running.{IsAlone}
 use Rattle.asp_crew.proofs.BookLaws.{board-task, board-with}
 use Rattle.asp_crew.proofs.FinishLaws.{free-now}
-use Rattle.asp_watermark.specs.Floors.{IsLow}
 use Rattle.asp_backlog.specs.Telling.{IsTold}
 use Rattle.asp_backlog.proofs.ToldLaws.{told-happens}
 use Rattle.asp_ledger.specs.Ledgers.{enumeration}
 use Rattle.asp_stream.specs.Leaves.{IsStreamAtEnd, parts_left}
-use Rattle.asp_stream.specs.Streams.{Covers, IsFrontOf, IsPart, IsStream, IsStreamOf, leaves_of}
+use Rattle.asp_stream.specs.Streams.{Covers, IsFrontOf, IsPart, IsStreamOf, leaves_of}
 use Rattle.asp_stream.specs.declared.part.Part.{Part}
 use Rattle.asp_stream.specs.declared.stream.Stream.{Stream}
 use Rattle.asp_stream.proofs.CoverLaws.{covers-closed, covers-set, covers-without, part-happens, parts-happen}

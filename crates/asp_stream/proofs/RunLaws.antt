@@ -1,6 +1,5 @@
 -- A run: it begins with all units, and one part after another is worked on.
-use Rattle.std.proofs.Common.{◌≡◌, ℕ, ◌+◌, ◌<◌, ◌≤◌, ◌^◌, Bool, true, false, cond, ◌||◌, eqb, List, [], ◌∷◌, ◌++◌, length, Option, None, Some, refl, sym, ap, ◌∙◌, subst, arith}
-use Rattle.std.specs.Prelude.{IsTrue}
+use Rattle.std.proofs.Common.{◌≡◌, ℕ, ◌+◌, ◌<◌, ◌≤◌, Bool, true, false, cond, ◌||◌, eqb, List, [], ◌∷◌, ◌++◌, length, refl, sym, ap, ◌∙◌, subst, arith}
 use Rattle.std.specs.List.{AllByRecursion}
 use Rattle.std.proofs.lemmas.List.{length-append}
 use Rattle.std.proofs.lemmas.List.Folds.{list_any-append}
@@ -15,7 +14,7 @@ use Rattle.asp_core.specs.Boards.{Board}
 use Rattle.asp_book.specs.Books.{Booked, board, with_events}
 use Rattle.asp_book.specs.Replies.{leased_out}
 use Rattle.asp_crew.proofs.BookLaws.{board-with}
-use Rattle.asp_stream.specs.Leaves.{IsStreamAtEnd, parts_left}
+use Rattle.asp_stream.specs.Leaves.{parts_left}
 use Rattle.asp_stream.specs.Streams.{Covers, IsFrontOf, IsPart, IsStart, IsStreamOf, leaves_of}
 use Rattle.asp_stream.specs.Endings.{all_units}
 use Rattle.asp_stream.specs.declared.part.Part.{Part}

@@ -1,6 +1,5 @@
 -- A leaf that is looked at, and one that is split: its first half is held still, and opened.
-use Rattle.std.proofs.Common.{◌≡◌, ℕ, ◌+◌, ◌<◌, List, [], ◌∷◌, length, Option, Some, refl, sym, ap, ◌∙◌, subst}
-use Rattle.std.specs.Prelude.{IsSome}
+use Rattle.std.proofs.Common.{◌≡◌, ℕ, ◌+◌, ◌<◌, List, [], ◌∷◌, length, Option, Some, sym, ap, ◌∙◌, subst}
 use Rattle.std.specs.Option.{IfSome}
 use Rattle.asp_model.specs.declared.program.Program.{Program}
 use Rattle.asp_model.specs.Models.{atoms_of}
@@ -22,7 +21,7 @@ use Rattle.asp_crew.proofs.BookLaws.{board-task, board-with}
 use Rattle.asp_backlog.specs.Backlogs.{Pending}
 use Rattle.asp_ledger.specs.Ledgers.{enumeration}
 use Rattle.asp_stream.specs.Lows.{IsSure}
-use Rattle.asp_stream.specs.Streams.{HasHalves, IsCrowded, IsStream, Knows, divided_by, leaves_of}
+use Rattle.asp_stream.specs.Streams.{HasHalves, IsStream, Knows, divided_by, leaves_of}
 use Rattle.asp_stream.specs.declared.part.Part.{Part}
 use Rattle.asp_stream.specs.declared.stream.View.TheVariants as view
 use Rattle.asp_stream.proofs.CoverLaws.{first-status}

@@ -1,6 +1,5 @@
 -- A stream after an event, and what its reader heard.
-use Rattle.std.proofs.Common.{◌≡◌, ◌⊎◌, ℕ, zero, suc, ◌+◌, ◌<◌, Bool, true, false, not, ◌||◌, eqb, List, [], ◌∷◌, ◌++◌, filter, get_or, length, Option, None, Some, refl, sym, ap, ◌∙◌, subst, inl, inr, arith}
-use Rattle.std.specs.Prelude.{IsTrue}
+use Rattle.std.proofs.Common.{◌≡◌, ◌⊎◌, ℕ, zero, suc, ◌+◌, ◌<◌, Bool, true, false, not, ◌||◌, eqb, List, [], ◌∷◌, ◌++◌, filter, get_or, length, Some, refl, sym, ap, ◌∙◌, subst, inl, inr, arith}
 use Rattle.std.specs.List.{AllByRecursion}
 use Rattle.std.proofs.lemmas.Bool.{false≢true, eq-eqb, cases_eq}
 use Rattle.std.proofs.lemmas.List.{length-append, length-set}
@@ -22,7 +21,6 @@ use Rattle.asp_core.specs.declared.task.Task.{Task}
 use Rattle.asp_core.specs.Boards.{Board, is_answer}
 use Rattle.asp_core.specs.Sorting.{answers_of}
 use Rattle.asp_core.specs.Events.{Guard, happens}
-use Rattle.asp_core.proofs.GrowthLaws.{Grows-happens}
 use Rattle.asp_book.specs.Books.{Booked, board, with_events, IsJournalOf}
 use Rattle.asp_crew.proofs.BookLaws.{board-task, board-with}
 use Rattle.asp_crew.proofs.TreeLaws.{status-set}

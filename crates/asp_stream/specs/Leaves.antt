@@ -2,7 +2,7 @@
 use Rattle.std.specs.Prelude.{◌≡◌, ℕ, ◌+◌, ◌-◌, ◌<◌, List, [], length, Option, None, Some}
 use Rattle.asp_model.specs.Sets.{Atoms}
 use Rattle.asp_model.specs.declared.results.Mode.TheVariants.{Enum}
-use Rattle.asp_vars.specs.Paid.{Clash, Units}
+use Rattle.asp_vars.specs.Paid.{Units}
 use Rattle.asp_path.specs.Trees.{cube_of, held_count, open_from}
 use Rattle.asp_core.specs.Boards.{Board}
 use Rattle.asp_book.specs.Books.{Booked, board}

@@ -1,5 +1,5 @@
 -- What a stream is between two steps: what was told, what waits, where the floor is, and which leaves wait to be worked on.
-use Rattle.std.specs.Prelude.{◌≡◌, ◌⊎◌, ℕ, ◌+◌, ◌<◌, Bool, true, false, not, List, [], ◌∷◌, ◌++◌, filter, length, map, Option, None, Some, IsTrue}
+use Rattle.std.specs.Prelude.{◌≡◌, ℕ, ◌+◌, ◌<◌, false, List, [], ◌∷◌, ◌++◌, length, map, Some, IsTrue}
 use Rattle.std.specs.List.{AllByRecursion}
 use mathlib.Core.List.{IsPrefix}
 use Rattle.asp_model.specs.declared.program.Program.{Program}
@@ -12,12 +12,11 @@ use Rattle.asp_rows.specs.Listed.{IsRowOf}
 use Rattle.asp_path.specs.Trees.{cube_of, is_unclosed, status_of}
 use Rattle.asp_core.specs.declared.event.Event.TheVariants as event
 use Rattle.asp_core.specs.Boards.{Board}
-use Rattle.asp_core.specs.Sorting.{sorted_once}
 use Rattle.asp_book.specs.Books.{Booked, board, with_events}
 use Rattle.asp_search.specs.Beside.{IsOpen}
 use Rattle.asp_search_laws.specs.Searching.{Searching}
 use Rattle.asp_crew_laws.specs.Agrees.{Agrees}
-use Rattle.asp_watermark.specs.Floors.{IsFloor, IsLow, is_below, passed}
+use Rattle.asp_watermark.specs.Floors.{IsLow, is_below}
 use Rattle.asp_backlog.specs.Backlogs.{Pending}
 use Rattle.asp_backlog.specs.Telling.{IsTold}
 use Rattle.asp_ledger.specs.Ledgers.{enumeration}

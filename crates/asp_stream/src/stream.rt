@@ -5,7 +5,6 @@ ghost use Rattle.asp_model.specs.Models.{atoms_of};
 ghost use Rattle.asp_model.specs.Sets.{Atoms};
 ghost use Rattle.asp_vars.specs.Literals.{Literal};
 ghost use Rattle.asp_vars.specs.Numbering.{IsVar, var_count};
-ghost use Rattle.asp_vars.specs.Paid.{Units};
 ghost use Rattle.asp_rows.specs.Listed.{IsRowOf};
 ghost use Rattle.asp_path.specs.declared.status.Status.TheVariants as status;
 ghost use Rattle.asp_path.specs.Trees.{cube_of, status_of};
@@ -13,7 +12,6 @@ ghost use Rattle.asp_core.specs.Boards.{is_answer};
 ghost use Rattle.asp_core.specs.declared.event.Event.TheVariants as event;
 ghost use Rattle.asp_book.specs.Books.{board, with_events};
 ghost use Rattle.asp_search.specs.Beside.{IsOpen};
-ghost use Rattle.asp_search_laws.specs.Searching.{Searching};
 ghost use Rattle.asp_watermark.specs.Floors.{IsLow};
 ghost use Rattle.asp_stream.specs.Streams.{HasHalves, IsCrowded, IsFrontOf, IsStart, IsStreamOf, Keeps, Knows, MayRise, divided_by, leaves_of};
 

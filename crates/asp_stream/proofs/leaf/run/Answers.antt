@@ -1,14 +1,12 @@
-use Rattle.std.proofs.Common.{◌≡◌, ℕ, ◌<◌, ◌∷◌, length, refl, sym, ap, ◌∙◌, subst}
+use Rattle.std.proofs.Common.{◌<◌, length, refl, sym, ◌∙◌, subst}
 use Rattle.asp_model.specs.declared.results.Mode.TheVariants.{Enum}
-use Rattle.asp_vars.specs.Literals.{Literal}
 use Rattle.asp_path.specs.Trees.{cube_of}
 use Rattle.asp_book.specs.Books.{Booked, board}
 use Rattle.asp_search.specs.Beside.{IsOpen}
 use Rattle.asp_crew.proofs.StepLaws.{along-begins}
 use Rattle.asp_stream.specs.Leaves.{GoesOn}
-use Rattle.asp_stream.specs.Streams.{IsCrowded, leaves_of}
+use Rattle.asp_stream.specs.Streams.{IsCrowded}
 use Rattle.asp_stream.specs.declared.leaf.Course.{Course}
-use Rattle.asp_stream.specs.declared.stream.View.{View}
 use Rattle.asp_stream.proofs.CourseLaws.{along-same, along-step, ends-closed, ends-crowded, ends-unpaid, ends-unwanted, knows-now}
 use Rattle.asp_stream.proofs.PartLaws.{front-same, leaves-same, program-same, stream-atoms, stream-front}
 use Rattle.asp_stream.proofs.leaf.run.Goals as goal

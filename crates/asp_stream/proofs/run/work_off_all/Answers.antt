@@ -3,7 +3,7 @@ use Rattle.asp_stream.specs.Leaves.{IsStreamAfter, LeavesPart}
 use Rattle.asp_stream.specs.declared.told.End.{End}
 use Rattle.asp_stream.proofs.LeafLaws.{left-finished, left-on, left-self}
 use Rattle.asp_stream.proofs.PartLaws.{front-same, program-same, stream-front}
-use Rattle.asp_stream.proofs.RunLaws.{covers-nothing, fewer-parts, part-popped, stream-over, stream-popped}
+use Rattle.asp_stream.proofs.RunLaws.{covers-nothing, fewer-parts, part-popped, stream-popped}
 use Rattle.asp_stream.proofs.run.work_off_all.Goals as goal
 
 pub parts-init : goal.parts-init

@@ -1,10 +1,9 @@
-use Rattle.std.proofs.Common.{◌≡◌, ◌∷◌, ◌<◌, length, refl, sym, ap, ◌∙◌, subst}
+use Rattle.std.proofs.Common.{◌∷◌, ◌<◌, length, refl, sym, ap, ◌∙◌, subst}
 use Rattle.asp_model.specs.declared.program.Program.{Program}
 use Rattle.asp_path.specs.Trees.{cube_of}
 use Rattle.asp_book.specs.Books.{Booked, board}
 use Rattle.asp_search.specs.Beside.{IsOpen}
 use Rattle.asp_stream.specs.Streams.{leaves_of}
-use Rattle.asp_stream.specs.declared.stream.Stream.{Stream}
 use Rattle.asp_stream.proofs.LowLaws.{sure-low}
 use Rattle.asp_stream.proofs.StreamLaws.{front-of}
 use Rattle.asp_stream.proofs.stream.look.Goals as goal
