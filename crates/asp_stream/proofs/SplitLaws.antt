@@ -1,6 +1,5 @@
--- A leaf that is looked at, and one that is split: its first half is held still, and opened.
-use Rattle.std.proofs.Common.{◌≡◌, ℕ, ◌+◌, ◌<◌, List, [], ◌∷◌, length, Option, Some, refl, sym, ap, ◌∙◌, subst}
-use Rattle.std.specs.Prelude.{IsSome}
+-- A leaf that is split: its first half is held still, and opened.
+use Rattle.std.proofs.Common.{◌≡◌, ℕ, ◌+◌, ◌<◌, List, [], ◌∷◌, length, Option, Some, sym, ap, ◌∙◌, subst}
 use Rattle.std.specs.Option.{IfSome}
 use Rattle.asp_model.specs.declared.program.Program.{Program}
 use Rattle.asp_model.specs.Models.{atoms_of}
@@ -22,24 +21,12 @@ use Rattle.asp_crew.proofs.BookLaws.{board-task, board-with}
 use Rattle.asp_backlog.specs.Backlogs.{Pending}
 use Rattle.asp_ledger.specs.Ledgers.{enumeration}
 use Rattle.asp_stream.specs.Lows.{IsSure}
-use Rattle.asp_stream.specs.Streams.{HasHalves, IsCrowded, IsStream, Knows, divided_by, leaves_of}
+use Rattle.asp_stream.specs.Streams.{HasHalves, IsStream, Knows, divided_by, leaves_of}
 use Rattle.asp_stream.specs.declared.part.Part.{Part}
-use Rattle.asp_stream.specs.declared.stream.View.TheVariants as view
 use Rattle.asp_stream.proofs.CoverLaws.{first-status}
 use Rattle.asp_stream.proofs.LowLaws.{sure-low, sure-second}
 use Rattle.asp_stream.proofs.StreamLaws.{stream-divided}
 
--- ---- a leaf that is looked at
--- where it is to be split there is room, and the literal is open
-pub crowded-when : (v w : Booked) (s : Searching) (leaf : ℕ) (r : Option Literal) (l : Literal) → Knows v s leaf → w ≡ v → (IsSome r → length (board w).nodes < 4194304) →
-    ((q : List Literal) → s.cube ≡ Some q → IfSome r (IsOpen s.program q)) → r ≡ Some l → IsCrowded v leaf (view.Crowded l)
-crowded-when v w s leaf r l knows same room opens is = (
-  subst (λ (x : Booked). length (board x).nodes < 4194304) same (room (subst IsSome (sym is) refl)),
-  subst (λ (p : Program). IsOpen p (cube_of (board v).nodes leaf) l) knows.program
-  (subst (λ (o : Option Literal). IfSome o (IsOpen s.program (cube_of (board v).nodes leaf))) is (opens (cube_of (board v).nodes leaf) knows.cube)),
-)
-
--- ---- a leaf that is split
 -- the two leaves that come are the next two nodes
 pub halves-are : (b : Board) (r : Option (ℕ × ℕ)) (leaves : ℕ × ℕ) → Divides b r → r ≡ Some leaves → leaves ≡ (length b.nodes, length b.nodes + 1)
 halves-are b r leaves divides is = subst (λ (o : Option (ℕ × ℕ)). IfSome o (λ (x : ℕ × ℕ). x ≡ (length b.nodes, length b.nodes + 1))) is divides.leaves
