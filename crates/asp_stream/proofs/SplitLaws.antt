@@ -1,32 +1,17 @@
 -- A leaf that is looked at, and one that is split: its first half is held still, and opened.
-use Rattle.std.proofs.Common.{◌≡◌, ℕ, ◌+◌, ◌<◌, List, [], ◌∷◌, length, Option, Some, sym, ap, ◌∙◌, subst}
+use Rattle.std.proofs.Common.{◌≡◌, ℕ, ◌+◌, [], ◌∷◌, length, Option, Some, ap, ◌∙◌, subst}
 use Rattle.std.specs.Option.{IfSome}
-use Rattle.asp_model.specs.declared.program.Program.{Program}
-use Rattle.asp_model.specs.Models.{atoms_of}
-use Rattle.asp_model.specs.Sets.{Atoms}
-use Rattle.asp_vars.specs.Literals.{Literal, complement}
-use Rattle.asp_vars.specs.Numbering.{IsVar, var_count}
-use Rattle.asp_rows.specs.declared.row.Row.{Row}
-use Rattle.asp_rows.specs.Listed.{IsRowOf}
+use Rattle.asp_vars.specs.Literals.{Literal}
 use Rattle.asp_path.specs.declared.status.Status.TheVariants as status
-use Rattle.asp_path.specs.Trees.{cube_of, status_of}
+use Rattle.asp_path.specs.Trees.{status_of}
 use Rattle.asp_core.specs.declared.event.Event.TheVariants as event
-use Rattle.asp_core.specs.declared.task.Task.{Task}
 use Rattle.asp_core.specs.Boards.{Board}
 use Rattle.asp_book.specs.Books.{Booked, board, with_events}
 use Rattle.asp_book.specs.Replies.{Divides, divided}
-use Rattle.asp_search.specs.Beside.{IsOpen}
-use Rattle.asp_search_laws.specs.Searching.{Searching}
-use Rattle.asp_crew.proofs.BookLaws.{board-task, board-with}
-use Rattle.asp_backlog.specs.Backlogs.{Pending}
-use Rattle.asp_ledger.specs.Ledgers.{enumeration}
-use Rattle.asp_stream.specs.Lows.{IsSure}
-use Rattle.asp_stream.specs.Streams.{HasHalves, IsStream, Knows, divided_by, leaves_of}
-use Rattle.asp_stream.specs.declared.part.Part.{Part}
+use Rattle.asp_crew.proofs.BookLaws.{board-with}
+use Rattle.asp_stream.specs.Streams.{divided_by}
 use Rattle.asp_stream.specs.declared.stream.View.TheVariants as view
 use Rattle.asp_stream.proofs.CoverLaws.{first-status}
-use Rattle.asp_stream.proofs.LowLaws.{sure-low, sure-second}
-use Rattle.asp_stream.proofs.StreamLaws.{stream-divided}
 
 -- ---- a leaf that is looked at
 -- where it is to be split there is room, and the literal is open

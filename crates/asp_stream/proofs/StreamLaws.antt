@@ -1,5 +1,10 @@
 -- A stream after an event, and what its reader heard.
+<<<<<<< HEAD
 use Rattle.std.proofs.Common.{◌≡◌, ◌⊎◌, ℕ, zero, suc, ◌+◌, ◌<◌, Bool, true, false, not, ◌||◌, eqb, List, [], ◌∷◌, ◌++◌, filter, get_or, length, Some, refl, sym, ap, ◌∙◌, subst, inl, inr, arith}
+=======
+use Rattle.std.proofs.Common.{◌≡◌, ◌⊎◌, ℕ, zero, suc, ◌+◌, ◌<◌, Bool, true, false, not, ◌||◌, eqb, List, [], ◌∷◌, ◌++◌, filter, get_or, length, Option, None, Some, refl, sym, ap, ◌∙◌, subst, inl, inr, arith}
+use Rattle.std.specs.Prelude.{IfSome}
+>>>>>>> 21b6314629f9cdfb6c2b8bbd0640218db341fcf8
 use Rattle.std.specs.List.{AllByRecursion}
 use Rattle.std.proofs.lemmas.Bool.{false≢true, eq-eqb, cases_eq}
 use Rattle.std.proofs.lemmas.List.{length-append, length-set}
@@ -22,6 +27,7 @@ use Rattle.asp_core.specs.Boards.{Board, is_answer}
 use Rattle.asp_core.specs.Sorting.{answers_of}
 use Rattle.asp_core.specs.Events.{Guard, happens}
 use Rattle.asp_book.specs.Books.{Booked, board, with_events, IsJournalOf}
+use Rattle.asp_book.specs.Replies.{Divides, divided}
 use Rattle.asp_crew.proofs.BookLaws.{board-task, board-with}
 use Rattle.asp_crew.proofs.TreeLaws.{status-set}
 use Rattle.asp_crew_laws.specs.Runs.{asks}
@@ -284,3 +290,34 @@ stream-divided p x leaf l first second heard q parts new is guard low low2 row r
     halves-are : AllByRecursion (IsPart b1) new
     halves-are = subst (AllByRecursion (IsPart b1)) (sym halves.parts)
         (each-append (IsPart b1) parts (halves.right ∷ halves.left ∷ []) (parts-happen (board x) e1 parts guard is.parts_are) (right-is, (left-is, tt)))
+
+-- ---- the reply to a split
+pub has-room : (b : Board) (r : Option (ℕ × ℕ)) → Divides b r → length b.nodes < 4194304 → r ≡ None → ⊥
+has-room b None is room none = false≢true (is.room.1 room)
+has-room b (Some leaves) is room none = cc
+
+pub halves-at : (b : Board) (r : Option (ℕ × ℕ)) (leaves : ℕ × ℕ) → Divides b r → r ≡ Some leaves → leaves ≡ (length b.nodes, length b.nodes + 1)
+halves-at b r leaves is some = subst (λ (x : Option (ℕ × ℕ)). IfSome x (λ l. l ≡ (length b.nodes, length b.nodes + 1))) some is.leaves
+
+-- v: before; w: it was split
+pub split-now : (v w : Booked) (leaf : ℕ) (l : Literal) (r : Option (ℕ × ℕ)) (leaves : ℕ × ℕ) → w ≡ with_events v (divided 0 leaf l r) → r ≡ Some leaves →
+    w ≡ with_events v (event.Split 0 leaf l ∷ [])
+split-now v w leaf l r leaves now some = now ∙ ap (λ (x : Option (ℕ × ℕ)). with_events v (divided 0 leaf l x)) some
+
+pub first-held : (v w : Booked) (leaf : ℕ) (l : Literal) (n : ℕ) → status_of (board v).nodes leaf ≡ status.Held 0 → w ≡ with_events v (event.Split 0 leaf l ∷ []) → n ≡ length (board v).nodes →
+    status_of (board w).nodes n ≡ status.Held 0
+first-held v w leaf l n held now at =
+    ap (λ (z : Booked). status_of (board z).nodes n) now ∙ ap (λ (b : Board). status_of b.nodes n) (board-with v (event.Split 0 leaf l))
+    ∙ ap (status_of (split (board v).nodes leaf l)) at ∙ first-status (board v).nodes leaf l ∙ held
+
+pub divided-now : (v w x : Booked) (leaf : ℕ) (l : Literal) (n : ℕ) → w ≡ with_events v (event.Split 0 leaf l ∷ []) → n ≡ length (board v).nodes → x ≡ with_events w (event.Release 0 n ∷ []) →
+    x ≡ divided_by v leaf l
+divided-now v w x leaf l n now at after =
+    after ∙ ap (λ (z : Booked). with_events z (event.Release 0 n ∷ [])) now
+    ∙ ap (λ k. with_events (with_events v (event.Split 0 leaf l ∷ [])) (event.Release 0 k ∷ [])) at
+
+pub row-of-board : (p : Program) (v : Booked) (row : Row) → v.task.program ≡ p → IsRowOf (atoms_of p) row → IsRowOf (atoms_of (board v).task.program) row
+row-of-board p v row same is = subst (λ (A : Atoms). IsRowOf A row) (sym (ap (λ (t : Task). atoms_of t.program) (board-task v) ∙ ap atoms_of same)) is
+
+pub halves-more : (leaves : ℕ × ℕ) (first second : Row) (old new : List Part) → HasHalves leaves first second old new → length new ≡ length old + 2
+halves-more leaves first second old new is = ap length is.parts ∙ length-append old (is.right ∷ is.left ∷ [])

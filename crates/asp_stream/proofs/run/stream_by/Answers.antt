@@ -1,6 +1,10 @@
-use Rattle.std.proofs.Common.{◌≡◌, sym, ap, ◌∙◌, arith}
+use Rattle.std.proofs.Common.{◌≡◌, ◌+◌, sym, ap, ◌∙◌, subst, arith}
 use Rattle.std.proofs.lemmas.Result.{IfOk-weaker}
+use Rattle.asp_vars.specs.Paid.{Units}
+use Rattle.asp_core.specs.Units.{out_of}
+use Rattle.asp_book.specs.Books.{board}
 use Rattle.asp_search_laws.specs.Searching.{Searching}
+use Rattle.asp_stream.specs.Endings.{IsOver}
 use Rattle.asp_stream.proofs.EndLaws.{begins-ready, leased, run-over, telling-by}
 use Rattle.asp_stream.proofs.RunLaws.{front-by, lease-fits, nothing-heard, stream-begins}
 use Rattle.asp_stream.proofs.run.stream_by.Goals as goal
@@ -50,7 +54,10 @@ returns-in_err-lease-clause-heard g c = g.met.W.Watch.begins c.args.watch.now
 
 -- ---- it ends
 pub told-requires : goal.told-requires
-told-requires g c = record { units = c.in_ok-ended.ensures.leaves.ready.work.units.1 }
+told-requires g c = record {
+  units = subst (λ (u : Units). u.left + u.burnt ≡ out_of (board c.work_off_all-ended.new.stream.ledger).out 0) (sym c.fuel-2.view_is)
+      c.in_ok-ended.ensures.leaves.ready.work.units.1;
+}
 
 pub returns-clause-told : goal.returns-clause-told
 returns-clause-told g c =
@@ -62,7 +69,7 @@ returns-clause-told g c =
     (λ r tells. telling-by c.args.compiled.now x.compiled.now c.args.budget x.ledger f e _ _ r same
     (run-over c.args.compiled.now c.args.budget c.in_ok-stream.stream.ledger c.lease.new.self x.ledger c.of-fuel.result f c.work_off_all-ended.new.search e (omega (arith, c.ranges.budget)) c.in_ok-stream.ensures.ledger
     c.of-fuel.ensures c.in_ok-lease.ensures.ok c.in_ok-ended.ensures.leaves)
-    (λ over. tells c.args.budget _ _ over c.in_ok-ended.ensures.stream c.in_ok-ended.ensures.unwanted)) c.told.ensures
+    (λ over. tells c.args.budget _ _ (subst (λ (u : Units). IsOver x.compiled.now c.args.budget x.ledger u e) (sym c.fuel-2.view_is) over) c.in_ok-ended.ensures.stream c.in_ok-ended.ensures.unwanted)) c.told.ensures
 
 pub returns-clause-front : goal.returns-clause-front
 returns-clause-front g c = front-by _ _ _ _ c.in_ok-stream.ensures.compiled c.work_off_all-ended.ensures.front
