@@ -38,7 +38,6 @@ use Rattle.asp_stream.specs.Endings.{IsOver, IsTellingOf, Tells, all_units, end_
 use Rattle.asp_stream.specs.Leaves.{LeavesPart}
 use Rattle.asp_ledger.specs.Ledgers.{enumeration}
 use Rattle.asp_backlog.specs.Telling.{IsTold}
-
 use Rattle.asp_stream.specs.declared.told.End.{End}
 use Rattle.asp_stream.specs.declared.told.End.TheVariants as end
 use Rattle.asp_stream.specs.declared.told.Told.{Told}
@@ -76,7 +75,6 @@ no-best b is none = here b.best refl is.best
 -- v: the units are out; w: all was worked off; y: the units are back
 module _ (p : Program) (budget : ℕ) (v w y : Booked) (t : Searching) (g : Units) (small : budget < 2 ^ 64) (is : IsLeased (start_of p budget) v)
     (lawful_w : IsJournalOf w.task w.journal) (lawful_y : IsJournalOf y.task y.journal) (now : y ≡ with_events w (given_back 0 g)) where
-
   module _ (how : End) (left : LeavesPart v w t g (Some how)) where
     task-w : w.task ≡ enumeration w.task.program w.task.budget
     task-w = subst (λ (x : Task). x ≡ enumeration x.program x.budget) (sym (left.task ∙ is.task)) refl

@@ -218,6 +218,6 @@ module _ (v : Booked) (s : Searching) (leaf : ℕ) (task : v.task ≡ enumeratio
         let vals : List Bool = values (board v).task.program S in
         let q : List Literal = cube_of (board v).nodes leaf in
         let both = and_parts (hits vals q) (hits vals (complement l ∷ []))
-            (sym (hits-append vals q (complement l ∷ [])) ∙ ap (hits vals) (sym (second-cube (board v).nodes leaf l)) ∙ hit) in
+        (sym (hits-append vals q (complement l ∷ [])) ∙ ap (hits vals) (sym (second-cube (board v).nodes leaf l)) ∙ hit) in
         sure q S knows.cube (to-come (complement l ∷ []) S answer both.0 both.1 fresh);
   }

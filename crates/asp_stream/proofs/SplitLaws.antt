@@ -20,7 +20,7 @@ pub crowded-when : (v w : Booked) (s : Searching) (leaf : ℕ) (r : Option Liter
 crowded-when v w s leaf r l knows same room opens is = (
   subst (λ (x : Booked). length (board x).nodes < 4194304) same (room (subst IsSome (sym is) refl)),
   subst (λ (p : Program). IsOpen p (cube_of (board v).nodes leaf) l) knows.program
-  (subst (λ (o : Option Literal). IfSome o (IsOpen s.program (cube_of (board v).nodes leaf))) is (opens (cube_of (board v).nodes leaf) knows.cube)),
+      (subst (λ (o : Option Literal). IfSome o (IsOpen s.program (cube_of (board v).nodes leaf))) is (opens (cube_of (board v).nodes leaf) knows.cube)),
 )
 
 -- ---- a leaf that is split

@@ -149,9 +149,9 @@ pub stream-rose : (p : Program) (v : Booked) (leaf : ℕ) (low : Atoms) (count n
 stream-rose p v leaf low count n heard after sets q w parts is low-is may sets-are counted heard-is waits =
     subst (λ k. IsStream p v k after w parts (leaf ∷ leaves_of parts)) (sym (counted ∙ ap (λ (X : List Atoms). count + length X) sets-are))
     (subst (λ (X : List Atoms). IsStream p v (count + length (filter (is_below (Some low)) q.sets)) X w parts (leaf ∷ leaves_of parts))
-        (sym (heard-is ∙ ap (λ (X : List Atoms). heard ++ X) sets-are))
-        (subst (λ (z : Pending). IsStream p v (count + length (filter (is_below (Some low)) q.sets)) (heard ++ filter (is_below (Some low)) q.sets) z parts (leaf ∷ leaves_of parts)) (sym waits)
-            (stream-raised p v leaf low heard q parts is low-is may)))
+    (sym (heard-is ∙ ap (λ (X : List Atoms). heard ++ X) sets-are))
+    (subst (λ (z : Pending). IsStream p v (count + length (filter (is_below (Some low)) q.sets)) (heard ++ filter (is_below (Some low)) q.sets) z parts (leaf ∷ leaves_of parts)) (sym waits)
+    (stream-raised p v leaf low heard q parts is low-is may)))
 
 -- ---- a leaf that is split
 stood : (nodes : List Node) (x y : Node) (m : ℕ) →

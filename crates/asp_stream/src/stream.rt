@@ -15,12 +15,12 @@ ghost use Rattle.asp_search.specs.Beside.{IsOpen};
 ghost use Rattle.asp_watermark.specs.Floors.{IsLow};
 ghost use Rattle.asp_stream.specs.Streams.{HasHalves, IsCrowded, IsFrontOf, IsStart, IsStreamOf, Keeps, Knows, MayRise, divided_by, leaves_of};
 
-use asp_backlog::backlog::Backlog;
-use asp_ledger::ledger::Ledger;
 use crate::low::low;
 use crate::pace::Pace;
 use crate::part::{Part, none_before};
 use crate::waiting::{count_without, is_set, nth};
+use asp_backlog::backlog::Backlog;
+use asp_ledger::ledger::Ledger;
 use asp_model::interp::Interp;
 use asp_outlet::Reader;
 use asp_path::tree::Leaf;

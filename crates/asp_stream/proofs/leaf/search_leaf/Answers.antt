@@ -72,9 +72,9 @@ divide-requires g c =
     let ends = (subst (λ (o : Left). EndsLeaf c.args.stream.now.ledger c.run.new.stream.ledger c.args.leaf c.enter.new.self c.run.new.search c.run.new.fuel o) c.in-Crowded.is c.in_ok-nogood.ensures.ends) in
     record {
       held = still-held c.args.stream.now.ledger c.run.new.stream.ledger c.args.leaf c.enter.new.self c.run.new.search c.run.new.fuel c.as_slice.result.now c.requires.held
-    (c.as_slice.ensures.value ∙ c.in_ok-cube.ensures.value) (cube-entered c.args.search.now c.enter.new.self c.as_slice.result.now c.in_ok-enter.ensures.ok) (left.Crowded c.in-Crowded.lit) ends;
+          (c.as_slice.ensures.value ∙ c.in_ok-cube.ensures.value) (cube-entered c.args.search.now c.enter.new.self c.as_slice.result.now c.in_ok-enter.ensures.ok) (left.Crowded c.in-Crowded.lit) ends;
       knows = still-there c.args.stream.now.ledger c.run.new.stream.ledger c.args.leaf c.enter.new.self c.run.new.search c.run.new.fuel c.as_slice.result.now c.requires.held
-    (c.as_slice.ensures.value ∙ c.in_ok-cube.ensures.value) (cube-entered c.args.search.now c.enter.new.self c.as_slice.result.now c.in_ok-enter.ensures.ok) (left.Crowded c.in-Crowded.lit) ends;
+          (c.as_slice.ensures.value ∙ c.in_ok-cube.ensures.value) (cube-entered c.args.search.now c.enter.new.self c.as_slice.result.now c.in_ok-enter.ensures.ok) (left.Crowded c.in-Crowded.lit) ends;
       program = c.in_ok-nogood.ensures.stream.program;
       «open» = ends.over.1;
       room = ends.over.0;

@@ -29,8 +29,8 @@ loop-atom-preserved g c =
     gathers-next (IsSureAtom c.args.search.now c.args.more.now) atoms c.loop-atom.atom-index c.loop-atom.set.items c.push_if.new.set.items a c.is_sure-sure.result
     c.as_slice-atoms.ensures.ascending c.loop-atom-test.true refl
     (λ told.
-        sure-atom c.args.search.now c.args.more.now a c.atom_var.result (subst (λ (p : Program). has (atoms_of p) a ≡ true) (sym c.requires) stands)
-        (c.atom_var.ensures.var ∙ ap (λ (p : Program). var_of_atom p a) (sym c.requires)) (c.is_sure-sure.ensures told))
+    sure-atom c.args.search.now c.args.more.now a c.atom_var.result (subst (λ (p : Program). has (atoms_of p) a ≡ true) (sym c.requires) stands)
+    (c.atom_var.ensures.var ∙ ap (λ (p : Program). var_of_atom p a) (sym c.requires)) (c.is_sure-sure.ensures told))
     c.in_ok-push_if.ensures c.loop-atom.invariant
 
 pub from_ascending-requires : goal.from_ascending-requires
@@ -41,12 +41,12 @@ returns-clause-row g c =
     let same = c.as_slice-atoms.ensures.value ∙ c.atoms.ensures in
     row-if c.of-2.result c.as_slice-atoms.result.now (atoms_of c.args.compiled.now) c.from_ascending.result same
     (subst (λ (A : Atoms). IsAmong A c.from_ascending.result) same (subst (IsAmong c.as_slice-atoms.result.now) (sym c.from_ascending.ensures)
-        (gathers-among (IsSureAtom c.args.search.now c.args.more.now) c.as_slice-atoms.result.now c.loop-atom.atom-index c.loop-atom.set.items c.loop-atom.invariant)))
+    (gathers-among (IsSureAtom c.args.search.now c.args.more.now) c.as_slice-atoms.result.now c.loop-atom.atom-index c.loop-atom.set.items c.loop-atom.invariant)))
     c.of-2.ensures.words c.of-2.ensures.set
 
 pub returns-clause-low : goal.returns-clause-low
 returns-clause-low g c =
     sure-if c.of-2.result c.args.search.now c.args.more.now c.from_ascending.result
     (subst (IsSure c.args.search.now c.args.more.now) (sym c.from_ascending.ensures)
-        (sure-set c.args.search.now c.args.more.now c.as_slice-atoms.result.now c.loop-atom.atom-index c.loop-atom.set.items c.loop-atom.invariant))
+    (sure-set c.args.search.now c.args.more.now c.as_slice-atoms.result.now c.loop-atom.atom-index c.loop-atom.set.items c.loop-atom.invariant))
     c.of-2.ensures.set

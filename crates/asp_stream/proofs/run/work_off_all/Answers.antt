@@ -54,7 +54,7 @@ returns-in-None-clause-stream g c = record { program = c.parts.invariant.stream.
 pub returns-in-Some-2-clause-leaves : goal.returns-in-Some-2-clause-leaves
 returns-in-Some-2-clause-leaves g c =
     (left-on c.args.stream.now.ledger c.parts.stream.ledger c.work_off.new.stream.ledger c.parts.search c.work_off.new.search c.parts.fuel c.work_off.new.fuel _
-      c.parts.invariant.left (subst (LeavesPart c.parts.stream.ledger c.work_off.new.stream.ledger c.work_off.new.search c.work_off.new.fuel) c.in-Some-2.is c.in_ok-work_off-in-Some.ensures.leaves))
+    c.parts.invariant.left (subst (LeavesPart c.parts.stream.ledger c.work_off.new.stream.ledger c.work_off.new.search c.work_off.new.fuel) c.in-Some-2.is c.in_ok-work_off-in-Some.ensures.leaves))
 
 pub returns-in-Some-2-clause-stream : goal.returns-in-Some-2-clause-stream
 returns-in-Some-2-clause-stream g c = subst (IsStreamAfter c.work_off.new.stream _) c.in-Some-2.is c.in_ok-work_off-in-Some.ensures.stream

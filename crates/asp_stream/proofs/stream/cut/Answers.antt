@@ -19,7 +19,7 @@ pub splits-requires : goal.splits-requires
 splits-requires g c =
     subst (λ (p : Program). IsVar (var_count p) c.new-lit.result.var) (sym c.requires)
     (subst (λ (l : Literal). IsVar (var_count c.args.stream.now.compiled.now) l.var) (sym c.new-lit.ensures)
-        (atom-is-var c.args.stream.now.compiled.now c.atom_var.result c.atom_var.ensures.atom))
+    (atom-is-var c.args.stream.now.compiled.now c.atom_var.result c.atom_var.ensures.atom))
 
 pub returns-then-splits-clause-open : goal.returns-then-splits-clause-open
 returns-then-splits-clause-open g c = λ q entered. c.splits.ensures q entered c.if-splits.true

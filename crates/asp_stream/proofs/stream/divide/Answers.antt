@@ -43,8 +43,8 @@ returns-clause-ledger g c =
     let at = halves-at (board v) c.in_ok-split.field-0 c.in-Some.leaves c.in_ok-split.ensures.leaves c.in-Some.is in
     ap (λ (s : Stream). s.ledger) c.push_halves.ensures.same
     ∙ divided-now v c.split.new.self c.release.new.self c.args.leaf c.args.lit c.in-Some.leaves.0
-        (split-now v c.split.new.self c.args.leaf c.args.lit c.in_ok-split.field-0 c.in-Some.leaves c.in_ok-split.ensures.journal c.in-Some.is) (ap (λ (l : ℕ × ℕ). l.0) at)
-        c.in_ok-release-in-Some.ensures.ok
+    (split-now v c.split.new.self c.args.leaf c.args.lit c.in_ok-split.field-0 c.in-Some.leaves c.in_ok-split.ensures.journal c.in-Some.is) (ap (λ (l : ℕ × ℕ). l.0) at)
+    c.in_ok-release-in-Some.ensures.ok
 
 pub returns-clause-parts : goal.returns-clause-parts
 returns-clause-parts g c =
@@ -64,10 +64,10 @@ returns-clause-stream g c = λ heard is.
     subst (λ (more : List Literal). IsSure c.args.search.now more c.in_ok-second.second.set) (c.as_slice.ensures ∙ ap (λ (l : Literal). l ∷ []) c.complement.ensures) c.in_ok-second.ensures.low in
     subst (λ (t : Stream). IsStream t.compiled.now t.ledger t.heard heard t.backlog t.parts.items (leaves_of t.parts.items)) (sym c.push_halves.ensures.same)
     (subst (λ (w : Booked). IsStream s.compiled.now w s.heard heard s.backlog parts (leaves_of parts)) (sym now)
-        (stream-divided s.compiled.now v c.args.leaf c.args.lit c.in_ok-first.first c.in_ok-second.second heard s.backlog s.parts.items parts is
-            (c.requires.held, c.requires.room, subst (λ (t : Task). IsVar (var_count t.program) c.args.lit.var) (sym (board-task v)) c.requires.open.0, c.requires.open.1)
-            (sure-low v c.args.search.now c.args.leaf c.lawful.ensures.task c.requires.knows c.in_ok-first.first.set c.in_ok-first.ensures.row.among.rising c.in_ok-first.ensures.low)
-            (sure-second v c.args.search.now c.args.leaf c.lawful.ensures.task c.requires.knows c.args.lit c.in_ok-second.second.set c.in_ok-second.ensures.row.among.rising second)
-            (row-of-board s.compiled.now v c.in_ok-first.first c.requires.program c.in_ok-first.ensures.row)
-            (row-of-board s.compiled.now v c.in_ok-second.second c.requires.program c.in_ok-second.ensures.row)
-            (subst (λ (l : ℕ × ℕ). HasHalves l c.in_ok-first.first c.in_ok-second.second s.parts.items parts) at c.in_ok-push_halves-in-Some.ensures.parts)))
+    (stream-divided s.compiled.now v c.args.leaf c.args.lit c.in_ok-first.first c.in_ok-second.second heard s.backlog s.parts.items parts is
+    (c.requires.held, c.requires.room, subst (λ (t : Task). IsVar (var_count t.program) c.args.lit.var) (sym (board-task v)) c.requires.open.0, c.requires.open.1)
+    (sure-low v c.args.search.now c.args.leaf c.lawful.ensures.task c.requires.knows c.in_ok-first.first.set c.in_ok-first.ensures.row.among.rising c.in_ok-first.ensures.low)
+    (sure-second v c.args.search.now c.args.leaf c.lawful.ensures.task c.requires.knows c.args.lit c.in_ok-second.second.set c.in_ok-second.ensures.row.among.rising second)
+    (row-of-board s.compiled.now v c.in_ok-first.first c.requires.program c.in_ok-first.ensures.row)
+    (row-of-board s.compiled.now v c.in_ok-second.second c.requires.program c.in_ok-second.ensures.row)
+    (subst (λ (l : ℕ × ℕ). HasHalves l c.in_ok-first.first c.in_ok-second.second s.parts.items parts) at c.in_ok-push_halves-in-Some.ensures.parts)))

@@ -35,8 +35,7 @@ cut-requires g c = c.requires.knows.program ∙ c.requires.stream.program ∙ ap
 
 pub returns-in-Some-clause-view : goal.returns-in-Some-clause-view
 returns-in-Some-clause-view g c =
-    let v : Booked = c.args.stream.now.ledger in
-    (
+    let v : Booked = c.args.stream.now.ledger in (
       subst (λ (w : Booked). length (board w).nodes < 4194304) c.tell.ensures.keeps.ledger (c.in-Some.ensures.room refl),
       subst (λ (p : Program). IsOpen p (cube_of (board v).nodes c.args.leaf) c.in-Some.lit) c.requires.knows.program
           (c.in-Some.ensures.open (cube_of (board v).nodes c.args.leaf) c.requires.knows.cube),

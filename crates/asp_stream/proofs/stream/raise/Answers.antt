@@ -61,5 +61,5 @@ returns-clause-front g c =
     front-of s.compiled.now (g.R.Reader.program c.hear.new.self) s.ledger (g.R.Reader.heard c.hear.new.self) c.raise.new.self s.parts.items (c.args.leaf ∷ leaves_of s.parts.items)
     c.lawful.ensures.task c.lawful.ensures.journal (c.hear.ensures.program ∙ c.requires.program)
     (stream-rose s.compiled.now s.ledger c.args.leaf c.args.low.set s.heard c.in_ok-stream.field-0 (g.R.Reader.heard c.args.reader.now) (g.R.Reader.heard c.hear.new.self) c.in_ok-rows.rows.sets
-        s.backlog c.raise.new.self s.parts.items c.requires.stream c.requires.low c.requires.rises (ap (λ (l : Listed). l.sets) c.in_ok-rows.ensures.below)
-        (c.in_ok-stream.ensures.sum ∙ ap (λ k. s.heard + k) c.len.ensures) c.hear.ensures.heard c.in_ok-rows.ensures.rest)
+    s.backlog c.raise.new.self s.parts.items c.requires.stream c.requires.low c.requires.rises (ap (λ (l : Listed). l.sets) c.in_ok-rows.ensures.below)
+    (c.in_ok-stream.ensures.sum ∙ ap (λ k. s.heard + k) c.len.ensures) c.hear.ensures.heard c.in_ok-rows.ensures.rest)

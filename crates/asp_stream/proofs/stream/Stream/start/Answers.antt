@@ -21,6 +21,6 @@ returns c =
       stream =
           subst (λ (l : List Part). IsStream p c.in_ok-ledger.ledger 0 [] c.in_ok-backlog.backlog l (leaves_of l)) (sym parts)
           (subst (λ (q : Pending). IsStream p c.in_ok-ledger.ledger 0 [] q (x ∷ []) (leaves_of (x ∷ []))) (sym waiting)
-              (subst (λ (v : Booked). IsStream p v 0 [] (record { atoms = atoms_of p; floor = []; sets = [] }) (x ∷ []) (leaves_of (x ∷ []))) (sym c.in_ok-ledger.ensures)
-                  (stream-started p c.args.budget x refl c.in_ok-low.ensures.set c.in_ok-low.ensures.row)));
+          (subst (λ (v : Booked). IsStream p v 0 [] (record { atoms = atoms_of p; floor = []; sets = [] }) (x ∷ []) (leaves_of (x ∷ []))) (sym c.in_ok-ledger.ensures)
+          (stream-started p c.args.budget x refl c.in_ok-low.ensures.set c.in_ok-low.ensures.row)));
     }
