@@ -207,6 +207,9 @@ python3 tests/search.py "$program" || failed=$((failed + 1))
 # Lines while a run goes on.
 python3 tests/progress.py "$program" || failed=$((failed + 1))
 
+# Answers while the search goes on.
+python3 tests/stream.py "$program" || failed=$((failed + 1))
+
 # Random programs beside the plain reference, by one worker and by four.
 python3 tests/compare.py "$program" 400 --no-clasp || failed=$((failed + 1))
 python3 tests/compare.py "$program --workers 4" 100 --no-clasp || failed=$((failed + 1))

@@ -1,0 +1,78 @@
+#!/usr/bin/env python3
+"""Holds --stream to what no contract says: that answers come while the search goes on.
+
+    stream.py PROGRAM
+
+Of 2^40 answers the first 1,000 are read, and the pipe is closed: they are the right ones, and the run ends with 74.
+Programs with few answers and many have the same bytes and status with the option and without, also where the budget is spent."""
+import os
+import subprocess
+import sys
+
+from search import random_sat
+
+PROGRAM = os.path.abspath(sys.argv[1])
+SECONDS = 120
+
+
+def free(count):
+    """So many free atoms, and so 2^count answers."""
+    outputs = "".join(f"4 {len(f'a{atom}')} a{atom} 1 {atom}\n" for atom in range(1, count + 1))
+    return f"asp 1 0 0\n1 1 {count} {' '.join(map(str, range(1, count + 1)))} 0 0\n{outputs}0\n"
+
+
+def line(count, number):
+    """The texts of the answer with this number, from 0 on, of so many free atoms: the greatest atom changes first."""
+    return " ".join(f"a{atom}" for atom in range(1, count + 1) if number >> (count - atom) & 1)
+
+
+def first(text, count):
+    """The first so many lines of a run whose reader then ends, and its status."""
+    with subprocess.Popen([PROGRAM, "--mode", "enum", "--stream"], stdin=subprocess.PIPE, stdout=subprocess.PIPE, stderr=subprocess.DEVNULL) as run:
+        run.stdin.write(text.encode())
+        run.stdin.close()
+        lines = [run.stdout.readline().decode().rstrip("\n") for _ in range(count)]
+        run.stdout.close()
+        return lines, run.wait(SECONDS)
+
+
+def same(text, *words):
+    """Whether a run writes the same with --stream and without it."""
+    runs = [subprocess.run([PROGRAM, "--mode", "enum", *words, *more], input=text.encode(), capture_output=True, timeout=SECONDS) for more in ([], ["--stream"])]
+    return runs[0].stdout == runs[1].stdout and runs[0].returncode == runs[1].returncode
+
+
+def run_lines(text, *words):
+    """The texts of the answers of a stream, and the lines behind them."""
+    lines = subprocess.run([PROGRAM, "--mode", "enum", "--stream", *words], input=text.encode(), capture_output=True, timeout=SECONDS).stdout.decode().splitlines()
+    return [*lines[1:-2:2], *lines[-2:]]
+
+
+def faults():
+    lines, status = first(free(40), 2000)
+    wanted = [it for number in range(1000) for it in (f"Answer: {number + 1}", line(40, number))]
+    if lines != wanted:
+        yield "the first of 2^40 answers are others"
+    if status != 74:
+        yield f"a run whose reader ended ends with {status}"
+    for count in (0, 1, 10, 13):
+        if not same(free(count)):
+            yield f"other bytes of {count} free atoms"
+    text = random_sat(60, 4.0, 5).decode()
+    if not same(text, "--budget", "0"):
+        yield "other bytes with a budget of 0"
+    whole, spent = (run_lines(text, *words) for words in ([], ["--budget", "40"]))
+    rest = iter(whole)
+    if not all(answer in rest for answer in spent[:-2]) or spent[-2:] != ["BUDGET SPENT", f"Models: {len(spent) - 2}+"]:
+        yield "a run whose budget was spent writes other answers, or ends otherwise"
+
+
+def main():
+    found = list(faults())
+    for fault in found:
+        print(f"failed: {fault}")
+    print(f"stream: {len(found)} faults")
+    sys.exit(1 if found else 0)
+
+
+main()
