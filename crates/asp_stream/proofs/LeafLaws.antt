@@ -82,7 +82,8 @@ left-finished u v s f a covers = record { ready = a.ready; alone = a.alone; task
 
 -- ---- a leaf that was held
 -- what is left of it, after it was taken
-pub held-left : (v w y : Booked) (leaf : ℕ) (s t : Searching) (f g : Units) (how : Option End) → IsAlone (board v) → IsTaken Enum v w leaf s f → LeavesHeld w y leaf t g how → LeavesPart v y t g how
+pub held-left : (v w y : Booked) (leaf : ℕ) (s t : Searching) (f g : Units) (how : Option End) → IsAlone (board v) → IsTaken Enum v w leaf s f → LeavesHeld w y leaf t g how →
+    LeavesPart v y t g how
 held-left v w y leaf s t f g how alone taken left = record {
   ready = left.ready;
   alone = alone-after (board v) (board y) alone
@@ -95,7 +96,8 @@ held-left v w y leaf s t f g how alone taken left = record {
   over = left.over;
 }
 
-one-less : (b c : Board) (leaf : ℕ) (new : Status) → status_of b.nodes leaf ≡ status.Held 0 → c.nodes ≡ with_status b.nodes leaf new → is_held new ≡ false → held_count c.nodes + 1 ≡ held_count b.nodes
+one-less : (b c : Board) (leaf : ℕ) (new : Status) → status_of b.nodes leaf ≡ status.Held 0 → c.nodes ≡ with_status b.nodes leaf new → is_held new ≡ false → held_count c.nodes
+    + 1 ≡ held_count b.nodes
 one-less b c leaf new held nodes free =
     omega (arith, ap held_count nodes, held_count-changed b.nodes leaf (status.Held 0) new held refl, ap (λ x. let k : ℕ = cond x 1 0 in k) free)
 

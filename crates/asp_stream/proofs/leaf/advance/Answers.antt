@@ -21,7 +21,8 @@ returns-in-Restarted-clause-goes g c =
 
 pub deliver-requires : goal.deliver-requires
 deliver-requires g c = record {
-  answer = is-answer _ _ Enum c.args.stream.now.ledger c.args.search.now c.step.new.search c.args.fuel.now c.step.new.fuel c.requires.underway _ c.in_ok-step.ensures.ok c.in-Answer.set c.in-Answer.is;
+  answer = is-answer _ _ Enum c.args.stream.now.ledger c.args.search.now c.step.new.search c.args.fuel.now c.step.new.fuel c.requires.underway _ c.in_ok-step.ensures.ok
+      c.in-Answer.set c.in-Answer.is;
   program = c.requires.program;
   atoms = c.requires.atoms;
 }

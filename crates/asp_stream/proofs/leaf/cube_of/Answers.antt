@@ -15,4 +15,5 @@ returns-clause-cube c =
 
 pub returns-clause-vars : goal.returns-clause-vars
 returns-clause-vars c =
-    (leaf-cube c.args.stream.now.ledger c.args.leaf c.in_ok-cube.cube.items (subst QueryStands (sym c.lawful.ensures.task) tt) c.lawful.ensures.journal c.requires.held c.in_ok-cube.ensures).variables
+    (leaf-cube c.args.stream.now.ledger c.args.leaf c.in_ok-cube.cube.items (subst QueryStands (sym c.lawful.ensures.task) tt) c.lawful.ensures.journal c.requires.held
+    c.in_ok-cube.ensures).variables

@@ -140,7 +140,11 @@ pub returns-in-Unpaid-clause-stream : goal.returns-in-Unpaid-clause-stream
 returns-in-Unpaid-clause-stream g c = leaves-same c.steps.stream c.advance.new.stream _ c.args.leaf c.advance.ensures.same.1 (c.in_ok-course.ensures.stream _ _ c.steps.invariant.stream)
 
 pub returns-in_err-look-clause-same : goal.returns-in_err-look-clause-same
-returns-in_err-look-clause-same g c = (c.look.ensures.keeps.compiled ∙ c.advance.ensures.same.0 ∙ c.steps.invariant.compiled, c.look.ensures.keeps.parts ∙ c.advance.ensures.same.1 ∙ c.steps.invariant.parts)
+returns-in_err-look-clause-same g c = (
+  c.look.ensures.keeps.compiled ∙ c.advance.ensures.same.0 ∙ c.steps.invariant.compiled,
+  c.look.ensures.keeps.parts ∙
+      c.advance.ensures.same.1 ∙ c.steps.invariant.parts,
+)
 
 pub returns-in_err-look-clause-front : goal.returns-in_err-look-clause-front
 returns-in_err-look-clause-front g c = front-same c.args.stream.now c.advance.new.stream _ _ (c.advance.ensures.same.0 ∙ c.steps.invariant.compiled) c.look.ensures.front
@@ -152,7 +156,11 @@ pub returns-in_err-look-clause-heard : goal.returns-in_err-look-clause-heard
 returns-in_err-look-clause-heard g c = g.met.W.Watch.goes_on c.args.watch.now c.steps.watch c.tell.new.self c.steps.invariant.heard c.tell.ensures
 
 pub returns-in-Crowded-clause-same : goal.returns-in-Crowded-clause-same
-returns-in-Crowded-clause-same g c = (c.look.ensures.keeps.compiled ∙ c.advance.ensures.same.0 ∙ c.steps.invariant.compiled, c.look.ensures.keeps.parts ∙ c.advance.ensures.same.1 ∙ c.steps.invariant.parts)
+returns-in-Crowded-clause-same g c = (
+  c.look.ensures.keeps.compiled ∙ c.advance.ensures.same.0 ∙ c.steps.invariant.compiled,
+  c.look.ensures.keeps.parts ∙
+      c.advance.ensures.same.1 ∙ c.steps.invariant.parts,
+)
 
 pub returns-in-Crowded-clause-front : goal.returns-in-Crowded-clause-front
 returns-in-Crowded-clause-front g c = front-same c.args.stream.now c.advance.new.stream _ _ (c.advance.ensures.same.0 ∙ c.steps.invariant.compiled) c.look.ensures.front
@@ -164,7 +172,11 @@ pub returns-in-Crowded-clause-heard : goal.returns-in-Crowded-clause-heard
 returns-in-Crowded-clause-heard g c = g.met.W.Watch.goes_on c.args.watch.now c.steps.watch c.tell.new.self c.steps.invariant.heard c.tell.ensures
 
 pub returns-in-Unwanted-clause-same : goal.returns-in-Unwanted-clause-same
-returns-in-Unwanted-clause-same g c = (c.look.ensures.keeps.compiled ∙ c.advance.ensures.same.0 ∙ c.steps.invariant.compiled, c.look.ensures.keeps.parts ∙ c.advance.ensures.same.1 ∙ c.steps.invariant.parts)
+returns-in-Unwanted-clause-same g c = (
+  c.look.ensures.keeps.compiled ∙ c.advance.ensures.same.0 ∙ c.steps.invariant.compiled,
+  c.look.ensures.keeps.parts ∙
+      c.advance.ensures.same.1 ∙ c.steps.invariant.parts,
+)
 
 pub returns-in-Unwanted-clause-front : goal.returns-in-Unwanted-clause-front
 returns-in-Unwanted-clause-front g c = front-same c.args.stream.now c.advance.new.stream _ _ (c.advance.ensures.same.0 ∙ c.steps.invariant.compiled) c.look.ensures.front

@@ -45,14 +45,17 @@ close-requires g c =
     let guard =
     close-guard c.args.stream.now.ledger c.run.new.stream.ledger c.args.leaf c.enter.new.self c.run.new.search c.run.new.fuel c.as_slice.result.now c.requires.held
     (c.as_slice.ensures.value ∙ c.in_ok-cube.ensures.value) (cube-entered c.args.search.now c.enter.new.self c.as_slice.result.now c.in_ok-enter.ensures.ok) c.in-Closed.nogood
-    (subst (λ (o : Left). EndsLeaf c.args.stream.now.ledger c.run.new.stream.ledger c.args.leaf c.enter.new.self c.run.new.search c.run.new.fuel o) c.in-Closed.is c.in_ok-nogood.ensures.ends) in
+    (subst (λ (o : Left). EndsLeaf c.args.stream.now.ledger c.run.new.stream.ledger c.args.leaf c.enter.new.self c.run.new.search c.run.new.fuel o) c.in-Closed.is
+    c.in_ok-nogood.ensures.ends) in
     record { held = guard.0; within = guard.1; settled = guard.2 }
 
 pub returns-in-Closed-clause-leaves : goal.returns-in-Closed-clause-leaves
 returns-in-Closed-clause-leaves g c =
     after-closed c.args.stream.now.ledger c.run.new.stream.ledger c.args.leaf c.enter.new.self c.run.new.search c.run.new.fuel c.as_slice.result.now c.requires.held
-    (c.as_slice.ensures.value ∙ c.in_ok-cube.ensures.value) (cube-entered c.args.search.now c.enter.new.self c.as_slice.result.now c.in_ok-enter.ensures.ok) c.close.new.self c.in-Closed.nogood
-    (subst (λ (o : Left). EndsLeaf c.args.stream.now.ledger c.run.new.stream.ledger c.args.leaf c.enter.new.self c.run.new.search c.run.new.fuel o) c.in-Closed.is c.in_ok-nogood.ensures.ends) c.in_ok-close-in-Closed.ensures.ok
+    (c.as_slice.ensures.value ∙ c.in_ok-cube.ensures.value) (cube-entered c.args.search.now c.enter.new.self c.as_slice.result.now c.in_ok-enter.ensures.ok) c.close.new.self
+    c.in-Closed.nogood
+    (subst (λ (o : Left). EndsLeaf c.args.stream.now.ledger c.run.new.stream.ledger c.args.leaf c.enter.new.self c.run.new.search c.run.new.fuel o) c.in-Closed.is
+    c.in_ok-nogood.ensures.ends) c.in_ok-close-in-Closed.ensures.ok
 
 pub returns-in-Closed-clause-less : goal.returns-in-Closed-clause-less
 returns-in-Closed-clause-less g c = λ none.
@@ -64,17 +67,21 @@ returns-in-Closed-clause-stream g c =
     stream-closed c.run.new.stream c.close.new.self _ c.args.leaf c.in-Closed.nogood.lits _ c.in_ok-nogood.ensures.stream
     (close-guard c.args.stream.now.ledger c.run.new.stream.ledger c.args.leaf c.enter.new.self c.run.new.search c.run.new.fuel c.as_slice.result.now c.requires.held
     (c.as_slice.ensures.value ∙ c.in_ok-cube.ensures.value) (cube-entered c.args.search.now c.enter.new.self c.as_slice.result.now c.in_ok-enter.ensures.ok) c.in-Closed.nogood
-    (subst (λ (o : Left). EndsLeaf c.args.stream.now.ledger c.run.new.stream.ledger c.args.leaf c.enter.new.self c.run.new.search c.run.new.fuel o) c.in-Closed.is c.in_ok-nogood.ensures.ends)) c.in_ok-close-in-Closed.ensures.ok
+    (subst (λ (o : Left). EndsLeaf c.args.stream.now.ledger c.run.new.stream.ledger c.args.leaf c.enter.new.self c.run.new.search c.run.new.fuel o) c.in-Closed.is
+    c.in_ok-nogood.ensures.ends)) c.in_ok-close-in-Closed.ensures.ok
 
 -- ---- too many answers wait
 pub divide-requires : goal.divide-requires
 divide-requires g c =
-    let ends = (subst (λ (o : Left). EndsLeaf c.args.stream.now.ledger c.run.new.stream.ledger c.args.leaf c.enter.new.self c.run.new.search c.run.new.fuel o) c.in-Crowded.is c.in_ok-nogood.ensures.ends) in
+    let ends = (subst (λ (o : Left). EndsLeaf c.args.stream.now.ledger c.run.new.stream.ledger c.args.leaf c.enter.new.self c.run.new.search c.run.new.fuel o) c.in-Crowded.is
+    c.in_ok-nogood.ensures.ends) in
     record {
       held = still-held c.args.stream.now.ledger c.run.new.stream.ledger c.args.leaf c.enter.new.self c.run.new.search c.run.new.fuel c.as_slice.result.now c.requires.held
-          (c.as_slice.ensures.value ∙ c.in_ok-cube.ensures.value) (cube-entered c.args.search.now c.enter.new.self c.as_slice.result.now c.in_ok-enter.ensures.ok) (left.Crowded c.in-Crowded.lit) ends;
+          (c.as_slice.ensures.value ∙ c.in_ok-cube.ensures.value) (cube-entered c.args.search.now c.enter.new.self c.as_slice.result.now c.in_ok-enter.ensures.ok) (left.Crowded
+          c.in-Crowded.lit) ends;
       knows = still-there c.args.stream.now.ledger c.run.new.stream.ledger c.args.leaf c.enter.new.self c.run.new.search c.run.new.fuel c.as_slice.result.now c.requires.held
-          (c.as_slice.ensures.value ∙ c.in_ok-cube.ensures.value) (cube-entered c.args.search.now c.enter.new.self c.as_slice.result.now c.in_ok-enter.ensures.ok) (left.Crowded c.in-Crowded.lit) ends;
+          (c.as_slice.ensures.value ∙ c.in_ok-cube.ensures.value) (cube-entered c.args.search.now c.enter.new.self c.as_slice.result.now c.in_ok-enter.ensures.ok) (left.Crowded
+          c.in-Crowded.lit) ends;
       program = c.in_ok-nogood.ensures.stream.program;
       «open» = ends.over.1;
       room = ends.over.0;
@@ -82,13 +89,15 @@ divide-requires g c =
 
 pub returns-in-Crowded-clause-leaves : goal.returns-in-Crowded-clause-leaves
 returns-in-Crowded-clause-leaves g c =
-    let ends = (subst (λ (o : Left). EndsLeaf c.args.stream.now.ledger c.run.new.stream.ledger c.args.leaf c.enter.new.self c.run.new.search c.run.new.fuel o) c.in-Crowded.is c.in_ok-nogood.ensures.ends) in
+    let ends = (subst (λ (o : Left). EndsLeaf c.args.stream.now.ledger c.run.new.stream.ledger c.args.leaf c.enter.new.self c.run.new.search c.run.new.fuel o) c.in-Crowded.is
+    c.in_ok-nogood.ensures.ends) in
     after-divided c.args.stream.now.ledger c.run.new.stream.ledger c.divide.new.stream.ledger c.args.leaf c.run.new.search c.run.new.fuel c.requires.held ends.ready ends.only
     c.in-Crowded.lit ends.over.0 ends.over.1 c.in_ok-divide-in-Crowded.ensures.ledger
 
 pub returns-in-Crowded-clause-less : goal.returns-in-Crowded-clause-less
 returns-in-Crowded-clause-less g c = λ none.
-    let ends = (subst (λ (o : Left). EndsLeaf c.args.stream.now.ledger c.run.new.stream.ledger c.args.leaf c.enter.new.self c.run.new.search c.run.new.fuel o) c.in-Crowded.is c.in_ok-nogood.ensures.ends) in
+    let ends = (subst (λ (o : Left). EndsLeaf c.args.stream.now.ledger c.run.new.stream.ledger c.args.leaf c.enter.new.self c.run.new.search c.run.new.fuel o) c.in-Crowded.is
+    c.in_ok-nogood.ensures.ends) in
     less-divided c.args.stream.now.ledger c.run.new.stream.ledger c.divide.new.stream.ledger c.args.stream.now.parts.items c.run.new.stream.parts.items c.divide.new.stream.parts.items
     (ap (λ (ns : List Node). length ns) ends.only.nodes) (same-count c.args.stream.now c.run.new.stream c.run.ensures.same.1) ends.over.0
     (longer-by-two c.args.stream.now.ledger c.run.new.stream.ledger c.divide.new.stream.ledger c.args.leaf c.run.new.search c.run.new.fuel c.requires.held ends.ready ends.only
@@ -100,30 +109,39 @@ returns-in-Crowded-clause-stream g c = c.in_ok-divide-in-Crowded.ensures.stream 
 -- ---- no unit is left, or no more is wanted
 pub release-requires : goal.release-requires
 release-requires g c = still-held c.args.stream.now.ledger c.run.new.stream.ledger c.args.leaf c.enter.new.self c.run.new.search c.run.new.fuel c.as_slice.result.now c.requires.held
-    (c.as_slice.ensures.value ∙ c.in_ok-cube.ensures.value) (cube-entered c.args.search.now c.enter.new.self c.as_slice.result.now c.in_ok-enter.ensures.ok) (left.Unpaid c.in-Unpaid.conflict)
-    (subst (λ (o : Left). EndsLeaf c.args.stream.now.ledger c.run.new.stream.ledger c.args.leaf c.enter.new.self c.run.new.search c.run.new.fuel o) c.in-Unpaid.is c.in_ok-nogood.ensures.ends)
+    (c.as_slice.ensures.value ∙ c.in_ok-cube.ensures.value) (cube-entered c.args.search.now c.enter.new.self c.as_slice.result.now c.in_ok-enter.ensures.ok) (left.Unpaid
+    c.in-Unpaid.conflict)
+    (subst (λ (o : Left). EndsLeaf c.args.stream.now.ledger c.run.new.stream.ledger c.args.leaf c.enter.new.self c.run.new.search c.run.new.fuel o) c.in-Unpaid.is
+    c.in_ok-nogood.ensures.ends)
 
 pub returns-in-Unpaid-clause-leaves : goal.returns-in-Unpaid-clause-leaves
 returns-in-Unpaid-clause-leaves g c =
     after-unpaid c.args.stream.now.ledger c.run.new.stream.ledger c.args.leaf c.enter.new.self c.run.new.search c.run.new.fuel c.as_slice.result.now c.requires.held
-    (c.as_slice.ensures.value ∙ c.in_ok-cube.ensures.value) (cube-entered c.args.search.now c.enter.new.self c.as_slice.result.now c.in_ok-enter.ensures.ok) c.release.new.self c.in-Unpaid.conflict
-    (subst (λ (o : Left). EndsLeaf c.args.stream.now.ledger c.run.new.stream.ledger c.args.leaf c.enter.new.self c.run.new.search c.run.new.fuel o) c.in-Unpaid.is c.in_ok-nogood.ensures.ends) c.in_ok-release-in-Unpaid.ensures.ok
+    (c.as_slice.ensures.value ∙ c.in_ok-cube.ensures.value) (cube-entered c.args.search.now c.enter.new.self c.as_slice.result.now c.in_ok-enter.ensures.ok) c.release.new.self
+    c.in-Unpaid.conflict
+    (subst (λ (o : Left). EndsLeaf c.args.stream.now.ledger c.run.new.stream.ledger c.args.leaf c.enter.new.self c.run.new.search c.run.new.fuel o) c.in-Unpaid.is
+    c.in_ok-nogood.ensures.ends) c.in_ok-release-in-Unpaid.ensures.ok
 
 pub returns-in-Unpaid-clause-stream : goal.returns-in-Unpaid-clause-stream
 returns-in-Unpaid-clause-stream g c =
     stream-opened c.run.new.stream c.release.new.self _ c.args.leaf _ c.in_ok-nogood.ensures.stream
     (still-held c.args.stream.now.ledger c.run.new.stream.ledger c.args.leaf c.enter.new.self c.run.new.search c.run.new.fuel c.as_slice.result.now c.requires.held
-    (c.as_slice.ensures.value ∙ c.in_ok-cube.ensures.value) (cube-entered c.args.search.now c.enter.new.self c.as_slice.result.now c.in_ok-enter.ensures.ok) (left.Unpaid c.in-Unpaid.conflict)
-    (subst (λ (o : Left). EndsLeaf c.args.stream.now.ledger c.run.new.stream.ledger c.args.leaf c.enter.new.self c.run.new.search c.run.new.fuel o) c.in-Unpaid.is c.in_ok-nogood.ensures.ends)) c.in_ok-release-in-Unpaid.ensures.ok
+    (c.as_slice.ensures.value ∙ c.in_ok-cube.ensures.value) (cube-entered c.args.search.now c.enter.new.self c.as_slice.result.now c.in_ok-enter.ensures.ok) (left.Unpaid
+    c.in-Unpaid.conflict)
+    (subst (λ (o : Left). EndsLeaf c.args.stream.now.ledger c.run.new.stream.ledger c.args.leaf c.enter.new.self c.run.new.search c.run.new.fuel o) c.in-Unpaid.is
+    c.in_ok-nogood.ensures.ends)) c.in_ok-release-in-Unpaid.ensures.ok
 
 pub release-requires-in-Unwanted : goal.release-requires-in-Unwanted
-release-requires-in-Unwanted g c = still-held c.args.stream.now.ledger c.run.new.stream.ledger c.args.leaf c.enter.new.self c.run.new.search c.run.new.fuel c.as_slice.result.now c.requires.held
+release-requires-in-Unwanted g c = still-held c.args.stream.now.ledger c.run.new.stream.ledger c.args.leaf c.enter.new.self c.run.new.search c.run.new.fuel
+    c.as_slice.result.now c.requires.held
     (c.as_slice.ensures.value ∙ c.in_ok-cube.ensures.value) (cube-entered c.args.search.now c.enter.new.self c.as_slice.result.now c.in_ok-enter.ensures.ok) left.Unwanted
-    (subst (λ (o : Left). EndsLeaf c.args.stream.now.ledger c.run.new.stream.ledger c.args.leaf c.enter.new.self c.run.new.search c.run.new.fuel o) c.in-Unwanted.is c.in_ok-nogood.ensures.ends)
+    (subst (λ (o : Left). EndsLeaf c.args.stream.now.ledger c.run.new.stream.ledger c.args.leaf c.enter.new.self c.run.new.search c.run.new.fuel o) c.in-Unwanted.is
+    c.in_ok-nogood.ensures.ends)
 
 pub returns-clause-leaves : goal.returns-clause-leaves
 returns-clause-leaves g c =
-    let ends = (subst (λ (o : Left). EndsLeaf c.args.stream.now.ledger c.run.new.stream.ledger c.args.leaf c.enter.new.self c.run.new.search c.run.new.fuel o) c.in-Unwanted.is c.in_ok-nogood.ensures.ends) in
+    let ends = (subst (λ (o : Left). EndsLeaf c.args.stream.now.ledger c.run.new.stream.ledger c.args.leaf c.enter.new.self c.run.new.search c.run.new.fuel o) c.in-Unwanted.is
+    c.in_ok-nogood.ensures.ends) in
     after-unwanted c.args.stream.now.ledger c.run.new.stream.ledger c.release-in-Unwanted.new.self c.args.leaf c.run.new.search c.run.new.fuel c.requires.held ends.ready ends.only
     c.in_ok-release-in-Unwanted.ensures.ok
 
@@ -132,4 +150,5 @@ returns-clause-stream g c =
     stream-opened c.run.new.stream c.release-in-Unwanted.new.self _ c.args.leaf _ c.in_ok-nogood.ensures.stream
     (still-held c.args.stream.now.ledger c.run.new.stream.ledger c.args.leaf c.enter.new.self c.run.new.search c.run.new.fuel c.as_slice.result.now c.requires.held
     (c.as_slice.ensures.value ∙ c.in_ok-cube.ensures.value) (cube-entered c.args.search.now c.enter.new.self c.as_slice.result.now c.in_ok-enter.ensures.ok) left.Unwanted
-    (subst (λ (o : Left). EndsLeaf c.args.stream.now.ledger c.run.new.stream.ledger c.args.leaf c.enter.new.self c.run.new.search c.run.new.fuel o) c.in-Unwanted.is c.in_ok-nogood.ensures.ends)) c.in_ok-release-in-Unwanted.ensures.ok
+    (subst (λ (o : Left). EndsLeaf c.args.stream.now.ledger c.run.new.stream.ledger c.args.leaf c.enter.new.self c.run.new.search c.run.new.fuel o) c.in-Unwanted.is
+    c.in_ok-nogood.ensures.ends)) c.in_ok-release-in-Unwanted.ensures.ok

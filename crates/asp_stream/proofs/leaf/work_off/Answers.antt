@@ -28,15 +28,18 @@ returns-in_err-taken-clause-heard g c = g.met.W.Watch.begins c.args.watch.now
 -- ---- it isn't open
 pub returns-then-not-taken-clause-leaves : goal.returns-then-not-taken-clause-leaves
 returns-then-not-taken-clause-leaves g c =
-    subst (λ (w : Booked). LeavesPart c.args.stream.now.ledger w c.args.search.now c.args.fuel.now None) (sym (untaken c.args.stream.now.ledger c.take.new.self c.args.part.leaf _ c.in_ok-taken.ensures.journal c.if-not-taken.true))
+    subst (λ (w : Booked). LeavesPart c.args.stream.now.ledger w c.args.search.now c.args.fuel.now None) (sym
+    (untaken c.args.stream.now.ledger c.take.new.self c.args.part.leaf _ c.in_ok-taken.ensures.journal c.if-not-taken.true))
     (left-self c.args.stream.now.ledger c.args.search.now c.args.fuel.now c.requires.ready c.requires.alone)
 
 pub returns-then-not-taken-clause-less : goal.returns-then-not-taken-clause-less
-returns-then-not-taken-clause-less g c = λ none. less-untaken c.args.stream.now.ledger c.take.new.self c.args.stream.now.parts.items (untaken c.args.stream.now.ledger c.take.new.self c.args.part.leaf _ c.in_ok-taken.ensures.journal c.if-not-taken.true)
+returns-then-not-taken-clause-less g c = λ none. less-untaken c.args.stream.now.ledger c.take.new.self c.args.stream.now.parts.items (untaken c.args.stream.now.ledger
+    c.take.new.self c.args.part.leaf _ c.in_ok-taken.ensures.journal c.if-not-taken.true)
 
 pub returns-then-not-taken-clause-stream : goal.returns-then-not-taken-clause-stream
 returns-then-not-taken-clause-stream g c =
-    stream-untaken c.args.stream.now c.take.new.self _ c.args.part.leaf _ c.requires.stream c.requires.alone (sym c.in_ok-taken.ensures.open_leaf ∙ c.if-not-taken.true) (untaken c.args.stream.now.ledger c.take.new.self c.args.part.leaf _ c.in_ok-taken.ensures.journal c.if-not-taken.true)
+    stream-untaken c.args.stream.now c.take.new.self _ c.args.part.leaf _ c.requires.stream c.requires.alone (sym c.in_ok-taken.ensures.open_leaf ∙ c.if-not-taken.true)
+    (untaken c.args.stream.now.ledger c.take.new.self c.args.part.leaf _ c.in_ok-taken.ensures.journal c.if-not-taken.true)
 
 pub returns-then-not-taken-clause-front : goal.returns-then-not-taken-clause-front
 returns-then-not-taken-clause-front g c = stream-front c.args.stream.now _ _ _ c.lawful.ensures.task c.lawful.ensures.journal c.requires.program c.requires.stream
@@ -61,25 +64,32 @@ tell-requires g c = record {
 -- ---- no more is wanted
 pub release-requires : goal.release-requires
 release-requires g c =
-    ap (λ (z : Booked). status_of (board z).nodes c.args.part.leaf) c.tell.ensures.keeps.ledger ∙ held-taken Enum c.args.stream.now.ledger c.take.new.self c.args.part.leaf c.args.search.now c.args.fuel.now
-    (taken-is c.args.stream.now.ledger c.take.new.self c.args.part.leaf c.args.search.now c.args.fuel.now c.requires.ready c.requires.alone (sym c.in_ok-taken.ensures.open_leaf ∙ c.if-not-taken.false)
+    ap (λ (z : Booked). status_of (board z).nodes c.args.part.leaf) c.tell.ensures.keeps.ledger ∙ held-taken Enum c.args.stream.now.ledger c.take.new.self c.args.part.leaf
+    c.args.search.now c.args.fuel.now
+    (taken-is c.args.stream.now.ledger c.take.new.self c.args.part.leaf c.args.search.now c.args.fuel.now c.requires.ready c.requires.alone (sym
+    c.in_ok-taken.ensures.open_leaf ∙ c.if-not-taken.false)
     (c.in_ok-taken.ensures.journal ∙ ap (λ r. with_events c.args.stream.now.ledger (taken_this 0 c.args.part.leaf r)) c.if-not-taken.false))
 
 pub returns-then-not-wanted-clause-leaves : goal.returns-then-not-wanted-clause-leaves
 returns-then-not-wanted-clause-leaves g c =
     let taken : IsTaken Enum c.args.stream.now.ledger c.take.new.self c.args.part.leaf c.args.search.now c.args.fuel.now =
-    (taken-is c.args.stream.now.ledger c.take.new.self c.args.part.leaf c.args.search.now c.args.fuel.now c.requires.ready c.requires.alone (sym c.in_ok-taken.ensures.open_leaf ∙ c.if-not-taken.false)
+    (taken-is c.args.stream.now.ledger c.take.new.self c.args.part.leaf c.args.search.now c.args.fuel.now c.requires.ready c.requires.alone (sym
+    c.in_ok-taken.ensures.open_leaf ∙ c.if-not-taken.false)
     (c.in_ok-taken.ensures.journal ∙ ap (λ r. with_events c.args.stream.now.ledger (taken_this 0 c.args.part.leaf r)) c.if-not-taken.false)) in
-    held-left c.args.stream.now.ledger c.take.new.self c.release.new.self c.args.part.leaf c.args.search.now c.args.search.now c.args.fuel.now c.args.fuel.now (Some end.Unwanted) c.requires.alone taken
-    (after-unwanted c.take.new.self c.tell.new.stream.ledger c.release.new.self c.args.part.leaf c.args.search.now c.args.fuel.now (held-taken Enum c.args.stream.now.ledger c.take.new.self c.args.part.leaf c.args.search.now c.args.fuel.now taken)
+    held-left c.args.stream.now.ledger c.take.new.self c.release.new.self c.args.part.leaf c.args.search.now c.args.search.now c.args.fuel.now c.args.fuel.now (Some
+    end.Unwanted) c.requires.alone taken
+    (after-unwanted c.take.new.self c.tell.new.stream.ledger c.release.new.self c.args.part.leaf c.args.search.now c.args.fuel.now (held-taken Enum c.args.stream.now.ledger
+    c.take.new.self c.args.part.leaf c.args.search.now c.args.fuel.now taken)
     (subst (λ (z : Booked). IsReady Enum z c.args.search.now c.args.fuel.now) (sym c.tell.ensures.keeps.ledger) taken.ready)
     (only-same c.take.new.self c.tell.new.stream.ledger c.tell.ensures.keeps.ledger) c.in_ok-release.ensures.ok)
 
 pub returns-then-not-wanted-clause-stream : goal.returns-then-not-wanted-clause-stream
 returns-then-not-wanted-clause-stream g c =
     stream-opened c.tell.new.stream c.release.new.self _ c.args.part.leaf _ c.in_ok-wanted.ensures.stream
-    (ap (λ (z : Booked). status_of (board z).nodes c.args.part.leaf) c.tell.ensures.keeps.ledger ∙ held-taken Enum c.args.stream.now.ledger c.take.new.self c.args.part.leaf c.args.search.now c.args.fuel.now
-    (taken-is c.args.stream.now.ledger c.take.new.self c.args.part.leaf c.args.search.now c.args.fuel.now c.requires.ready c.requires.alone (sym c.in_ok-taken.ensures.open_leaf ∙ c.if-not-taken.false)
+    (ap (λ (z : Booked). status_of (board z).nodes c.args.part.leaf) c.tell.ensures.keeps.ledger ∙ held-taken Enum c.args.stream.now.ledger c.take.new.self c.args.part.leaf
+    c.args.search.now c.args.fuel.now
+    (taken-is c.args.stream.now.ledger c.take.new.self c.args.part.leaf c.args.search.now c.args.fuel.now c.requires.ready c.requires.alone (sym
+    c.in_ok-taken.ensures.open_leaf ∙ c.if-not-taken.false)
     (c.in_ok-taken.ensures.journal ∙ ap (λ r. with_events c.args.stream.now.ledger (taken_this 0 c.args.part.leaf r)) c.if-not-taken.false))) c.in_ok-release.ensures.ok
 
 pub returns-then-not-wanted-clause-unwanted : goal.returns-then-not-wanted-clause-unwanted
@@ -98,11 +108,13 @@ returns-in_err-wanted-clause-heard g c = g.met.W.Watch.begins c.args.watch.now
 pub search_leaf-requires : goal.search_leaf-requires
 search_leaf-requires g c =
     let taken : IsTaken Enum c.args.stream.now.ledger c.take.new.self c.args.part.leaf c.args.search.now c.args.fuel.now =
-    (taken-is c.args.stream.now.ledger c.take.new.self c.args.part.leaf c.args.search.now c.args.fuel.now c.requires.ready c.requires.alone (sym c.in_ok-taken.ensures.open_leaf ∙ c.if-not-taken.false)
+    (taken-is c.args.stream.now.ledger c.take.new.self c.args.part.leaf c.args.search.now c.args.fuel.now c.requires.ready c.requires.alone (sym
+    c.in_ok-taken.ensures.open_leaf ∙ c.if-not-taken.false)
     (c.in_ok-taken.ensures.journal ∙ ap (λ r. with_events c.args.stream.now.ledger (taken_this 0 c.args.part.leaf r)) c.if-not-taken.false)) in
     record {
       ready = subst (λ (z : Booked). IsReady Enum z c.args.search.now c.args.fuel.now) (sym c.tell.ensures.keeps.ledger) taken.ready;
-      held = ap (λ (z : Booked). status_of (board z).nodes c.args.part.leaf) c.tell.ensures.keeps.ledger ∙ held-taken Enum c.args.stream.now.ledger c.take.new.self c.args.part.leaf c.args.search.now c.args.fuel.now taken;
+      held = ap (λ (z : Booked). status_of (board z).nodes c.args.part.leaf) c.tell.ensures.keeps.ledger ∙ held-taken Enum c.args.stream.now.ledger c.take.new.self
+          c.args.part.leaf c.args.search.now c.args.fuel.now taken;
       stream = c.in_ok-wanted.ensures.stream;
       program = program-same c.args.stream.now c.tell.new.stream _ c.tell.ensures.keeps.compiled c.tell.ensures.front.program;
     }
@@ -114,14 +126,16 @@ returns-clause-leaves g c =
     let f = c.search_leaf.new.fuel in
     IfOk-weaker c.search_leaf.result (LeavesHeld c.tell.new.stream.ledger y c.args.part.leaf t f) (LeavesPart c.args.stream.now.ledger y t f)
     (λ how left. held-left c.args.stream.now.ledger c.take.new.self y c.args.part.leaf c.args.search.now t c.args.fuel.now f how c.requires.alone
-    (taken-is c.args.stream.now.ledger c.take.new.self c.args.part.leaf c.args.search.now c.args.fuel.now c.requires.ready c.requires.alone (sym c.in_ok-taken.ensures.open_leaf ∙ c.if-not-taken.false)
+    (taken-is c.args.stream.now.ledger c.take.new.self c.args.part.leaf c.args.search.now c.args.fuel.now c.requires.ready c.requires.alone (sym
+    c.in_ok-taken.ensures.open_leaf ∙ c.if-not-taken.false)
     (c.in_ok-taken.ensures.journal ∙ ap (λ r. with_events c.args.stream.now.ledger (taken_this 0 c.args.part.leaf r)) c.if-not-taken.false))
     (subst (λ (z : Booked). LeavesHeld z y c.args.part.leaf t f how) c.tell.ensures.keeps.ledger left)) c.search_leaf.ensures.leaves
 
 pub returns-clause-less : goal.returns-clause-less
 returns-clause-less g c =
     IfOk-weaker c.search_leaf.result _ _
-    (λ how less none. less-taken c.args.stream.now.ledger c.take.new.self c.tell.new.stream.ledger c.search_leaf.new.stream.ledger c.args.part.leaf c.args.stream.now.parts.items c.tell.new.stream.parts.items c.search_leaf.new.stream.parts.items
+    (λ how less none. less-taken c.args.stream.now.ledger c.take.new.self c.tell.new.stream.ledger c.search_leaf.new.stream.ledger c.args.part.leaf
+    c.args.stream.now.parts.items c.tell.new.stream.parts.items c.search_leaf.new.stream.parts.items
     (c.in_ok-taken.ensures.journal ∙ ap (λ r. with_events c.args.stream.now.ledger (taken_this 0 c.args.part.leaf r)) c.if-not-taken.false)
     c.tell.ensures.keeps.ledger (same-count c.args.stream.now c.tell.new.stream c.tell.ensures.keeps.parts) (less none)) c.search_leaf.ensures.less
 

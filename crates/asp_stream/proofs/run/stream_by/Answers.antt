@@ -15,13 +15,15 @@ lease-requires g c = lease-fits c.args.compiled.now c.args.budget c.in_ok-stream
 
 pub work_off_all-ended-requires : goal.work_off_all-ended-requires
 work_off_all-ended-requires g c =
-    let all = (leased c.args.compiled.now c.args.budget c.in_ok-stream.stream.ledger c.lease.new.self c.of-fuel.result (omega (arith, c.ranges.budget)) c.in_ok-stream.ensures.ledger c.of-fuel.ensures c.in_ok-lease.ensures.ok) in
+    let all = (leased c.args.compiled.now c.args.budget c.in_ok-stream.stream.ledger c.lease.new.self c.of-fuel.result (omega (arith, c.ranges.budget))
+    c.in_ok-stream.ensures.ledger c.of-fuel.ensures c.in_ok-lease.ensures.ok) in
     let same = c.in_ok-search.ensures.same in
     record {
       ready = begins-ready c.args.compiled.now c.args.budget c.lease.new.self c.in_ok-search.search c.of-fuel.result (omega (arith, c.ranges.budget)) all c.of-fuel.ensures
           (ap (λ (s : Searching). s.program) same) (ap (λ (s : Searching). s.mode) same) (ap (λ (s : Searching). s.known) same) (ap (λ (s : Searching). s.bound) same);
       alone = all.alone;
-      stream = stream-begins c.args.compiled.now c.args.budget c.in_ok-stream.stream c.lease.new.self c.of-fuel.result _ c.in_ok-stream.ensures c.of-fuel.ensures c.in_ok-lease.ensures.ok c.requires.none;
+      stream = stream-begins c.args.compiled.now c.args.budget c.in_ok-stream.stream c.lease.new.self c.of-fuel.result _ c.in_ok-stream.ensures c.of-fuel.ensures
+          c.in_ok-lease.ensures.ok c.requires.none;
       program = c.requires.reader ∙ sym c.in_ok-stream.ensures.compiled;
     }
 
@@ -67,9 +69,11 @@ returns-clause-told g c =
     let same : x.compiled.now ≡ c.args.compiled.now = (λ k. (c.work_off_all-ended.ensures.compiled k).now) ∙ c.in_ok-stream.ensures.compiled in
     IfOk-weaker c.told.result _ _
     (λ r tells. telling-by c.args.compiled.now x.compiled.now c.args.budget x.ledger f e _ _ r same
-    (run-over c.args.compiled.now c.args.budget c.in_ok-stream.stream.ledger c.lease.new.self x.ledger c.of-fuel.result f c.work_off_all-ended.new.search e (omega (arith, c.ranges.budget)) c.in_ok-stream.ensures.ledger
+    (run-over c.args.compiled.now c.args.budget c.in_ok-stream.stream.ledger c.lease.new.self x.ledger c.of-fuel.result f c.work_off_all-ended.new.search e (omega
+    (arith, c.ranges.budget)) c.in_ok-stream.ensures.ledger
     c.of-fuel.ensures c.in_ok-lease.ensures.ok c.in_ok-ended.ensures.leaves)
-    (λ over. tells c.args.budget _ _ (subst (λ (u : Units). IsOver x.compiled.now c.args.budget x.ledger u e) (sym c.fuel-2.view_is) over) c.in_ok-ended.ensures.stream c.in_ok-ended.ensures.unwanted)) c.told.ensures
+    (λ over. tells c.args.budget _ _ (subst (λ (u : Units). IsOver x.compiled.now c.args.budget x.ledger u e) (sym c.fuel-2.view_is) over) c.in_ok-ended.ensures.stream
+    c.in_ok-ended.ensures.unwanted)) c.told.ensures
 
 pub returns-clause-front : goal.returns-clause-front
 returns-clause-front g c = front-by _ _ _ _ c.in_ok-stream.ensures.compiled c.work_off_all-ended.ensures.front

@@ -29,7 +29,8 @@ pub parts-preserved : goal.parts-preserved
 parts-preserved g c = record {
   left =
       (left-on c.args.stream.now.ledger c.parts.stream.ledger c.work_off.new.stream.ledger c.parts.search c.work_off.new.search c.parts.fuel c.work_off.new.fuel _
-      c.parts.invariant.left (subst (LeavesPart c.parts.stream.ledger c.work_off.new.stream.ledger c.work_off.new.search c.work_off.new.fuel) c.in-None-2.is c.in_ok-work_off-in-Some.ensures.leaves));
+      c.parts.invariant.left (subst (LeavesPart c.parts.stream.ledger c.work_off.new.stream.ledger c.work_off.new.search c.work_off.new.fuel) c.in-None-2.is
+      c.in_ok-work_off-in-Some.ensures.leaves));
   compiled = c.work_off.ensures.compiled ∙ c.parts.invariant.compiled;
   stream = subst (IsStreamAfter c.work_off.new.stream _) c.in-None-2.is c.in_ok-work_off-in-Some.ensures.stream;
   front = front-same c.args.stream.now c.parts.stream _ _ c.parts.invariant.compiled c.work_off.ensures.front;
@@ -45,7 +46,8 @@ parts-smaller g c =
 -- ---- no part is left
 pub returns-in-None-clause-leaves : goal.returns-in-None-clause-leaves
 returns-in-None-clause-leaves g c =
-    left-finished c.args.stream.now.ledger c.parts.stream.ledger c.parts.search c.parts.fuel c.parts.invariant.left (covers-nothing c.parts.stream _ c.parts.invariant.stream (sym c.parts.stream.parts.ok.0 ∙ c.in-None.ensures.cases.0))
+    left-finished c.args.stream.now.ledger c.parts.stream.ledger c.parts.search c.parts.fuel c.parts.invariant.left (covers-nothing c.parts.stream _ c.parts.invariant.stream
+    (sym c.parts.stream.parts.ok.0 ∙ c.in-None.ensures.cases.0))
 
 pub returns-in-None-clause-stream : goal.returns-in-None-clause-stream
 returns-in-None-clause-stream g c = record { program = c.parts.invariant.stream.program; told = c.parts.invariant.stream.told; counted = c.parts.invariant.stream.counted }
@@ -54,7 +56,8 @@ returns-in-None-clause-stream g c = record { program = c.parts.invariant.stream.
 pub returns-in-Some-2-clause-leaves : goal.returns-in-Some-2-clause-leaves
 returns-in-Some-2-clause-leaves g c =
     (left-on c.args.stream.now.ledger c.parts.stream.ledger c.work_off.new.stream.ledger c.parts.search c.work_off.new.search c.parts.fuel c.work_off.new.fuel _
-    c.parts.invariant.left (subst (LeavesPart c.parts.stream.ledger c.work_off.new.stream.ledger c.work_off.new.search c.work_off.new.fuel) c.in-Some-2.is c.in_ok-work_off-in-Some.ensures.leaves))
+    c.parts.invariant.left (subst (LeavesPart c.parts.stream.ledger c.work_off.new.stream.ledger c.work_off.new.search c.work_off.new.fuel) c.in-Some-2.is
+    c.in_ok-work_off-in-Some.ensures.leaves))
 
 pub returns-in-Some-2-clause-stream : goal.returns-in-Some-2-clause-stream
 returns-in-Some-2-clause-stream g c = subst (IsStreamAfter c.work_off.new.stream _) c.in-Some-2.is c.in_ok-work_off-in-Some.ensures.stream
