@@ -28,11 +28,6 @@ use Rattle.asp_stream.specs.declared.leaf.Course.{Course}
 use Rattle.asp_stream.specs.declared.leaf.Course.TheVariants as course
 use Rattle.asp_stream.specs.declared.leaf.Left.TheVariants as left
 
--- ---- an answer
--- an event leaves the task
-pub enumerates-with : (v w : Booked) → v.task ≡ enumeration v.task.program v.task.budget → w.task ≡ v.task → w.task ≡ enumeration w.task.program w.task.budget
-enumerates-with v w task same = subst (λ (t : Task). t ≡ enumeration t.program t.budget) (sym same) task
-
 module _ (gives : Nogood → Type 0) (silent : List (Option Bool) → Type 0) (v : Booked) (s t : Searching) (f g : Units) (is : IsUnderway Enum v s f) (r : Step)
     (h : IsStep gives silent s t f g r) where
   pub goes-decided : r ≡ step.Decided → length t.entries ≤ var_count t.program + 1 → GoesOn v v s t f g course.Open

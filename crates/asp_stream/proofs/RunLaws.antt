@@ -100,6 +100,3 @@ no-parts (p ∷ parts) e = absurd (let f : ⊥ = omega (arith, e) in f)
 
 pub covers-nothing : (s : Stream) (heard : List Atoms) → IsStreamOf s heard (leaves_of s.parts.items) → length s.parts.items ≡ 0 → Covers (board s.ledger) []
 covers-nothing s heard is none = subst (Covers (board s.ledger)) (ap leaves_of (no-parts s.parts.items none)) is.covers
-
-pub stream-over : (s : Stream) (heard : List Atoms) (leaves : List ℕ) → IsStreamOf s heard leaves → IsStreamAtEnd s heard
-stream-over s heard leaves is = record { program = is.program; told = is.told; counted = is.counted }

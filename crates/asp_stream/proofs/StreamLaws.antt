@@ -70,20 +70,6 @@ stream-started p budget x leaf set row = record {
     here zero h = ap (λ y. y || false) (eq-eqb x.leaf 0 leaf)
     here (suc m) h = absurd (false≢true h)
 
--- an event that delivers nothing
-pub stream-happens : {count : ℕ} (p : Program) (v w : Booked) (heard : List Atoms) (q : Pending) (parts : List Part) (leaves after : List ℕ) (e : Event) →
-    IsStream p v count heard q parts leaves → Guard (board v) e → w ≡ with_events v (e ∷ []) → (happens (board v) e).answers ≡ (board v).answers → Covers (board w) after →
-    IsStream p w count heard q parts after
-stream-happens p v w heard q parts leaves after e is guard now answers covers =
-    let b : board w ≡ happens (board v) e = ap board now ∙ board-with v e in
-    record {
-      program = ap (λ (z : Booked). z.task.program) now ∙ is.program;
-      counted = is.counted;
-      told = subst (λ (c : Board). IsTold c heard q) (sym b) (told-happens (board v) e heard q guard (Grows-happens (board v) e guard).task answers is.told);
-      parts_are = subst (λ (c : Board). AllByRecursion (IsPart c) parts) (sym b) (parts-happen (board v) e parts guard is.parts_are);
-      covers = covers;
-    }
-
 pub deliver-guard : (v : Booked) (S : Atoms) → v.task ≡ enumeration v.task.program v.task.budget → is_answer v.task S ≡ true → Guard (board v) (event.Deliver 0 S)
 deliver-guard v S task answer = (lists-all v task S, ap (λ (t : Task). is_answer t S) (board-task v) ∙ answer, no-limit v task)
 
