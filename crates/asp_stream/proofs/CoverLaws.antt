@@ -55,7 +55,8 @@ covers-closed b c leaf leaves there nodes covers m h = here (cases_eq m leaf)
   where
     here : ((m ≡ leaf) ⊎ (m ≡ leaf → ⊥)) → has leaves m ≡ true
     here (inl e) =
-        let shut : status_of c.nodes m ≡ status.Closed = ap (λ (ns : List Node). status_of ns m) nodes ∙ ap (status_of (with_status b.nodes leaf status.Closed)) e ∙ status-set b.nodes leaf status.Closed there in
+        let shut : status_of c.nodes m ≡ status.Closed =
+        ap (λ (ns : List Node). status_of ns m) nodes ∙ ap (status_of (with_status b.nodes leaf status.Closed)) e ∙ status-set b.nodes leaf status.Closed there in
         absurd (false≢true (ap is_unclosed (sym shut) ∙ h))
     here (inr other) = has-later leaf leaves m (covers-set b c leaf status.Closed leaves nodes covers m h) other
 

@@ -148,7 +148,8 @@ stood [] x y (suc (suc m)) = inr (inr (inr refl))
 stood (z ∷ nodes) x y zero = inl (omega arith, refl)
 stood (z ∷ nodes) x y (suc m) = further (stood nodes x y m)
   where
-    further : ((m < length nodes) × (get_or (nodes ++ x ∷ y ∷ []) m nowhere ≡ get_or nodes m nowhere)) ⊎ ((m ≡ length nodes) ⊎ ((m ≡ length nodes + 1) ⊎ (get_or (nodes ++ x ∷ y ∷ []) m nowhere ≡ nowhere))) →
+    further : ((m < length nodes) × (get_or (nodes ++ x ∷ y ∷ []) m nowhere ≡ get_or nodes m nowhere))
+        ⊎ ((m ≡ length nodes) ⊎ ((m ≡ length nodes + 1) ⊎ (get_or (nodes ++ x ∷ y ∷ []) m nowhere ≡ nowhere))) →
         ((suc m < length (z ∷ nodes)) × (get_or (nodes ++ x ∷ y ∷ []) m nowhere ≡ get_or nodes m nowhere))
         ⊎ ((suc m ≡ length (z ∷ nodes)) ⊎ ((suc m ≡ length (z ∷ nodes) + 1) ⊎ (get_or (nodes ++ x ∷ y ∷ []) m nowhere ≡ nowhere)))
     further (inl h) = inl (omega (arith, h.0), h.1)
@@ -194,7 +195,8 @@ covers-divided b leaf l leaves c nodes covers there m h = here (cases_eq m n)
     old u (inr other) = before (has-later leaf leaves m (covers m (ap is_unclosed (sym (status-other b.nodes leaf m status.Forked other)) ∙ u)) other)
 
     by-place : is_unclosed (status_of (split b.nodes leaf l) m) ≡ true →
-        ((m < length forked) × (get_or (forked ++ left ∷ right ∷ []) m nowhere ≡ get_or forked m nowhere)) ⊎ ((m ≡ length forked) ⊎ ((m ≡ length forked + 1) ⊎ (get_or (forked ++ left ∷ right ∷ []) m nowhere ≡ nowhere))) →
+        ((m < length forked) × (get_or (forked ++ left ∷ right ∷ []) m nowhere ≡ get_or forked m nowhere))
+        ⊎ ((m ≡ length forked) ⊎ ((m ≡ length forked + 1) ⊎ (get_or (forked ++ left ∷ right ∷ []) m nowhere ≡ nowhere))) →
         (m ≡ n → ⊥) → has (leaves ++ (n + 1) ∷ n ∷ []) m ≡ true
     by-place u (inl p) other = old (ap (λ (x : Node). is_unclosed x.status) (sym p.1) ∙ u) (cases_eq m leaf)
     by-place u (inr (inl p)) other = absurd (other (p ∙ same-length))
