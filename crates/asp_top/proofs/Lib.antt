@@ -1,4 +1,5 @@
 pub mod StreamLaws
+pub mod EndLaws
 pub mod RunLaws
 pub mod DoneLaws
 pub mod WholeLaws

@@ -1,10 +1,10 @@
 -- A list of all answers that is written while it is found: what of the program searched is written is what of the whole program is.
-use Rattle.std.proofs.Common.{◌≡◌, ℕ, ◌+◌, ◌<◌, Bool, true, false, not, ◌&&◌, ◌||◌, ◌==◌, cond, List, [], ◌∷◌, ◌++◌, map, refl, sym, ap, ◌∙◌, subst, inl, inr, arith}
+use Rattle.std.proofs.Common.{◌≡◌, ℕ, ◌+◌, Bool, true, false, not, ◌&&◌, ◌||◌, ◌==◌, cond, List, [], ◌∷◌, ◌++◌, map, refl, sym, ap, ◌∙◌, subst, inl, inr}
 use Rattle.std.specs.Prelude.{Option, None, Some, codes, decimal, is_some}
 use Rattle.std.specs.List.{join_with_byte}
 use Rattle.std.proofs.lemmas.Bool.{and_parts, eqb-true, false≢true}
 use Rattle.std.specs.Io.KnownBytes.{Appends}
-use Rattle.asp_io.specs.Causes.{AppendsFront, Rose}
+use Rattle.asp_io.specs.Causes.{AppendsFront}
 use Rattle.asp_model.specs.declared.program.Program.{Program}
 use Rattle.asp_model.specs.declared.results.Ask.{Ask}
 use Rattle.asp_model.specs.declared.results.End.{End}
@@ -22,7 +22,6 @@ use Rattle.asp_equal.proofs.ReducedLaws.{same-answers, shown-reduced}
 use Rattle.asp_unfold.specs.Unfolded.{unfolded}
 use Rattle.asp_unfold.proofs.SameLaws.{same-answers as same-unfolded}
 use Rattle.asp_named.specs.Named.{named}
-use Rattle.asp_crew_laws.specs.declared.report.Report.{Report}
 use Rattle.asp_crew_laws.specs.Proofs.{HasProof, HasProofAt}
 use Rattle.asp_crew_laws.specs.Reports.{IsPartOf, IsReport, Says as SaysReport}
 use Rattle.asp_crew_laws.specs.Runs.{asks}
@@ -30,17 +29,15 @@ use Rattle.asp_cli.specs.declared.Form.{Form}
 use Rattle.asp_cli.specs.declared.Form.TheVariants.{Text, Json}
 use Rattle.asp_cli.specs.declared.Options.{Options}
 use Rattle.asp_cli.specs.Found.{seeks_consequences}
-use Rattle.asp_prepare.specs.Meaning.{has_model, mode_of}
+use Rattle.asp_prepare.specs.Meaning.{mode_of}
 use Rattle.asp_prepare.specs.Naming.{HasNumbers, ask_of, asked, is_json, is_named, is_settled, searched, set_aside}
-use Rattle.asp_prepare.specs.Told.{report_text, report_with, text_in, told_with}
+use Rattle.asp_prepare.specs.Told.{report_text, text_in, told_with}
 use Rattle.asp_prepare.proofs.AskedLaws.{asked-sound}
 use Rattle.asp_prepare.proofs.ToldLaws.{told-says}
 use Rattle.asp_stream.specs.Endings.{HasReport, report_of}
 use Rattle.asp_stream.specs.declared.told.Told.{Told}
 use Rattle.asp_top.specs.declared.status.Status.{Status}
 use Rattle.asp_top.specs.declared.status.Outcome.{Outcome}
-use Rattle.asp_top.specs.Meaning.{status_for}
-use Rattle.asp_top.specs.Codes.{IsLost}
 use Rattle.asp_top.specs.Notes.{is_enumeration, lists_lines}
 use Rattle.asp_top.specs.Runs.{Around, DeliversRest, DeliveryMeans, IsCutShort, IsGiven, IsReported, IsSolved, IsStreamCut, as_lines, is_brief, layout_of, streams}
 use Rattle.asp_top.proofs.WholeLaws.{named-last, unsought-mode}

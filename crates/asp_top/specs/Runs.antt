@@ -1,5 +1,5 @@
 -- What each status of a run says of the words, of the bytes read and of the bytes written.
-use Rattle.std.specs.Prelude.{◌≡◌, ◌⊎◌, ℕ, ◌≤◌, ◌==◌, Bool, true, false, ◌||◌, if◌then◌else◌, List, [], ◌++◌, Option, None, Some, Result, Ok, Err, IfSome, is_some, length, ℤ}
+use Rattle.std.specs.Prelude.{◌≡◌, ◌⊎◌, ℕ, ◌+◌, ◌<◌, ◌≤◌, ◌^◌, ◌==◌, Bool, true, false, ◌||◌, if◌then◌else◌, List, [], ◌++◌, Option, None, Some, Result, Ok, Err, IfSome, is_some, length, ℤ}
 use Rattle.std.specs.Io.KnownBytes.{Appends, Keeps, IsAtEnd}
 use Rattle.asp_io.specs.Causes.{Rose, AppendsFront}
 use Rattle.asp_read.specs.declared.fault.Fault.{Fault}
@@ -312,6 +312,16 @@ abbrev pub EndsStream : StreamEnd → Program → List Atoms → Told → Option
 EndsStream ends.Finished p heard t held held' writes writes' o = DeliversRest p heard t held held' writes writes' o
 EndsStream (ends.Unpaid x) p heard t held held' writes writes' o = DeliversRest p heard t held held' writes writes' o
 EndsStream ends.Unwanted p heard t held held' writes writes' o = IsCutShort p held held' writes writes' o
+
+-- What is left can be written by the outlet, and counted.
+pub record HasRest (p : Program) (heard : List Atoms) (t : Told) : Type 0 where
+  pub atoms : t.rest.atoms ≡ atoms_of p
+  pub few : length heard + length t.rest.sets + 1 < 2 ^ 64
+
+-- the same where memory may have run out
+abbrev pub EndsRun : {E : Type 0} → Result Told E → Program → List Atoms → Option (List ℕ) → Option (List ℕ) → ℕ → ℕ → Outcome → Type 0
+EndsRun (Ok t) p heard held held' writes writes' o = EndsStream t.end p heard t held held' writes writes' o
+EndsRun (Err e) p heard held held' writes writes' o = IsCutShort p held held' writes writes' o
 
 -- All answers that were sought with these units were found and written, unless it was cut short.
 abbrev pub Streams : Program → ℕ → Option (List ℕ) → Option (List ℕ) → ℕ → ℕ → Outcome → Type 0

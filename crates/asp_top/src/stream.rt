@@ -1,14 +1,14 @@
 //! A program whose answers are written while they are found.
-ghost use Rattle.std.specs.Prelude.{◌≡◌, ◌+◌, ◌++◌, ◌<◌, ◌^◌, [], IfSome, false, length};
+ghost use Rattle.std.specs.Prelude.{◌≡◌, ◌++◌, [], IfOk, IfSome, false};
 ghost use mathlib.Core.List.{IsPrefix};
 ghost use Rattle.asp_cli.specs.Found.{IsApart};
 ghost use Rattle.asp_model.specs.declared.program.Program.{Program};
-ghost use Rattle.asp_model.specs.Models.{answers, atoms_of};
+ghost use Rattle.asp_model.specs.Models.{answers};
 ghost use Rattle.asp_outlet.specs.Outlets.{IsAfter, Moment, moment};
 ghost use Rattle.asp_prepare.specs.Meaning.{is_some_of};
 ghost use Rattle.asp_prepare.specs.Naming.{prepared_of};
 ghost use Rattle.asp_stream.specs.Endings.{end_of};
-ghost use Rattle.asp_top.specs.Runs.{DeliversRest, EndsStream, IsCounted, IsCutShort, IsSentOn, SolvesBy, Streams, TellsClosed, TellsFaults, ending, streams};
+ghost use Rattle.asp_top.specs.Runs.{DeliversRest, EndsRun, EndsStream, HasRest, IsCounted, IsCutShort, IsSentOn, SolvesBy, Streams, TellsClosed, TellsFaults, ending, streams};
 
 use crate::counts::Tally;
 use crate::deliver::failed;
@@ -27,7 +27,8 @@ use asp_prepare::asked::ask_of;
 use asp_prepare::prepared::Prepared;
 use asp_rows::rows::Rows;
 use asp_stream::{End as StreamEnd, Told, into_report, stream_alone};
-use std::alloc::Global;
+use std::alloc::{AllocError, Global};
+use std::mem;
 
 // Whether an answer was heard, or is left.
 fn has_answer(listing: &Listing<'_>, rest: &Rows) -> bool
@@ -53,6 +54,7 @@ fn cut_short<K: Sink>(outlet: &Outlet<'_, K>) -> Outcome
     ensures cut { (a : Moment) → a.heard ≡ [] → a.failed ≡ false
         → IsAfter outlet.now.listing.program a (moment outlet.now.listing.sets (K.held outlet.now.sink.now) (K.faults outlet.now.sink.now) outlet.now.failed)
         → IsCutShort outlet.now.listing.program a.held (K.held outlet.now.sink.now) a.faults (K.faults outlet.now.sink.now) result }
+    ensures sent { IsSentOn result.status (K.is_sent outlet.now.sink.now) }
     ensures closed { TellsClosed result.status (K.is_closed outlet.now.sink.now) }
 {
     if outlet.failed {
@@ -65,8 +67,7 @@ fn cut_short<K: Sink>(outlet: &Outlet<'_, K>) -> Outcome
 // Writes the answers that are left, and the lines after the last.
 fn write_rest<K: Sink>(outlet: &mut Outlet<'_, K>, end: End, told: Told) -> Outcome
     requires end { end ≡ end_of told.end }
-    requires atoms { told.rest.atoms ≡ atoms_of outlet.old.listing.program }
-    requires room { length outlet.old.listing.sets + length told.rest.sets + 1 < 2 ^ 64 }
+    requires rest { HasRest outlet.old.listing.program outlet.old.listing.sets told }
     ensures same { outlet.new.sink.ghost_name ≡ outlet.old.sink.ghost_name }
     ensures delivers { (a : Moment) → a.heard ≡ [] → a.failed ≡ false
         → IsAfter outlet.old.listing.program a (moment outlet.old.listing.sets (K.held outlet.old.sink.now) (K.faults outlet.old.sink.now) outlet.old.failed)
@@ -88,8 +89,7 @@ fn write_rest<K: Sink>(outlet: &mut Outlet<'_, K>, end: End, told: Told) -> Outc
 // Ends a stream, unless no more was wanted.
 fn end_stream<K: Sink>(outlet: &mut Outlet<'_, K>, told: Told) -> Outcome
     requires front { IsPrefix outlet.old.listing.sets (answers outlet.old.listing.program) }
-    requires atoms { told.rest.atoms ≡ atoms_of outlet.old.listing.program }
-    requires room { length outlet.old.listing.sets + length told.rest.sets + 1 < 2 ^ 64 }
+    requires rest { HasRest outlet.old.listing.program outlet.old.listing.sets told }
     ensures same { outlet.new.sink.ghost_name ≡ outlet.old.sink.ghost_name }
     ensures ends { (a : Moment) → a.heard ≡ [] → a.failed ≡ false
         → IsAfter outlet.old.listing.program a (moment outlet.old.listing.sets (K.held outlet.old.sink.now) (K.faults outlet.old.sink.now) outlet.old.failed)
@@ -102,6 +102,28 @@ fn end_stream<K: Sink>(outlet: &mut Outlet<'_, K>, told: Told) -> Outcome
         None => cut_short(outlet),
     }
 }
+
+// Ends a run whose answers were written while they were found.
+fn end_run<K: Sink>(outlet: &mut Outlet<'_, K>, told: Result<Told, AllocError>) -> Outcome
+    requires front { IsPrefix outlet.old.listing.sets (answers outlet.old.listing.program) }
+    requires rest { IfOk told (HasRest outlet.old.listing.program outlet.old.listing.sets) }
+    ensures same { outlet.new.sink.ghost_name ≡ outlet.old.sink.ghost_name }
+    ensures ends { (a : Moment) → a.heard ≡ [] → a.failed ≡ false
+        → IsAfter outlet.old.listing.program a (moment outlet.old.listing.sets (K.held outlet.old.sink.now) (K.faults outlet.old.sink.now) outlet.old.failed)
+        → EndsRun told outlet.old.listing.program outlet.old.listing.sets a.held (K.held outlet.new.sink.now) a.faults (K.faults outlet.new.sink.now) result }
+    ensures sent { IsSentOn result.status (K.is_sent outlet.new.sink.now) }
+    ensures closed { TellsClosed result.status (K.is_closed outlet.new.sink.now) }
+{
+    match told {
+        Ok(told) => end_stream(outlet, told),
+        Err(_) => cut_short(outlet),
+    }
+}
+
+// Leaves the sink as it is: whose it was has it again.
+fn hand_back<K: Sink>(_sink: &mut K)
+    ensures { _sink.new ≡ _sink.old }
+{}
 
 // One search finds all answers, and each is written as soon as no smaller one can come.
 fn stream<K: Sink, W: Watch>(
@@ -131,10 +153,15 @@ fn stream<K: Sink, W: Watch>(
     );
     let loops = loops(alloc, compiled, options.stats);
     *tally = Tally::of(compiled, loops, counts, Vec::new(alloc));
-    match told {
-        Ok(told) => end_stream(&mut outlet, told),
-        Err(_) => cut_short(&outlet),
-    }
+    let outcome = end_run(&mut outlet, told);
+    let Outlet {
+        sink,
+        listing,
+        failed: _,
+    } = outlet;
+    mem::drop(listing);
+    hand_back(sink);
+    outcome
 }
 
 /// One search solves it, or two where all optima are asked for. Where that was asked for, a list of all answers is written while it is

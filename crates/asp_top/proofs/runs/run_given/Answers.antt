@@ -1,4 +1,4 @@
-use Rattle.std.proofs.Common.{◌≡◌, ◌∙◌, ◌==◌, ◌||◌, Bool, false, sym}
+use Rattle.std.proofs.Common.{◌≡◌, ◌∙◌, ◌==◌, ◌||◌, false, sym}
 use Rattle.std.specs.Prelude.{is_some}
 use Rattle.asp_cli.specs.declared.Options.{Options}
 use Rattle.asp_top.proofs.RunLaws.{first-false, second-false, unsplit}
