@@ -13,7 +13,7 @@ from os.path import abspath, dirname, join
 
 HERE = dirname(abspath(__file__))
 ANSWERED = (1, 10, 11, 20, 30)
-APART = ("--make", "--proof", "--split", "--output", "--outf", "-h", "--help", "--version", "--queries")
+APART = ("--make", "--proof", "--split", "--output", "--outf", "-h", "--help", "--version", "--queries", "--stream")
 ODD = 'q"u\\o\t\x01\x1f\x7f\u00e4 x'
 
 
