@@ -26,7 +26,7 @@ use Rattle.asp_top.specs.declared.status.Outcome.{Outcome}
 use Rattle.asp_top.specs.declared.status.Status.TheVariants.{Memory, WriteFault}
 use Rattle.asp_top.specs.Loops.{HasLoops}
 use Rattle.asp_top.specs.Notes.{is_streamed}
-use Rattle.asp_top.specs.Runs.{DeliversRest, EndsRun, EndsStream, HasRest, IsCounted, IsCutShort, SolvesBy, Streams, ending, streams}
+use Rattle.asp_top.specs.Runs.{DeliversRest, EndsRun, EndsStream, HasRest, IsCounted, IsCutShort, Solves, SolvesBy, Streams, ending, streams}
 
 filled : (n : ℕ) → (n ≡ 0 → ⊥) → not (nat_eq n 0) ≡ true
 filled n some = ap not (isn't (nat_eq n 0) refl)
@@ -124,3 +124,7 @@ pub solves-streamed : (given : Options) (p : Program) (x : Prepared) (h h' : Opt
     → Streams x.compiled given.budget h h' w w' o → SolvesBy (streams given p) given p h h' w w' o
 solves-streamed given p x h h' w w' o is on s =
     subst (λ (b : Bool). SolvesBy b given p h h' w w' o) (sym on) (subst (λ (y : Prepared). Streams y.compiled given.budget h h' w w' o) is s)
+
+pub solves-at-once : (given : Options) (p : Program) (h h' : Option (List ℕ)) (w w' : ℕ) (o : Outcome) → streams given p ≡ false → Solves given p h h' w w' o
+    → SolvesBy (streams given p) given p h h' w w' o
+solves-at-once given p h h' w w' o off s = subst (λ (b : Bool). SolvesBy b given p h h' w w' o) (sym off) s

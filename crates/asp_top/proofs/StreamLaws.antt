@@ -11,6 +11,7 @@ use Rattle.asp_model.specs.declared.results.End.{End}
 use Rattle.asp_model.specs.declared.results.End.TheVariants.{Finished, Limited, Unfinished}
 use Rattle.asp_model.specs.declared.results.Mode.{Mode}
 use Rattle.asp_model.specs.declared.results.Mode.TheVariants.{Enum, Opt, Consequences}
+use Rattle.asp_model.specs.Asked.{reasoning_of}
 use Rattle.asp_model.specs.Found.{Found}
 use Rattle.asp_model.specs.Models.{answers}
 use Rattle.asp_model.specs.Sets.{Atoms}
@@ -81,7 +82,7 @@ is-listing given p on =
 
 pub unnamed : (given : Options) (p : Program) → IsListing given p → is_named given ≡ false
 unnamed given p list =
-    last (is_settled given) (seeks_consequences (Some given.mode)) (given.names || is_json given.form) (unsought-mode given.mode p (mode_of given.mode p) refl (ap _ list.mode))
+    last (is_settled given) (seeks_consequences (Some given.mode)) (given.names || is_json given.form) (unsought-mode given.mode p (mode_of given.mode p) refl (ap reasoning_of list.mode))
   where
     last : (a b c : Bool) → b ≡ false → (a && b && c) ≡ false
     last a b c e = named-last a b c e

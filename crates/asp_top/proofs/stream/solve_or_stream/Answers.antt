@@ -1,6 +1,5 @@
-use Rattle.std.proofs.Common.{◌∙◌, Bool, subst, sym}
-use Rattle.asp_top.specs.Runs.{SolvesBy}
-use Rattle.asp_top.proofs.EndLaws.{solves-streamed, streamed-as}
+use Rattle.std.proofs.Common.{◌∙◌}
+use Rattle.asp_top.proofs.EndLaws.{solves-at-once, solves-streamed, streamed-as}
 use Rattle.asp_top.proofs.stream.solve_or_stream.Goals as goal
 
 pub returns-then-is_streamed-clause-solves : goal.returns-then-is_streamed-clause-solves
@@ -11,4 +10,4 @@ returns-then-is_streamed-clause-solves g c = λ p is.
 pub returns-else-is_streamed-clause-solves : goal.returns-else-is_streamed-clause-solves
 returns-else-is_streamed-clause-solves g c = λ p is.
     let off = streamed-as c.args.options.now p c.args.prepared.now c.program.result.now c.ask_of-ask.result c.is_streamed.result is c.program.ensures.program c.ask_of-ask.ensures c.is_streamed.ensures in
-    subst (λ (b : Bool). SolvesBy b c.args.options.now p _ _ _ _ c.solve.result) (sym (off ∙ c.if-is_streamed.false)) (c.solve.ensures.solves p is)
+    solves-at-once c.args.options.now p _ _ _ _ c.solve.result (off ∙ c.if-is_streamed.false) (c.solve.ensures.solves p is)
