@@ -168,7 +168,7 @@ proof-unasked : (b c : Bool) → not (b || c) ≡ true → b ≡ false
 proof-unasked true c e = absurd (false≢true e)
 proof-unasked false c e = refl
 
-proof-none : (given : Options) (p : Program) (heard : List Atoms) (t : Told) → IsListing given p → HasProof given.proof (report_of heard t)
+pub proof-none : (given : Options) (p : Program) (heard : List Atoms) (t : Told) → IsListing given p → HasProof given.proof (report_of heard t)
 proof-none given p heard t list =
     subst (λ (wanted : Bool). HasProof wanted (report_of heard t)) (sym (proof-unasked given.proof (is_some given.split) list.settled))
     (unproved (report_of heard t).results.end false (report_of heard t).results)
