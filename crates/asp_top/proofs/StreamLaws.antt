@@ -189,7 +189,7 @@ means-asked given p q heard t held held' writes writes' status list (inr m) =
     inr (m.0, subst (λ (text : List ℕ). AppendsFront held held' text) (text-lines given p q heard t list) m.1, m.2)
 
 -- ---- a whole run
-unfoldable pub streamed-solved : (given : Options) (a : Around) (p : Program) (heard : List Atoms) (t : Told) (o : Outcome) →
+abbrev pub streamed-solved : (given : Options) (a : Around) (p : Program) (heard : List Atoms) (t : Told) (o : Outcome) →
     given.split ≡ None → IsGiven given.format given.make a p → IsSound p → HasNumbers given p → streams given p ≡ true
     → HasReport (searched given p) given.budget heard t → DeliversRest (searched given p) heard t a.held a.held' a.writes a.writes' o → IsSolved given a o.report
 streamed-solved given a p heard t o whole from sound numbers on has d =
