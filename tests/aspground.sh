@@ -56,6 +56,28 @@ ground x.lp
 told "all answers" 30 "$both"
 ground x.lp -- --models 1
 told "aspenum's arguments" 11 "$first"
+# what aspenum is called with: answers come as they are found, where all are asked for and nothing is minimised
+cat > "$room/words" << 'END'
+#!/bin/sh
+cat > /dev/null
+echo "$@"
+exit 30
+END
+chmod +x "$room/words"
+# words WANTED ARGUMENT..
+words() {
+    ASPENUM=$room/words ground x.lp "${@:2}"
+    told "the words for ${*:2}" 30 "$1\n"
+}
+words '--names --stream'
+words '--names --stream --stats --budget 5' -- --stats --budget 5
+for word in --models=1 --workers=2 --mode=opt -q --output=json --proof --opt-all --stream; do
+    words "--names $word" -- "$word"
+done
+words '--split=2' -- --split=2
+echo 'cat "$ROOM/aspif"; echo "2 0 1 1 1"' > "$room/act"
+words '--names'
+echo 'cat "$ROOM/aspif"' > "$room/act"
 ground -- --models=1
 told "no argument for gringo" 11 "$first"
 ground x.lp --

@@ -139,7 +139,7 @@ SMALL = [
     ("pigeons of 9", pigeons(9), 20, b"UNSATISFIABLE\nModels: 0\n"),
     ("knapsack of 22", knapsack(22, 3, 1), 30, b"OPTIMUM FOUND\nModels: 1\n"),
 ]
-ROOM = 6750 * 1024  # bytes of address space: in 6,484 to 6,504 KB the stack of the program of 30 November 2026 could not grow
+ROOM = 6500 * 1024  # bytes of address space
 
 # a program for several workers, whether it is an enumeration, and whether it is split; conflicts of one worker
 CREWS = [
