@@ -86,7 +86,7 @@ check:
 
 edits:
 	@$(need_rt)
-	@tests/edits.sh $(NAMES)
+	@tests/edits.sh -t -o $(NAMES)
 
 clean:
 	rm -rf build crates/*/out

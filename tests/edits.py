@@ -8,14 +8,18 @@
                                        edit a function, and takes away those that are refused in theirs, RT_JOBS crates
                                        side by side
     edits.py functions COPY NAME..     the same by a check for each edit of the one function that it changes
+    edits.py untried COPY NAME..       prints those of these crates whose edits aren't all known to be refused of their files
+    edits.py tried COPY TOLD NAME..    notes in edits/TRIED the crates of which each edit was refused, by what was told
 
 A library is taken from what `rt ci` keeps beside the kit, by the sum of all that it was proved from, or from a clone in
 which `rt ci` ran and whose files are the same. Where rt has another form than the one that this script knows, nothing is
 taken: rt proves the libraries again then, which costs time alone.
 """
 import concurrent.futures
+import datetime
 import filecmp
 import glob
+import hashlib
 import importlib.machinery
 import importlib.util
 import os
@@ -280,6 +284,57 @@ def say_refused(crate, edit, told):
     print(f"edits: {crate.name}/{os.path.basename(edit)}: refused, as it must be: {told[:160]}", flush=True)
 
 
+# A line for each crate whose edits were all refused: its name, the sum of its files and edits, how many they are, and the day.
+TRIED = os.path.join(os.path.dirname(os.path.dirname(os.path.abspath(__file__))), "edits", "TRIED")
+
+
+def sum_of(folder, name):
+    """Returns the sum of a crate's sources and of its edits, in whichever folder these are."""
+    files = {it: f"{folder}/crates/{name}/{it}" for it in sources(f"{folder}/crates/{name}")}
+    files |= {os.path.basename(it): it for it in edits_in(folder, name)}
+    total = hashlib.sha256()
+    for label, file in sorted(files.items()):
+        with open(file, "rb") as content:
+            total.update(f"{label}\n".encode() + hashlib.sha256(content.read()).digest())
+    return total.hexdigest()[:16]
+
+
+def edits_in(folder, name):
+    return glob.glob(f"{folder}/edits/{name}/*.edit") + glob.glob(f"{folder}/crates/{name}/must-fail/*.edit")
+
+
+def tried_lines():
+    """Returns the lines of edits/TRIED, by crate."""
+    try:
+        with open(TRIED, encoding="utf-8") as file:
+            return {line.split()[0]: line for line in file if line.strip() and not line.startswith("#")}
+    except FileNotFoundError:
+        return {}
+
+
+def untried(folder, names):
+    """Prints the crates of which edits/TRIED has no line with the sum of their files as they stand."""
+    lines = tried_lines()
+    print(" ".join(name for name in names if lines.get(name, "x x").split()[1] != sum_of(folder, name)))
+    return 0
+
+
+def tried(folder, told, *names):
+    """Notes the crates of which so many edits were refused as they have."""
+    with open(told, encoding="utf-8") as file:
+        words = file.read()
+    lines = tried_lines()
+    for name in names:
+        count = len({os.path.basename(it) for it in edits_in(folder, name)})
+        refused = re.findall(rf"^(?:rt: must-fail|edits:) {name}/\S+\.edit: refused, as it must be", words, re.M)
+        if count and len(set(refused)) == count:
+            lines[name] = f"{name} {sum_of(folder, name)} {count} {datetime.date.today()}\n"
+    with open(TRIED, "w", encoding="utf-8") as file:
+        file.write("# crate, sum of its sources and edits, how many edits, and the day on which each of them was refused (tests/edits.sh)\n")
+        file.writelines(lines[name] for name in sorted(lines))
+    return 0
+
+
 def side_by_side(rt, call, items):
     rt.rtlib.guarded()
     with concurrent.futures.ThreadPoolExecutor(int(os.environ.get("RT_JOBS", "1"))) as pool:
@@ -314,7 +369,8 @@ def functions(copy, names):
 def main():
     command, copy, names = sys.argv[1], os.path.realpath(sys.argv[2]), sys.argv[3:]
     os.chdir(copy)
-    sys.exit({"libraries": libraries, "applied": applied, "together": together, "functions": functions}[command](copy, names))
+    commands = {"libraries": libraries, "applied": applied, "together": together, "functions": functions, "untried": untried}
+    sys.exit(tried(copy, *names) if command == "tried" else commands[command](copy, names))
 
 
 if __name__ == "__main__":

@@ -1,12 +1,13 @@
 #!/usr/bin/env bash
 # Tries the edits that the gate leaves out, those of edits/NAME, beside those of crates/NAME/must-fail: the check must
 # refuse each.
-# Usage: tests/edits.sh [-n] [-q] [-t] [-j JOBS] [-p CLONE] [NAME..]     (every crate of edits/ where none is named)
+# Usage: tests/edits.sh [-n] [-q] [-t] [-o] [-j JOBS] [-p CLONE] [NAME..]     (every crate of edits/ where none is named)
 #   -n         says which of them can't be applied, and tries none, in seconds
 #   -q         tries each by a check of the one function that it changes first, which needs no proof of the crate before:
 #              cheaper where no check of the crate was kept; what isn't refused there is tried as without it
 #   -t         tries those of a crate by one check with all of them first, at most one a function: what isn't refused in the
 #              function that it changes is tried as without it. Cheapest for many edits
+#   -o         leaves out the crates of which all edits were refused before, of the same sources and edits: edits/TRIED has them
 #   -j JOBS    so many checks side by side, whatever memory they take; without it rt chooses
 #   -p CLONE   takes the libraries that `rt ci` left in this clone, of the crates that are the same there with all below
 #              them: where rt keeps nothing beside the kit
@@ -16,10 +17,13 @@
 # Ends with 1 where an edit is not refused or can't be tried, with 2 where it is called wrongly.
 cd "$(dirname "$0")/.." || exit 2
 tries=yes
+tried=()
+once=no
 quick=no
 at_once=no
-while getopts nqtj:p: flag; do
+while getopts nqtoj:p: flag; do
     case $flag in
+        o) once=yes ;;
         n) tries=no ;;
         q) quick=yes ;;
         t) at_once=yes ;;
@@ -43,13 +47,21 @@ for name in "${names[@]}"; do
     [ -d "crates/$name" ] || { echo "edits: there is no crate $name" >&2; exit 2; }
 done
 
+if [ "$once" = yes ]; then
+    read -r -a names < <(python3 tests/edits.py untried . "${names[@]}")
+    [ ${#names[@]} -gt 0 ] || { echo "edits: each of these crates' edits was refused before, of the same files"; exit 0; }
+fi
+
 room=$(mktemp -d) || exit 2
 trap 'rm -rf "$room"' EXIT
 trap 'exit 130' INT TERM
 tar -cf - --exclude='crates/*/out' crates crates.txt HANDLES | tar -xf - -C "$room" || exit 2
 for name in "${names[@]}"; do
     [ -d "edits/$name" ] || continue
-    mkdir -p "$room/crates/$name/must-fail"
+    tried+=("$name")
+    mkdir -p "$room/crates/$name/must-fail" "$room/edits"
+    cp -r "edits/$name" "$room/edits/"
+    cp "crates/$name/must-fail/"*.edit "$room/edits/$name/" 2> /dev/null
     for edit in "edits/$name"/*.edit; do
         if [ -e "crates/$name/must-fail/$(basename "$edit")" ]; then
             echo "edits: $edit stands in crates/$name/must-fail too" >&2
@@ -86,6 +98,7 @@ if [ ${#names[@]} -gt 0 ]; then
     status=$((status + PIPESTATUS[0]))
 fi
 
+[ ${#tried[@]} -eq 0 ] || python3 tests/edits.py tried "$room" "$room/told" "${tried[@]}"
 count() { grep -cE "^(rt|edits): .*: $1" "$room/told"; }
 refused=$(count 'refused, as it must be')
 missed=$(count 'NOT REFUSED')
