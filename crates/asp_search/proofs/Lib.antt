@@ -13,3 +13,4 @@ pub mod FaultLaws
 pub mod OpenLaws
 pub mod CoverLaws
 pub mod SureLaws
+pub mod RefuteLaws

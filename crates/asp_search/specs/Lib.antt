@@ -3,4 +3,5 @@ pub mod Meeting
 pub mod Blocking
 pub mod Beside
 pub mod Stepping
+pub mod Refuting
 pub mod Sure

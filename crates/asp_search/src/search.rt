@@ -22,6 +22,7 @@ ghost use Rattle.asp_state.specs.SearchStates.{first_ranking, KeepsCompletionAlo
 
 use crate::aim::Aim;
 use crate::covering::renew;
+use crate::first::First;
 use crate::litter::Litter;
 use crate::noting::Uses;
 use crate::route::{Route, Turn};
@@ -95,6 +96,8 @@ pub struct Search<'a, P: Propagator> {
     pub(crate) last: Option<NogoodId>,
     // in an enumeration the way on which answers were found, where the path is to be split
     pub(crate) route: Route,
+    // what is decided before all else
+    pub(crate) first: First,
     // by which nogoods the last step found something, where that is noted
     pub(crate) uses: Uses,
 }
@@ -280,6 +283,7 @@ impl<'a, P: Propagator> Search<'a, P> {
             bound: None,
             last: None,
             route: Route::new(alloc),
+            first: First::none(alloc),
             uses: Uses::new(alloc),
         })
     }
@@ -300,6 +304,7 @@ impl<'a, P: Propagator> Search<'a, P> {
     {
         self.last = None;
         self.route.reach(cube);
+        self.first.begin();
         self.aim = Aim::unset();
         self.state.enter(self.alloc, cube)?;
         self.pace.begin();

@@ -149,9 +149,14 @@ fn raise_above<P: Propagator>(state: &mut SearchState<P>, vars: Var, next: Optio
     }
 }
 
-// Raises what shows an atom. The first one after an answer goes above all that was raised before; those that follow it need that no
-// more, so that activities keep their order over a long way down.
-fn raise_shown<P: Propagator>(state: &mut SearchState<P>, vars: Var, next: Option<Lit>, fresh: bool)
+// Raises one of several literals. The first of them goes above all that was raised before; those that follow it need that no more, so
+// that activities keep their order over a long way down.
+fn raise_in_turn<P: Propagator>(
+    state: &mut SearchState<P>,
+    vars: Var,
+    next: Option<Lit>,
+    fresh: bool,
+)
     requires { vars ≡ var_count state.old.program }
     ensures { state.new ≡ record state.old { ranking = state.new.ranking } }
 {
@@ -403,16 +408,34 @@ impl<'a, P: Propagator> Search<'a, P> {
         let fresh = aim.is_fresh();
         let next = self.sought(&mut aim);
         self.aim = aim;
-        raise_shown(&mut self.state, vars, next, fresh);
+        raise_in_turn(&mut self.state, vars, next, fresh);
+    }
+
+    // What is decided first, if it has no value yet.
+    fn next_first(&mut self) -> Option<Lit>
+        ensures { self.new ≡ self.old }
+    {
+        let vars = self.compiled.vars();
+        let decisions = self.state.decisions().len();
+        self.first.next(self.state.trail(), vars, decisions)
+    }
+
+    // Raises that.
+    fn raise_first(&mut self, lit: Lit)
+        ensures { self.new ≡ record self.old { ranking = self.new.ranking } }
+    {
+        let vars = self.compiled.vars();
+        let fresh = self.first.take_fresh();
+        raise_in_turn(&mut self.state, vars, Some(lit), fresh);
     }
 
     fn follow(&mut self)
         ensures { self.new ≡ record self.old { ranking = self.new.ranking } }
     {
-        if self.seen.is_some() {
-            self.seek();
-        } else {
-            self.follow_route();
+        match self.next_first() {
+            Some(lit) => self.raise_first(lit),
+            None if self.seen.is_some() => self.seek(),
+            None => self.follow_route(),
         }
     }
 
