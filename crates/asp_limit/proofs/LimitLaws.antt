@@ -1,15 +1,15 @@
 -- What is written, and what is left out.
-use Rattle.std.proofs.Common.{◌≡◌, ◌⊎◌, ℕ, ◌+◌, ◌-◌, ◌<◌, ◌≤◌, ◌^◌, ◌==◌, Bool, true, false, cond, List, [], ◌∷◌, ◌++◌, length, take, drop, refl, sym, ap, ◌∙◌, subst, inl, inr, arith, append_assoc, append-nil, length-append, length-take-le}
-use Rattle.std.specs.Prelude.{min}
-use Rattle.std.proofs.lemmas.Bool.{eqb-true, false≢true}
-use Rattle.std.proofs.lemmas.List.{take-append-drop}
+use Rattle.std.proofs.Common.{◌≡◌, ◌⊎◌, ℕ, zero, suc, ◌+◌, ◌-◌, ◌<◌, ◌≤◌, ◌==◌, Bool, true, false, cond, List, [], ◌∷◌, ◌++◌, length, take, drop, refl, sym, ap, ◌∙◌, subst, inl, inr, arith, append_assoc, append-nil, length-append, length-take-le}
+use Rattle.std.specs.Prelude.{min, nat_le}
+use Rattle.std.proofs.lemmas.Bool.{eqb-false, eqb-true, false≢true, leb-false, leb-true}
+use Rattle.std.proofs.lemmas.List.{take-append-drop, take_all, take_at}
 use mathlib.Core.List.{IsPrefix}
 use Rattle.asp_model.specs.Sets.{Atoms}
 use Rattle.asp_limit.specs.Limits.{IsCutAt, IsLimitedTo, room}
 
 module _ {A : Type 0} where
   -- the first of what comes next
-  pub prefix-cut : (xs ys zs : List A) (n : ℕ) → IsPrefix (xs ++ ys) zs → IsPrefix (xs ++ take n ys) zs
+  abbrev pub prefix-cut : (xs ys zs : List A) (n : ℕ) → IsPrefix (xs ++ ys) zs → IsPrefix (xs ++ take n ys) zs
   prefix-cut xs ys zs n h = (
     drop n ys ++ h.0,
     append_assoc xs (take n ys) (drop n ys ++ h.0)
@@ -38,11 +38,70 @@ module _ {A : Type 0} where
   all-dropped n xs e = none-of (drop n xs) (let both : length (take n xs) + length (drop n xs) ≡ length xs = sym (length-append (take n xs) (drop n xs)) ∙ ap length (take-append-drop n xs) in
     let first : length (take n xs) ≡ n = length-take-le n xs (omega (arith, e)) in omega (arith, both, first, e))
 
-  pub is-none : (xs : List A) → (length xs == 0) ≡ true → xs ≡ []
-  is-none xs e = none-of xs (eqb-true (length xs) 0 e)
+  drop-at : (xs ys : List A) → drop (length xs) (xs ++ ys) ≡ ys
+  drop-at [] ys = refl
+  drop-at (x ∷ xs) ys = drop-at xs ys
 
-  isn't-none : (xs : List A) → (length xs == 0) ≡ false → ¬ (xs ≡ [])
-  isn't-none xs e none = false≢true (sym e ∙ ap (λ (t : List A). length t == 0) none)
+  length-drop : (n : ℕ) (xs : List A) → n ≤ length xs → length (drop n xs) ≡ length xs - n
+  length-drop n xs le =
+      let both : length (take n xs) + length (drop n xs) ≡ length xs = sym (length-append (take n xs) (drop n xs)) ∙ ap length (take-append-drop n xs) in
+      omega (arith, both, length-take-le n xs le)
+
+  -- some were left out before
+  still-more : (n : ℕ) (xs rows rest : List A) → xs ≡ (take n xs ++ rows) ++ rest → take (n + length rows) xs ≡ take n xs ++ rows
+  still-more n xs rows rest is = by (nat_le n (length xs)) refl
+    where
+      by : (b : Bool) → nat_le n (length xs) ≡ b → take (n + length rows) xs ≡ take n xs ++ rows
+      by true e =
+          let count : length (take n xs ++ rows) ≡ n + length rows = length-append (take n xs) rows ∙ ap (λ (k : ℕ). k + length rows) (length-take-le n xs (leb-true n (length xs) e)) in
+          ap (take (n + length rows)) is ∙ take_at (take n xs ++ rows) rest (n + length rows) count
+      by false e =
+          let all : take n xs ≡ xs = take_all n xs (let less = leb-false n (length xs) e in omega (arith, less)) in
+          let count : length xs ≡ (length (take n xs) + length rows) + length rest = ap length is ∙ length-append (take n xs ++ rows) rest ∙ ap (λ (k : ℕ). k + length rest) (length-append (take n xs) rows) in
+          let none : rows ≡ [] = none-of rows (omega (arith, count, ap length all)) in
+          ap (λ (k : ℕ). take k xs) (let same : n + length rows ≡ n = omega (arith, ap length none) in same) ∙ sym (append-nil (take n xs)) ∙ ap (λ (t : List A). take n xs ++ t) (sym none)
+
+  -- what is left out then
+  pub left-more : (written rows all : List A) (n k : ℕ) → IsPrefix ((written ++ take n (drop (length written) all)) ++ rows) all → (n ≡ 0) ⊎ (k ≡ 0) → k ≤ length rows
+      → take (n + (length rows - k)) (drop (length (written ++ take k rows)) all) ≡ take n (drop (length written) all) ++ drop k rows
+  left-more written rows all n k front (inl none) le =
+      let follows : (written ++ take n (drop (length written) all)) ++ rows ≡ written ++ rows = ap (λ (m : ℕ). (written ++ take m (drop (length written) all)) ++ rows) none ∙ ap (λ (t : List A). t ++ rows) (append-nil written) in
+      let first : IsPrefix (written ++ take k rows) all = prefix-cut written rows all k (front.0, ap (λ (t : List A). t ++ front.0) (sym follows) ∙ front.1) in
+      let rest : drop (length (written ++ take k rows)) all ≡ drop k rows ++ front.0 =
+      ap (drop (length (written ++ take k rows))) (sym first.1) ∙ drop-at (written ++ take k rows) first.0 in
+      ap (λ (m : ℕ). take m (drop (length (written ++ take k rows)) all)) (let same : n + (length rows - k) ≡ length rows - k = omega (arith, none) in same)
+      ∙ ap (take (length rows - k)) rest
+      ∙ take_at (drop k rows) front.0 (length rows - k) (length-drop k rows le)
+      ∙ sym (ap (λ (m : ℕ). take m (drop (length written) all) ++ drop k rows) none)
+  left-more written rows all n k front (inr none) le =
+      let xs : List A = drop (length written) all in
+      let is : xs ≡ (take n xs ++ rows) ++ front.0 =
+      ap (drop (length written)) (sym front.1) ∙ ap (drop (length written)) (ap (λ (t : List A). t ++ front.0) (append_assoc written (take n xs) rows) ∙ append_assoc written (take n xs ++ rows) front.0)
+      ∙ drop-at written ((take n xs ++ rows) ++ front.0) in
+      ap (λ (m : ℕ). take (n + (length rows - m)) (drop (length (written ++ take m rows)) all)) none
+      ∙ ap (λ (t : List A). take (n + (length rows - 0)) (drop (length t) all)) (append-nil written)
+      ∙ ap (λ (m : ℕ). take (n + m) xs) (let same : length rows - 0 ≡ length rows = omega arith in same)
+      ∙ still-more n xs rows front.0 is
+      ∙ sym (ap (λ (m : ℕ). take n xs ++ drop m rows) none)
+
+  -- how many are left out then can be counted
+  pub left-fits : (written rows all : List A) (n k most : ℕ) → IsPrefix ((written ++ take n (drop (length written) all)) ++ rows) all
+      → length (written ++ take n (drop (length written) all)) + length rows + 1 < most → n < most → n + (length rows - k) < most
+  left-fits written rows all n k most front room small = by (nat_le n (length (drop (length written) all))) refl
+    where
+      whole : length all ≡ (length (written ++ take n (drop (length written) all)) + length rows) + length front.0
+      whole = ap length (sym front.1) ∙ length-append ((written ++ take n (drop (length written) all)) ++ rows) front.0 ∙ ap (λ (m : ℕ). m + length front.0) (length-append (written ++ take n (drop (length written) all)) rows)
+
+      is : (drop (length written) all) ≡ (take n (drop (length written) all) ++ rows) ++ front.0
+      is = ap (drop (length written)) (sym front.1) ∙ ap (drop (length written)) (ap (λ (t : List A). t ++ front.0) (append_assoc written (take n (drop (length written) all)) rows) ∙ append_assoc written (take n (drop (length written) all) ++ rows) front.0)
+          ∙ drop-at written ((take n (drop (length written) all) ++ rows) ++ front.0)
+
+      by : (b : Bool) → nat_le n (length (drop (length written) all)) ≡ b → n + (length rows - k) < most
+      by true e = omega (arith, room, length-append written (take n (drop (length written) all)), length-take-le n (drop (length written) all) (leb-true n (length (drop (length written) all)) e))
+      by false e =
+          let all-taken : take n (drop (length written) all) ≡ (drop (length written) all) = take_all n (drop (length written) all) (let less = leb-false n (length (drop (length written) all)) e in omega (arith, less)) in
+          let count : length (drop (length written) all) ≡ (length (take n (drop (length written) all)) + length rows) + length front.0 = ap length is ∙ length-append (take n (drop (length written) all) ++ rows) front.0 ∙ ap (λ (m : ℕ). m + length front.0) (length-append (take n (drop (length written) all)) rows) in
+          omega (arith, count, ap length all-taken, small)
 
 room-unlimited : (models written : ℕ) → (models == 0) ≡ true → room models written ≡ 18446744073709551615
 room-unlimited models written e = ap (λ (b : Bool). cond b 18446744073709551615 (models - written)) e
@@ -55,8 +114,8 @@ positive zero e = absurd (false≢true (sym e))
 positive (suc n) e = omega arith
 
 -- nothing of what comes next is written
-pub cut-none : (models : ℕ) (written left next : List Atoms) (short : Bool) → (short ≡ true) ⊎ ((length left == 0) ≡ false) → IsLimitedTo models written left short
-    → IsLimitedTo models (written ++ []) (left ++ next) short
+pub cut-none : (models : ℕ) (written : List Atoms) (left next : ℕ) (short : Bool) → (short ≡ true) ⊎ (left ≡ 0 → ⊥) → IsLimitedTo models written left short
+    → IsLimitedTo models (written ++ []) (left + next) short
 cut-none models written left next short (inl wants) h = λ fine. absurd (false≢true (sym fine ∙ wants))
 cut-none models written left next short (inr some) h = λ fine.
     let is = h fine in
@@ -66,26 +125,23 @@ cut-none models written left next short (inr some) h = λ fine.
       full = by is.full same;
     }
   where
-    by : (left ≡ []) ⊎ ((0 < models) × (length written ≡ models)) → written ++ [] ≡ written → (left ++ next ≡ []) ⊎ ((0 < models) × (length (written ++ []) ≡ models))
-    by (inl none) same = absurd (isn't-none left some none)
+    by : (left ≡ 0) ⊎ ((0 < models) × (length written ≡ models)) → written ++ [] ≡ written → (left + next ≡ 0) ⊎ ((0 < models) × (length (written ++ []) ≡ models))
+    by (inl none) same = absurd (some none)
     by (inr full) same = inr (full.0, ap length same ∙ full.1)
 
 -- as many as may be written of what comes next are
-pub cut-some : (models : ℕ) (written left next : List Atoms) (n : ℕ) → left ≡ [] → length next < 18446744073709551615 → n ≡ min (room models (length written)) (length next)
-    → IsCutAt models written left → IsCutAt models (written ++ take n next) (left ++ drop n next)
-cut-some models written left next n none few is h = by (models == 0) refl
+pub cut-some : (models : ℕ) (written next : List Atoms) (left n : ℕ) → left ≡ 0 → length next < 18446744073709551615 → n ≡ min (room models (length written)) (length next)
+    → IsCutAt models written left → IsCutAt models (written ++ take n next) (left + (length next - n))
+cut-some models written next left n none few is h = by (models == 0) refl
   where
     count : n ≤ length next → length (written ++ take n next) ≡ length written + n
     count le = length-append written (take n next) ∙ ap (λ (k : ℕ). length written + k) (length-take-le n next le)
 
-    whole : n ≡ length next → left ++ drop n next ≡ []
-    whole e = ap (λ (t : List Atoms). t ++ drop n next) none ∙ all-dropped n next e
-
-    by : (b : Bool) → (models == 0) ≡ b → IsCutAt models (written ++ take n next) (left ++ drop n next)
+    by : (b : Bool) → (models == 0) ≡ b → IsCutAt models (written ++ take n next) (left + (length next - n))
     by true e =
         let zero-is : models ≡ 0 = eqb-true models 0 e in
         let all : n ≡ length next = omega (arith, is, room-unlimited models (length written) e, few) in
-        record { within = λ limit. let f : ⊥ = omega (arith, limit, zero-is) in absurd f; full = inl (whole all) }
+        record { within = λ limit. let f : ⊥ = omega (arith, limit, zero-is) in absurd f; full = inl (omega (arith, none, all)) }
     by false e =
         let some : 0 < models = positive models e in
         let rest : room models (length written) ≡ models - length written = room-limited models (length written) e in
@@ -97,7 +153,6 @@ cut-some models written left next n none few is h = by (models == 0) refl
         }
       where
         last : (b : Bool) → (n == length next) ≡ b → 0 < models → room models (length written) ≡ models - length written → n ≤ length next → length written ≤ models
-            → (left ++ drop n next ≡ []) ⊎ ((0 < models) × (length (written ++ take n next) ≡ models))
-        last true e some rest le fits = inl (whole (eqb-true n (length next) e))
-        last false e some rest le fits = inr (some, let less : ¬ (n ≡ length next) = λ same. false≢true (sym e ∙ ap (λ (k : ℕ). k == length next) (sym same) ∙ ap (λ (k : ℕ). n == k) (sym same) ∙ refl) in
-            omega (arith, count le, is, rest, fits, less))
+            → (left + (length next - n) ≡ 0) ⊎ ((0 < models) × (length (written ++ take n next) ≡ models))
+        last true e some rest le fits = inl (let all = eqb-true n (length next) e in omega (arith, none, all))
+        last false e some rest le fits = inr (some, omega (arith, count le, is, rest, fits, eqb-false n (length next) e))

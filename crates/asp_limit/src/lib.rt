@@ -2,8 +2,6 @@
 #![tactic(auto)]
 
 mod front;
-mod left_out;
 mod limited;
 
-pub use left_out::LeftOut;
 pub use limited::LimitedOutlet;

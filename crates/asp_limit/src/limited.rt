@@ -1,12 +1,11 @@
 //! An outlet with a limit.
-ghost use Rattle.std.specs.Prelude.{◌≡◌, ◌⊎◌, ◌+◌, ◌++◌, ◌<◌, ◌≤◌, ◌^◌, [], drop, false, length, take};
+ghost use Rattle.std.specs.Prelude.{◌≡◌, ◌⊎◌, ◌+◌, ◌-◌, ◌++◌, ◌<◌, ◌≤◌, ◌^◌, [], false, length, take};
 ghost use mathlib.Core.List.{IsPrefix};
 ghost use Rattle.asp_model.specs.Models.{answers, atoms_of};
 ghost use Rattle.asp_outlet.specs.Outlets.{Hears, IsAfter, moment};
-ghost use Rattle.asp_limit.specs.Limits.{IsLimitedTo, room, wants};
+ghost use Rattle.asp_limit.specs.Limits.{IsLimitedTo, heard_of, room, wants};
 
 use crate::front::front;
-use crate::left_out::LeftOut;
 use asp_io::Sink;
 use asp_model::interp::Interp;
 use asp_model::program::Program;
@@ -22,8 +21,8 @@ pub struct LimitedOutlet<'a, K: Sink> {
     pub outlet: Outlet<'a, K>,
     /// As many are written at most; 0 is no limit.
     pub models: usize,
-    /// The answers that were heard then.
-    pub left_out: LeftOut,
+    /// So many were heard then, and left out: those after the ones that were to be written.
+    pub left: usize,
     /// Whether memory was wanting for those of them that were to be written. Then no more is.
     pub short: bool,
     /// Where memory is taken from.
@@ -45,13 +44,13 @@ impl<'a, K: Sink> LimitedOutlet<'a, K> {
         ensures heard { result.outlet.listing ≡ record { program = program.now; sets = [] } }
         ensures failed { result.outlet.failed ≡ false }
         ensures models { result.models ≡ models }
-        ensures none { result.left_out ≡ [] }
+        ensures left { result.left ≡ 0 }
         ensures short { result.short ≡ false }
     {
         LimitedOutlet {
             outlet: Outlet::new(alloc, sink, program, atoms),
             models,
-            left_out: LeftOut::none(),
+            left: 0,
             short: false,
             alloc,
         }
@@ -76,7 +75,7 @@ impl<'a, K: Sink> LimitedOutlet<'a, K> {
         requires count { count ≤ length rows.now.sets }
         ensures same { self.new.outlet.sink.ghost_name ≡ self.old.outlet.sink.ghost_name }
         ensures program { self.new.outlet.listing.program ≡ self.old.outlet.listing.program }
-        ensures limit { (self.new.models ≡ self.old.models) × (self.new.left_out ≡ self.old.left_out) }
+        ensures limit { (self.new.models ≡ self.old.models) × (self.new.left ≡ self.old.left) }
         ensures hears { Hears self.old.outlet.listing.program
             (moment self.old.outlet.listing.sets (K.held self.old.outlet.sink.now) (K.faults self.old.outlet.sink.now) self.old.outlet.failed)
             (moment self.new.outlet.listing.sets (K.held self.new.outlet.sink.now) (K.faults self.new.outlet.sink.now) self.new.outlet.failed)
@@ -103,21 +102,21 @@ impl<'a, K: Sink> LimitedOutlet<'a, K> {
     // Writes of the answers that come next as many as may be. It says how many were to be written.
     fn write_some(&mut self, rows: &Rows) -> usize
         requires atoms { rows.now.atoms ≡ atoms_of self.old.outlet.listing.program }
-        requires front { IsPrefix ((self.old.outlet.listing.sets ++ self.old.left_out) ++ rows.now.sets) (answers self.old.outlet.listing.program) }
-        requires room { length (self.old.outlet.listing.sets ++ self.old.left_out) + length rows.now.sets + 1 < 2 ^ 64 }
+        requires front { IsPrefix ((heard_of self.old.outlet.listing.program self.old.outlet.listing.sets self.old.left) ++ rows.now.sets) (answers self.old.outlet.listing.program) }
+        requires room { length (heard_of self.old.outlet.listing.program self.old.outlet.listing.sets self.old.left) + length rows.now.sets + 1 < 2 ^ 64 }
         ensures same { self.new.outlet.sink.ghost_name ≡ self.old.outlet.sink.ghost_name }
         ensures program { self.new.outlet.listing.program ≡ self.old.outlet.listing.program }
-        ensures limit { (self.new.models ≡ self.old.models) × (self.new.left_out ≡ self.old.left_out) }
+        ensures limit { (self.new.models ≡ self.old.models) × (self.new.left ≡ self.old.left) }
         ensures hears { Hears self.old.outlet.listing.program
             (moment self.old.outlet.listing.sets (K.held self.old.outlet.sink.now) (K.faults self.old.outlet.sink.now) self.old.outlet.failed)
             (moment self.new.outlet.listing.sets (K.held self.new.outlet.sink.now) (K.faults self.new.outlet.sink.now) self.new.outlet.failed)
             (take result rows.now.sets) }
         ensures within { result ≤ length rows.now.sets }
-        ensures order { (self.old.left_out ≡ []) ⊎ (result ≡ 0) }
-        ensures cut { IsLimitedTo self.old.models self.old.outlet.listing.sets self.old.left_out self.old.short
-            → IsLimitedTo self.old.models (self.old.outlet.listing.sets ++ take result rows.now.sets) (self.old.left_out ++ drop result rows.now.sets) self.new.short }
+        ensures order { (self.old.left ≡ 0) ⊎ (result ≡ 0) }
+        ensures cut { IsLimitedTo self.old.models self.old.outlet.listing.sets self.old.left self.old.short
+            → IsLimitedTo self.old.models (self.old.outlet.listing.sets ++ take result rows.now.sets) (self.old.left + (length rows.now.sets - result)) self.new.short }
     {
-        if self.short || !self.left_out.is_empty() {
+        if self.short || self.left != 0 {
             return 0;
         }
         let count = self.room().min(rows.len());
@@ -127,21 +126,21 @@ impl<'a, K: Sink> LimitedOutlet<'a, K> {
     /// Hears the answers that come next in the list of all answers, and writes of them as many as may be. It says whether more is wanted.
     pub fn hear_next(&mut self, rows: &Rows) -> bool
         requires atoms { rows.now.atoms ≡ atoms_of self.old.outlet.listing.program }
-        requires front { IsPrefix ((self.old.outlet.listing.sets ++ self.old.left_out) ++ rows.now.sets) (answers self.old.outlet.listing.program) }
-        requires room { length (self.old.outlet.listing.sets ++ self.old.left_out) + length rows.now.sets + 1 < 2 ^ 64 }
+        requires front { IsPrefix ((heard_of self.old.outlet.listing.program self.old.outlet.listing.sets self.old.left) ++ rows.now.sets) (answers self.old.outlet.listing.program) }
+        requires room { length (heard_of self.old.outlet.listing.program self.old.outlet.listing.sets self.old.left) + length rows.now.sets + 1 < 2 ^ 64 }
         ensures same { self.new.outlet.sink.ghost_name ≡ self.old.outlet.sink.ghost_name }
         ensures program { self.new.outlet.listing.program ≡ self.old.outlet.listing.program }
         ensures models { self.new.models ≡ self.old.models }
         ensures hears { IsAfter self.old.outlet.listing.program
             (moment self.old.outlet.listing.sets (K.held self.old.outlet.sink.now) (K.faults self.old.outlet.sink.now) self.old.outlet.failed)
             (moment self.new.outlet.listing.sets (K.held self.new.outlet.sink.now) (K.faults self.new.outlet.sink.now) self.new.outlet.failed) }
-        ensures heard { self.new.outlet.listing.sets ++ self.new.left_out ≡ (self.old.outlet.listing.sets ++ self.old.left_out) ++ rows.now.sets }
-        ensures limited { IsLimitedTo self.old.models self.old.outlet.listing.sets self.old.left_out self.old.short
-            → IsLimitedTo self.new.models self.new.outlet.listing.sets self.new.left_out self.new.short }
+        ensures heard { heard_of self.new.outlet.listing.program self.new.outlet.listing.sets self.new.left ≡ (heard_of self.old.outlet.listing.program self.old.outlet.listing.sets self.old.left) ++ rows.now.sets }
+        ensures limited { IsLimitedTo self.old.models self.old.outlet.listing.sets self.old.left self.old.short
+            → IsLimitedTo self.new.models self.new.outlet.listing.sets self.new.left self.new.short }
         ensures wanted { result ≡ wants self.new.models self.new.outlet.listing.sets self.new.outlet.failed self.new.short }
     {
         let written = self.write_some(rows);
-        self.left_out.add(rows, written);
+        self.left += rows.len() - written;
         self.wants_more()
     }
 
@@ -158,11 +157,11 @@ impl<K: Sink> Reader for LimitedOutlet<'_, K> {
     ghost use Rattle.asp_model.specs.declared.program.Program.{Program};
     ghost use Rattle.asp_outlet.specs.Hearing.{hears_nothing, hears_then};
     ghost use Rattle.asp_outlet.specs.Outlets.{Hears, IsAfter, moment};
-    ghost use Rattle.asp_limit.specs.Limits.{IsLimitedTo, wants};
+    ghost use Rattle.asp_limit.specs.Limits.{IsLimitedTo, heard_of, wants};
 
     ghost program = { λ o. o.outlet.listing.program };
 
-    ghost heard = { λ o. o.outlet.listing.sets ++ o.left_out };
+    ghost heard = { λ o. heard_of o.outlet.listing.program o.outlet.listing.sets o.left };
 
     ghost wants = { λ o. wants o.models o.outlet.listing.sets o.outlet.failed o.short };
 
@@ -170,7 +169,8 @@ impl<K: Sink> Reader for LimitedOutlet<'_, K> {
         × IsAfter o.outlet.listing.program
         (moment o.outlet.listing.sets (K.held o.outlet.sink.now) (K.faults o.outlet.sink.now) o.outlet.failed)
         (moment q.outlet.listing.sets (K.held q.outlet.sink.now) (K.faults q.outlet.sink.now) q.outlet.failed)
-        × (IsLimitedTo o.models o.outlet.listing.sets o.left_out o.short → IsLimitedTo q.models q.outlet.listing.sets q.left_out q.short) };
+        × (IsLimitedTo o.models o.outlet.listing.sets o.left o.short
+        → IsLimitedTo q.models q.outlet.listing.sets q.left q.short) };
 
     fn hear(&mut self, rows: &Rows) -> bool {
         self.hear_next(rows)

@@ -1,5 +1,5 @@
 -- How a stream ends, from what its outlet wrote.
-use Rattle.std.proofs.Common.{◌≡◌, ◌⊎◌, ◌∙◌, ℕ, ◌+◌, ◌-◌, ◌<◌, ◌≤◌, ◌==◌, ◌||◌, Bool, true, false, not, cond, nat_eq, List, [], ◌∷◌, ◌++◌, length, take, refl, sym, ap, subst, inl, inr, arith, append_assoc, append-nil, length-append, length-take-le}
+use Rattle.std.proofs.Common.{◌≡◌, ◌⊎◌, ◌∙◌, ℕ, zero, suc, ◌+◌, ◌-◌, ◌<◌, ◌≤◌, ◌==◌, ◌||◌, Bool, true, false, not, cond, nat_eq, List, [], ◌∷◌, ◌++◌, length, take, refl, sym, ap, subst, inl, inr, arith, append_assoc, append-nil, length-append, length-take-le}
 use Rattle.std.specs.Prelude.{Option, None, Some, Result, Ok, Err, IfOk, IfSome, nat_lt}
 use Rattle.std.proofs.lemmas.Bool.{eqb-true, false≢true, ltb-false, ltb-true}
 use Rattle.std.proofs.lemmas.List.{take_all, take_at}
@@ -21,7 +21,7 @@ use Rattle.asp_crew_laws.specs.Runs.{asks}
 use Rattle.asp_cli.specs.declared.Options.{Options}
 use Rattle.asp_outlet.specs.Outlets.{Heard, IsAfter, Moment, moment, whole_text}
 use Rattle.asp_outlet.proofs.OutletLaws.{front_is_written}
-use Rattle.asp_limit.specs.Limits.{IsCutAt, IsLimitedTo, room, wants}
+use Rattle.asp_limit.specs.Limits.{IsCutAt, IsLimitedTo, heard_of, left_out, room, wants}
 use Rattle.asp_prepare.specs.declared.prepared.Prepared.{Prepared}
 use Rattle.asp_prepare.specs.Meaning.{is_some_of}
 use Rattle.asp_prepare.specs.Naming.{ask_of, prepared_of, searched}
@@ -106,6 +106,18 @@ positive : (n : ℕ) → (n == 0) ≡ false → 0 < n
 positive zero e = absurd (false≢true (sym e))
 positive (suc n) e = omega arith
 
+-- no more were written than the limit says, and others left out only where as many were written
+record CutAt (models : ℕ) (written left : List Atoms) : Type 0 where
+  pub within : 0 < models → length written ≤ models
+  pub full : (left ≡ []) ⊎ ((0 < models) × (length written ≡ models))
+
+cut-at : (p : Program) (models : ℕ) (written : List Atoms) (left : ℕ) → IsCutAt models written left → CutAt models written (left_out p written left)
+cut-at p models written left is = record { within = is.within; full = by is.full }
+  where
+    by : (left ≡ 0) ⊎ ((0 < models) × (length written ≡ models)) → (left_out p written left ≡ []) ⊎ ((0 < models) × (length written ≡ models))
+    by (inl none) = inl (ap (λ (n : ℕ). left_out p written n) none)
+    by (inr full) = inr full
+
 -- what a limit that isn't reached says
 few-says : (models found : ℕ) → is_few models found ≡ true → 0 < models → found < models
 few-says models found few some = by (models == 0) refl
@@ -122,7 +134,7 @@ many-says models found many = by (models == 0) refl
     by false e = (positive models e, ltb-false found models (sym (ap (λ (b : Bool). b || nat_lt found models) e) ∙ many))
 
 -- no more may be written
-full-says : (models : ℕ) (written left : List Atoms) → IsCutAt models written left → (room models (length written) == 0) ≡ true → (0 < models) × (length written ≡ models)
+full-says : (models : ℕ) (written left : List Atoms) → CutAt models written left → (room models (length written) == 0) ≡ true → (0 < models) × (length written ≡ models)
 full-says models written left cut full = by (models == 0) refl
   where
     none : room models (length written) ≡ 0
@@ -133,7 +145,7 @@ full-says models written left cut full = by (models == 0) refl
     by false e = let some = positive models e in (some, omega (arith, none, room-some models (length written) e, cut.within some))
 
 -- more may be written, so nothing was left out
-open-says : (models : ℕ) (written left : List Atoms) → IsCutAt models written left → (room models (length written) == 0) ≡ false → left ≡ []
+open-says : (models : ℕ) (written left : List Atoms) → CutAt models written left → (room models (length written) == 0) ≡ false → left ≡ []
 open-says models written left cut more = by cut.full
   where
     by : (left ≡ []) ⊎ ((0 < models) × (length written ≡ models)) → left ≡ []
@@ -148,7 +160,7 @@ open-says models written left cut more = by cut.full
         isn't false e = e
 
 -- what is still written
-module _ (models : ℕ) (written left rest : List Atoms) (cut : IsCutAt models written left) (small : length rest < 18446744073709551615) where
+module _ (models : ℕ) (written left rest : List Atoms) (cut : CutAt models written left) (small : length rest < 18446744073709551615) where
   -- all that is left, where few were found
   few-kept : left ≡ [] → is_few models (length written + length rest) ≡ true → take (room models (length written)) rest ≡ rest
   few-kept none few = by (models == 0) refl
@@ -192,7 +204,7 @@ module _ (models : ℕ) (written left rest : List Atoms) (cut : IsCutAt models w
 
 -- ---- by how it ended
 module _ (p : Program) (units models : ℕ) (written left : List Atoms) (t : Told) (h h' : Option (List ℕ)) (w w' : ℕ) (o : Outcome)
-    (front : IsPrefix (written ++ left) (answers p)) (cut : IsCutAt models written left) (small : length t.rest.sets < 18446744073709551615)
+    (front : IsPrefix (written ++ left) (answers p)) (cut : CutAt models written left) (small : length t.rest.sets < 18446744073709551615)
     (d : DeliversLast p models written t h h' w w' o) where
   abbrev heard : List Atoms
   heard = written ++ left
@@ -354,19 +366,21 @@ pub rest-of : {E : Type 0} (r : Result Told E) (p q : Program) (units : ℕ) (he
 rest-of (Ok t) p q units heard wants same told = record { atoms = told.atoms ∙ ap atoms_of (sym same); few = told.few }
 rest-of (Err e) p q units heard wants same told = tt
 
-pub streams-of : {E : Type 0} (r : Result Told E) (p q : Program) (units models : ℕ) (written left : List Atoms) (failed short : Bool) (h h' : Option (List ℕ)) (w w' : ℕ) (o : Outcome) → q ≡ p
-    → IsPrefix (written ++ left) (answers p) → IsLimitedTo models written left short → IfOk r (IsTellingOf p units (written ++ left) (wants models written failed short))
+pub streams-of : {E : Type 0} (r : Result Told E) (p q : Program) (units models : ℕ) (written : List Atoms) (left : ℕ) (failed short : Bool) (h h' : Option (List ℕ)) (w w' : ℕ) (o : Outcome) → q ≡ p
+    → IsPrefix (heard_of q written left) (answers p) → IsLimitedTo models written left short → IfOk r (IsTellingOf p units (heard_of q written left) (wants models written failed short))
     → EndsRun r q models written failed short h h' w w' o → Streams p units models h h' w w' o
 streams-of (Ok t) p q units models written left failed short h h' w w' o same front limited told (inl cut) = inl (subst (λ (x : Program). IsCutShort x h h' w w' o) same cut)
 streams-of (Ok t) p q units models written left failed short h h' w w' o same front limited told (inr d) =
     let few = told.few in
-    let tells = subst (λ (b : Bool). Tells p units (written ++ left) (wants models written false b) t t.end) d.1
-    (subst (λ (b : Bool). Tells p units (written ++ left) (wants models written b short) t t.end) d.0 told.tells) in
-    inr (ended p units models written left t h h' w w' o front (limited d.1) (omega (arith, few)) (subst (λ (x : Program). DeliversLast x models written t h h' w w' o) same d.2) t.end refl tells)
+    let heard : List Atoms = heard_of q written left in
+    let tells = subst (λ (b : Bool). Tells p units heard (wants models written false b) t t.end) d.1
+    (subst (λ (b : Bool). Tells p units heard (wants models written b short) t t.end) d.0 told.tells) in
+    inr (ended p units models written (left_out q written left) t h h' w w' o front (cut-at q models written left (limited d.1)) (omega (arith, few))
+    (subst (λ (x : Program). DeliversLast x models written t h h' w w' o) same d.2) t.end refl tells)
 streams-of (Err x) p q units models written left failed short h h' w w' o same front limited told cut = inl (subst (λ (y : Program). IsCutShort y h h' w w' o) same cut)
 
 -- nothing was written yet
-pub limited-start : (models : ℕ) (written left : List Atoms) (short : Bool) → written ≡ [] → left ≡ [] → IsLimitedTo models written left short
+pub limited-start : (models : ℕ) (written : List Atoms) (left : ℕ) (short : Bool) → written ≡ [] → left ≡ 0 → IsLimitedTo models written left short
 limited-start models written left short none empty = λ fine. record { within = λ some. subst (λ (Ss : List Atoms). length Ss ≤ models) (sym none) (omega arith); full = inl empty }
 
 -- since nothing was heard

@@ -376,19 +376,20 @@ brief-lines : (brief : Bool) (p : Program) (L M : List Atoms) → brief ≡ true
 brief-lines true p L M e = refl
 brief-lines false p L M e = absurd (false≢true e)
 
+-- what such a text tells, in this form
+abbrev ToldEnough : Form → Bool → Options → Program → List ℕ → List Atoms → Type 0
+ToldEnough form streamed given p text Ss = InForm form (ArePickedBy streamed given.models (answers p) Ss × (text ≡ lines (is_brief given) p Ss ++ last_lines given.models))
+    (ArePicked given.models (answers p) Ss × (text ≡ json_found given p (found Enum Limited Ss None None)))
+
 -- With `--stream` no line tells which they are.
 tells-listed-enough : (given : Options) (p : Program) (L : List Atoms) (best : Option (Atoms × List ℤ)) (known : Option Atoms) → ArePicked given.models (answers p) L
     → (given.form ≡ Text → given.stream ≡ true → is_brief given ≡ true) → TellsEnough given p Enum (text_for given.form given p (found Enum Limited L best known))
 tells-listed-enough given p L best known picked brief = by given.form refl
   where
-    abbrev Told : Form → Bool → Type 0
-    Told form streamed = (Ss : List Atoms) × InForm form (ArePickedBy streamed given.models (answers p) Ss × (text_for form given p (found Enum Limited L best known) ≡ lines (is_brief given) p Ss ++ last_lines given.models))
-        (ArePicked given.models (answers p) Ss × (text_for form given p (found Enum Limited L best known) ≡ json_found given p (found Enum Limited Ss None None)))
-
     text : plain_text p (found Enum Limited L best known) (is_brief given) ≡ lines (is_brief given) p L ++ last_lines given.models
     text = enough-enum Text given p given.models L best known picked.1
 
-    in-lines : (streamed : Bool) → given.form ≡ Text → given.stream ≡ streamed → Told Text streamed
+    in-lines : (streamed : Bool) → given.form ≡ Text → given.stream ≡ streamed → (Ss : List Atoms) × ToldEnough Text streamed given p (text_for Text given p (found Enum Limited L best known)) Ss
     in-lines false form stream = (L, picked, text)
     in-lines true form stream = (
       take given.models (answers p),
@@ -396,33 +397,21 @@ tells-listed-enough given p L best known picked brief = by given.form refl
       text ∙ ap (λ (x : List ℕ). x ++ last_lines given.models) (brief-lines (is_brief given) p L (take given.models (answers p)) (brief form stream)),
     )
 
-    by : (form : Form) → given.form ≡ form → Told form given.stream
+    by : (form : Form) → given.form ≡ form → (Ss : List Atoms) × ToldEnough form given.stream given p (text_for form given p (found Enum Limited L best known)) Ss
     by Text form = in-lines given.stream form refl
     by Json form = (L, picked, enough-enum Json given p given.models L best known picked.1)
 
 -- the first of them were written, in lines
 first-told : (given : Options) (p : Program) → IsListing given p → given.models ≤ length (answers p) → TellsEnough given p (mode_of given.mode p) (first_text p given.models)
 first-told given p list enough =
+    let Ss : List Atoms = take given.models (answers p) in
+    let count : length Ss ≡ given.models = length-take-le given.models (answers p) enough in
+    let text : first_text p given.models ≡ lines (is_brief given) p Ss ++ last_lines given.models =
+    joined (lines false p Ss) _ _ (ap last_lines count) ∙ ap (λ (b : Bool). lines b p Ss ++ last_lines given.models) (sym list.full) in
+    let told : ToldEnough Text given.stream given p (first_text p given.models) Ss =
+    (subst (λ (b : Bool). ArePickedBy b given.models (answers p) Ss) (sym list.stream) (refl, count), text) in
     subst (λ (m : Mode). TellsEnough given p m (first_text p given.models)) (sym list.mode)
-    (take given.models (answers p), subst (λ (f : Form). InForm f Lines JsonText) (sym list.form) lines-told)
-  where
-    abbrev Ss : List Atoms
-    Ss = take given.models (answers p)
-
-    abbrev Lines : Type 0
-    Lines = ArePickedBy given.stream given.models (answers p) Ss × (first_text p given.models ≡ lines (is_brief given) p Ss ++ last_lines given.models)
-
-    abbrev JsonText : Type 0
-    JsonText = ArePicked given.models (answers p) Ss × (first_text p given.models ≡ json_found given p (found Enum Limited Ss None None))
-
-    count : length Ss ≡ given.models
-    count = length-take-le given.models (answers p) enough
-
-    lines-told : Lines
-    lines-told = (
-      subst (λ (b : Bool). ArePickedBy b given.models (answers p) Ss) (sym list.stream) (refl, count),
-      joined (lines false p Ss) _ _ (ap last_lines count) ∙ ap (λ (b : Bool). lines b p Ss ++ last_lines given.models) (sym list.full),
-    )
+    (Ss, subst (λ (f : Form). ToldEnough f given.stream given p (first_text p given.models) Ss) (sym list.form) told)
 
 -- ---- whether there is a model, told with what was set aside
 some-map : {A B : Type 0} (f : A → B) (L : List A) → is_some_of (map f L) ≡ is_some_of L

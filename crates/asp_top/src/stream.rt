@@ -2,6 +2,7 @@
 ghost use Rattle.std.specs.Prelude.{◌≡◌, ◌+◌, ◌++◌, ◌<◌, ◌^◌, [], IfOk, IfSome, false, length};
 ghost use mathlib.Core.List.{IsPrefix};
 ghost use Rattle.asp_cli.specs.Found.{IsApart};
+ghost use Rattle.asp_limit.specs.Limits.{heard_of};
 ghost use Rattle.asp_model.specs.declared.program.Program.{Program};
 ghost use Rattle.asp_model.specs.Models.{answers, atoms_of};
 ghost use Rattle.asp_outlet.specs.Outlets.{IsAfter, Moment, moment, whole_text};
@@ -116,8 +117,8 @@ fn end_stream<K: Sink>(
     mut told: Told,
     compiled: &Compiled,
 ) -> Outcome
-    requires front { IsPrefix (outlet.old.outlet.listing.sets ++ outlet.old.left_out) (answers outlet.old.outlet.listing.program) }
-    requires rest { HasRest outlet.old.outlet.listing.program (outlet.old.outlet.listing.sets ++ outlet.old.left_out) told.entry }
+    requires front { IsPrefix (heard_of outlet.old.outlet.listing.program outlet.old.outlet.listing.sets outlet.old.left) (answers outlet.old.outlet.listing.program) }
+    requires rest { HasRest outlet.old.outlet.listing.program (heard_of outlet.old.outlet.listing.program outlet.old.outlet.listing.sets outlet.old.left) told.entry }
     requires program { outlet.old.outlet.listing.program ≡ compiled.now }
     ensures same { outlet.new.outlet.sink.ghost_name ≡ outlet.old.outlet.sink.ghost_name }
     ensures ends { (a : Moment) → a.heard ≡ [] → a.failed ≡ false
@@ -147,8 +148,8 @@ fn end_run<K: Sink>(
     told: Result<Told, AllocError>,
     compiled: &Compiled,
 ) -> Outcome
-    requires front { IsPrefix (outlet.old.outlet.listing.sets ++ outlet.old.left_out) (answers outlet.old.outlet.listing.program) }
-    requires rest { IfOk told (HasRest outlet.old.outlet.listing.program (outlet.old.outlet.listing.sets ++ outlet.old.left_out)) }
+    requires front { IsPrefix (heard_of outlet.old.outlet.listing.program outlet.old.outlet.listing.sets outlet.old.left) (answers outlet.old.outlet.listing.program) }
+    requires rest { IfOk told (HasRest outlet.old.outlet.listing.program (heard_of outlet.old.outlet.listing.program outlet.old.outlet.listing.sets outlet.old.left)) }
     requires program { outlet.old.outlet.listing.program ≡ compiled.now }
     ensures same { outlet.new.outlet.sink.ghost_name ≡ outlet.old.outlet.sink.ghost_name }
     ensures ends { (a : Moment) → a.heard ≡ [] → a.failed ≡ false
@@ -207,7 +208,7 @@ fn stream<K: Sink, W: Watch>(
     let LimitedOutlet {
         outlet,
         models: _,
-        left_out: _,
+        left: _,
         short: _,
         alloc: _,
     } = outlet;
