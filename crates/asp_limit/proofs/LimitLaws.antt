@@ -1,11 +1,15 @@
 -- What is written, and what is left out.
-use Rattle.std.proofs.Common.{◌≡◌, ◌⊎◌, ℕ, zero, suc, ◌+◌, ◌-◌, ◌<◌, ◌≤◌, ◌==◌, Bool, true, false, cond, List, [], ◌∷◌, ◌++◌, length, take, drop, refl, sym, ap, ◌∙◌, subst, inl, inr, arith, append_assoc, append-nil, length-append, length-take-le}
+use Rattle.std.proofs.Common.{◌≡◌, ◌⊎◌, ℕ, zero, suc, ◌+◌, ◌-◌, ◌<◌, ◌≤◌, ◌^◌, ◌==◌, Bool, true, false, cond, List, [], ◌∷◌, ◌++◌, length, map, get_or, take, drop, refl, sym, ap, ◌∙◌, subst, inl, inr, arith, append_assoc, append-nil, length-append, length-take-le}
 use Rattle.std.specs.Prelude.{min, nat_le}
 use Rattle.std.proofs.lemmas.Bool.{eqb-false, eqb-true, false≢true, leb-false, leb-true}
-use Rattle.std.proofs.lemmas.List.{take-append-drop, take_all, take_at}
+use Rattle.std.proofs.lemmas.List.{map_more, take-append-drop, take-map, take_all, take_at}
 use mathlib.Core.List.{IsPrefix}
+use Rattle.asp_model.specs.declared.program.Program.{Program}
+use Rattle.asp_model.specs.Models.{answers}
 use Rattle.asp_model.specs.Sets.{Atoms}
-use Rattle.asp_limit.specs.Limits.{IsCutAt, IsLimitedTo, room}
+use Rattle.asp_rows.specs.declared.row.Row.{Row}
+use Rattle.asp_rows.specs.Listed.{Listed}
+use Rattle.asp_limit.specs.Limits.{IsCutAt, IsLimitedTo, heard_of, left_out, room}
 
 module _ {A : Type 0} where
   -- the first of what comes next
@@ -36,7 +40,7 @@ module _ {A : Type 0} where
 
   all-dropped : (n : ℕ) (xs : List A) → n ≡ length xs → drop n xs ≡ []
   all-dropped n xs e = none-of (drop n xs) (let both : length (take n xs) + length (drop n xs) ≡ length xs = sym (length-append (take n xs) (drop n xs)) ∙ ap length (take-append-drop n xs) in
-    let first : length (take n xs) ≡ n = length-take-le n xs (omega (arith, e)) in omega (arith, both, first, e))
+      let first : length (take n xs) ≡ n = length-take-le n xs (omega (arith, e)) in omega (arith, both, first, e))
 
   drop-at : (xs ys : List A) → drop (length xs) (xs ++ ys) ≡ ys
   drop-at [] ys = refl
@@ -103,6 +107,17 @@ module _ {A : Type 0} where
           let count : length (drop (length written) all) ≡ (length (take n (drop (length written) all)) + length rows) + length front.0 = ap length is ∙ length-append (take n (drop (length written) all) ++ rows) front.0 ∙ ap (λ (m : ℕ). m + length front.0) (length-append (take n (drop (length written) all)) rows) in
           omega (arith, count, ap length all-taken, small)
 
+-- one set more is copied
+pub front-more : (atoms : Atoms) (old new : Listed) (rows : List Row) (sets : List Atoms) (place : ℕ) (row : Row) (set : Atoms) → map (λ (x : Row). x.set) rows ≡ sets → row ≡ get_or rows place row → place < length rows
+    → set ≡ row.set → old ≡ record { atoms = atoms; sets = take place sets } → new ≡ record old { sets = old.sets ++ set ∷ [] } → new ≡ record { atoms = atoms; sets = take (place + 1) sets }
+front-more atoms old new rows sets place row set are is within same was now =
+    let f : Row → Atoms = λ (x : Row). x.set in
+    let more : take (place + 1) sets ≡ take place sets ++ set ∷ [] =
+    ap (take (place + 1)) (sym are) ∙ take-map f (place + 1) rows ∙ map_more f rows place row within
+    ∙ ap (λ (t : List Atoms). t ++ f (get_or rows place row) ∷ []) (sym (take-map f place rows) ∙ ap (take place) are)
+    ∙ ap (λ (S : Atoms). take place sets ++ S ∷ []) (ap f (sym is) ∙ sym same) in
+    now ∙ ap (λ (l : Listed). record l { sets = l.sets ++ set ∷ [] }) was ∙ ap (λ (Ss : List Atoms). record { atoms = atoms; sets = Ss }) (sym more)
+
 room-unlimited : (models written : ℕ) → (models == 0) ≡ true → room models written ≡ 18446744073709551615
 room-unlimited models written e = ap (λ (b : Bool). cond b 18446744073709551615 (models - written)) e
 
@@ -156,3 +171,21 @@ cut-some models written next left n none few is h = by (models == 0) refl
             → (left + (length next - n) ≡ 0) ⊎ ((0 < models) × (length (written ++ take n next) ≡ models))
         last true e some rest le fits = inl (let all = eqb-true n (length next) e in omega (arith, none, all))
         last false e some rest le fits = inr (some, omega (arith, count le, is, rest, fits, eqb-false n (length next) e))
+
+-- what was heard then
+pub heard-more : (p q : Program) (old new rows : List Atoms) (n m k count : ℕ) → q ≡ p → new ≡ old ++ take k rows → m ≡ n → count ≡ length rows → IsPrefix (heard_of p old n ++ rows) (answers p)
+    → (n ≡ 0) ⊎ (k ≡ 0) → k ≤ length rows → heard_of q new (m + (count - k)) ≡ heard_of p old n ++ rows
+heard-more p q old new rows n m k count same now kept counted front order le =
+    ap (λ (x : Program). heard_of x new (m + (count - k))) same
+    ∙ ap (λ (Ss : List Atoms). heard_of p Ss (m + (count - k))) now
+    ∙ ap (λ (j : ℕ). heard_of p (old ++ take k rows) j) (let sum : m + (count - k) ≡ n + (length rows - k) = omega (arith, kept, counted) in sum)
+    ∙ ap (λ (Ss : List Atoms). (old ++ take k rows) ++ Ss) (left-more old rows (answers p) n k front order le)
+    ∙ parted old (left_out p old n) rows k (by order)
+  where
+    by : (n ≡ 0) ⊎ (k ≡ 0) → (left_out p old n ≡ []) ⊎ (k ≡ 0)
+    by (inl none) = inl (ap (λ (j : ℕ). left_out p old j) none)
+    by (inr none) = inr none
+
+pub fits-more : (p : Program) (old rows : List Atoms) (n k count : ℕ) → IsPrefix (heard_of p old n ++ rows) (answers p) → length (heard_of p old n) + length rows + 1 < 2 ^ 64 → n < 2 ^ 64
+    → count ≡ length rows → n + (count - k) < 2 ^ 64
+fits-more p old rows n k count front room small counted = subst (λ (j : ℕ). n + (j - k) < 2 ^ 64) (sym counted) (left-fits old rows (answers p) n k (2 ^ 64) front room small)

@@ -139,8 +139,9 @@ impl<'a, K: Sink> LimitedOutlet<'a, K> {
             → IsLimitedTo self.new.models self.new.outlet.listing.sets self.new.left self.new.short }
         ensures wanted { result ≡ wants self.new.models self.new.outlet.listing.sets self.new.outlet.failed self.new.short }
     {
+        let left = self.left;
         let written = self.write_some(rows);
-        self.left += rows.len() - written;
+        self.left = left + (rows.len() - written);
         self.wants_more()
     }
 

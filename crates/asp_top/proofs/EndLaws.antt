@@ -220,7 +220,7 @@ module _ (p : Program) (units models : ℕ) (written left : List Atoms) (t : Tol
   WroteAs end Ss = WritesAs (status_for end (is_some_of Ss)) (whole_text p end Ss) h h' w w' o.status
 
   wrote-as : (end : End) (Ss : List Atoms) → last_at models (length written) (length t.rest.sets) t.end ≡ end → written ++ kept ≡ Ss → WroteAs end Ss
-  wrote-as end Ss is same = subst (λ (x : End). WroteAs x Ss) is (subst (λ (X : List Atoms). WroteAs (last_at models (length written) (length t.rest.sets) t.end) X) same d.writes)
+  wrote-as end Ss is same = subst (λ (x : End). WroteAs x Ss) is (subst (λ (X : List Atoms). WroteAs (last_at models (length written) (length t.rest.sets) t.end) X) same d.wrote)
 
   told-as : (end : End) → last_at models (length written) (length t.rest.sets) t.end ≡ end → ReportsLast end p (kept_of models written t) d.report
   told-as end is = subst (λ (x : End). ReportsLast x p (kept_of models written t) d.report) is d.report_is
@@ -229,7 +229,7 @@ module _ (p : Program) (units models : ℕ) (written left : List Atoms) (t : Tol
   first : last_at models (length written) (length t.rest.sets) t.end ≡ Limited → 0 < models → models ≤ length (answers p) → written ++ kept ≡ take models (answers p) → Ended
   first is some enough same =
       let told = told-as Limited is in
-      inr (record { some = some; enough = enough; report = d.report; reports = d.reports; mode = told.0; program = told.1; writes = wrote-as Limited (take models (answers p)) is same })
+      inr (record { some = some; enough = enough; report = d.report; reports = d.reports; mode = told.0; program = told.1; wrote = wrote-as Limited (take models (answers p)) is same })
 
   full-enough : (room models (length written) == 0) ≡ true → models ≤ length (answers p)
   full-enough full =
@@ -286,7 +286,7 @@ module _ (p : Program) (units models : ℕ) (written left : List Atoms) (t : Tol
       let Ss : List Atoms = take models (heard ++ t.rest.sets) in
       let taken : length Ss ≡ models = length-take-le models (heard ++ t.rest.sets) enough in
       let wrote = wrote-as Unfinished Ss last (part-kept models written left t.rest.sets cut small none much.0) in
-      let as : WritesAs Partial (whole_text p (end_of t.end) Ss) h h' w w' o.status =
+      let partly : WritesAs Partial (whole_text p (end_of t.end) Ss) h h' w w' o.status =
       subst (λ (x : End). WritesAs Partial (whole_text p x Ss) h h' w w' o.status) (sym is)
       (subst (λ (b : Bool). WritesAs (status_for Unfinished b) (whole_text p Unfinished Ss) h h' w w' o.status) (some-of Ss (omega (arith, taken, much.0))) wrote) in
       let no : ¬ (Unfinished ≡ Limited) = λ e. cc in
@@ -295,7 +295,7 @@ module _ (p : Program) (units models : ℕ) (written left : List Atoms) (t : Tol
         some = much.0;
         enough = enough;
         reports = told-left Unfinished (told-as Unfinished last) no none;
-        writes = as;
+        wrote = partly;
       }))
 
   -- all were found
@@ -350,7 +350,7 @@ module _ (p : Program) (units models : ℕ) (written left : List Atoms) (t : Tol
 
   -- no more was wanted
   unwanted : t.end ≡ ends.Unwanted → wants models written false false ≡ false → Ended
-  unwanted is no = first-full (ap (λ (y : StreamEnd). last_of y Few Full) is) (by Full no)
+  unwanted is less = first-full (ap (λ (y : StreamEnd). last_of y Few Full) is) (by Full less)
     where
       by : (b : Bool) → not b ≡ false → b ≡ true
       by true e = refl
@@ -359,7 +359,7 @@ module _ (p : Program) (units models : ℕ) (written left : List Atoms) (t : Tol
   ended : (e : StreamEnd) → t.end ≡ e → Tells p units heard (wants models written false false) t e → Ended
   ended ends.Finished is has = finished Few is refl has
   ended (ends.Unpaid x) is has = unpaid x is has
-  ended ends.Unwanted is no = unwanted is no
+  ended ends.Unwanted is less = unwanted is less
 
 -- what is left of a stream of the program
 pub rest-of : {E : Type 0} (r : Result Told E) (p q : Program) (units : ℕ) (heard : List Atoms) (wants : Bool) → q ≡ p → IfOk r (IsTellingOf p units heard wants) → IfOk r (HasRest q heard)
@@ -410,8 +410,8 @@ streams-told p units models h h' w w' o (inr (inl f)) = by f.3
   where
     by : DeliversRest p f.0 f.1 models h h' w w' o ⊎ DeliversPart p f.0 f.1 models h h' w w' o → TellsFaults w w' o.status
     by (inl d) = d.quiet
-    by (inr d) = d.writes.quiet
-streams-told p units models h h' w w' o (inr (inr d)) = d.writes.quiet
+    by (inr d) = d.wrote.quiet
+streams-told p units models h h' w w' o (inr (inr d)) = d.wrote.quiet
 
 -- ---- what the notes tell of it
 counted-of : (p q : Program) (t : Tally) → t.atoms ≡ length (atoms_of p) → t.bodies ≡ length (bodies_of p) → IfSome t.loops (HasLoops p) → AreNumbered 0 t.workers → q ≡ p

@@ -247,12 +247,12 @@ runs-streamed given a p o whole from sound numbers reads quiet on (inr (inl f)) 
     by (inr d) =
         let solved = streamed-solved given a p f.0 f.1 o whole from sound numbers on f.2 d.reports in
         let has : HasPart given a o.report = record { solved = solved; end_is = d.end_is; streamed = on; some = d.some; enough = d.enough } in
-        let means = part-written given a _ o.status o.report has (part-lines given p f.0 f.1 (is-listing given p on)) d.writes in
-        record { means = means; exact = exact given a o.report o.status means (λ isn't. quiet); later = (reads, d.writes.later) }
+        let means = part-written given a _ o.status o.report has (part-lines given p f.0 f.1 (is-listing given p on)) d.wrote in
+        record { means = means; exact = exact given a o.report o.status means (λ isn't. quiet); later = (reads, d.wrote.later) }
 runs-streamed given a p o whole from sound numbers reads quiet on (inr (inr d)) =
     let has = streamed-first given a p o from sound numbers on d in
-    let means = first-written given a _ o.status o.report has (first-searched given p given.models sound numbers (is-listing given p on)) d.writes in
-    record { means = means; exact = exact given a o.report o.status means (λ isn't. quiet); later = (reads, d.writes.later) }
+    let means = first-written given a _ o.status o.report has (first-searched given p given.models sound numbers (is-listing given p on)) d.wrote in
+    record { means = means; exact = exact given a o.report o.status means (λ isn't. quiet); later = (reads, d.wrote.later) }
 
 runs-divided : (given : Options) (a : Around) (p : Program) (most : ℕ) (o : Outcome) → given.split ≡ Some most → IsGiven given.format given.make a p → a.reads ≤ a.reads' → a.reads' ≡ a.reads
     → Divides p most a.held a.held' a.writes a.writes' o → Runs given a o

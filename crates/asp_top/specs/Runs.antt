@@ -399,7 +399,7 @@ pub record DeliversLast (p : Program) (models : ℕ) (written : List Atoms) (t :
   pub report : Report
   pub reports : o.report ≡ Some report
   pub report_is : ReportsLast (last_at models (length written) (length t.rest.sets) t.end) p (kept_of models written t) report
-  pub writes : WritesAs (status_for (last_at models (length written) (length t.rest.sets) t.end) (is_some_of (written ++ (kept_of models written t).rest.sets)))
+  pub wrote : WritesAs (status_for (last_at models (length written) (length t.rest.sets) t.end) (is_some_of (written ++ (kept_of models written t).rest.sets)))
       (whole_text p (last_at models (length written) (length t.rest.sets) t.end) (written ++ (kept_of models written t).rest.sets)) held held' writes writes' o.status
 
 -- What is left can be counted, with what was heard, and is among the program's atoms.
@@ -431,7 +431,7 @@ pub record DeliversPart (p : Program) (heard : List Atoms) (t : Told) (models : 
   pub some : 0 < models
   pub enough : models ≤ length (report_of heard t).results.answers
   pub reports : o.report ≡ Some (with_answers (left_of models heard t.rest.sets) (report_of heard t))
-  pub writes : WritesAs Partial (report_text p (cut_to models (report_of heard t)) as_lines) held held' writes writes' o.status
+  pub wrote : WritesAs Partial (report_text p (cut_to models (report_of heard t)) as_lines) held held' writes writes' o.status
 
 -- The first of all answers were written, as many as may be, or a front of their lines.
 pub record DeliversFirst (p : Program) (models : ℕ) (held held' : Option (List ℕ)) (writes writes' : ℕ) (o : Outcome) : Type 0 where
@@ -441,7 +441,7 @@ pub record DeliversFirst (p : Program) (models : ℕ) (held held' : Option (List
   pub reports : o.report ≡ Some report
   pub mode : report.results.mode ≡ Enum
   pub program : report.paid.program ≡ p
-  pub writes : WritesAs Enough (first_text p models) held held' writes writes' o.status
+  pub wrote : WritesAs Enough (first_text p models) held held' writes writes' o.status
 
 -- what was heard and left is what a report says, and was written; or the first of it
 abbrev pub StreamsFound : Program → ℕ → ℕ → Option (List ℕ) → Option (List ℕ) → ℕ → ℕ → Outcome → Type 0
