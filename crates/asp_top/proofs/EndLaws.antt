@@ -74,6 +74,10 @@ cut-by-memory p a m o none fine after front kept is =
 
 -- ---- which answers were written
 module _ {A : Type 0} where
+  -- a front of a front
+  pub front-first : (xs ys zs : List A) → IsPrefix (xs ++ ys) zs → IsPrefix xs zs
+  front-first xs ys zs h = (ys ++ h.0, sym (append_assoc xs ys h.0) ∙ h.1)
+
   take-over : (n : ℕ) (xs ys : List A) → length xs ≤ n → take n (xs ++ ys) ≡ xs ++ take (n - length xs) ys
   take-over n [] ys le = ap (λ (k : ℕ). take k ys) (let same : n ≡ n - 0 = omega arith in same)
   take-over zero (x ∷ xs) ys le = let f : ⊥ = omega (arith, le) in absurd f
@@ -206,8 +210,8 @@ module _ (models : ℕ) (written left rest : List Atoms) (cut : CutAt models wri
 module _ (p : Program) (units models : ℕ) (written left : List Atoms) (t : Told) (h h' : Option (List ℕ)) (w w' : ℕ) (o : Outcome)
     (front : IsPrefix (written ++ left) (answers p)) (cut : CutAt models written left) (small : length t.rest.sets < 18446744073709551615)
     (d : DeliversLast p models written t h h' w w' o) where
-  abbrev heard : List Atoms
-  heard = written ++ left
+  abbrev all_heard : List Atoms
+  all_heard = written ++ left
 
   abbrev kept : List Atoms
   kept = take (room models (length written)) t.rest.sets
@@ -241,30 +245,30 @@ module _ (p : Program) (units models : ℕ) (written left : List Atoms) (t : Tol
   first-full is full = first is (full-says models written left cut full).0 (full-enough full) (full-kept models written left t.rest.sets cut small (answers p) full front)
 
   -- what is reported where it isn't the first
-  told-left : (end : End) → ReportsLast end p (kept_of models written t) d.report → ¬ (end ≡ Limited) → left ≡ [] → o.report ≡ Some (with_answers (left_of models heard t.rest.sets) (report_of heard t))
+  told-left : (end : End) → ReportsLast end p (kept_of models written t) d.report → ¬ (end ≡ Limited) → left ≡ [] → o.report ≡ Some (with_answers (left_of models all_heard t.rest.sets) (report_of all_heard t))
   told-left end told isn't none =
       d.reports ∙ ap (λ (r : Report). Some r) (plain end told isn't)
-      ∙ ap (λ (Ss : List Atoms). Some (with_answers Ss (report_of heard t))) (sym (left-kept models written left t.rest.sets cut small none))
+      ∙ ap (λ (Ss : List Atoms). Some (with_answers Ss (report_of all_heard t))) (sym (left-kept models written left t.rest.sets cut small none))
     where
       plain : (end : End) → ReportsLast end p (kept_of models written t) d.report → ¬ (end ≡ Limited) → d.report ≡ report_of [] (kept_of models written t)
       plain Finished told isn't = told
       plain Unfinished told isn't = told
       plain Limited told isn't = absurd (isn't refl)
 
-  found-all : left ≡ [] → is_few models (length written + length t.rest.sets) ≡ true → written ++ kept ≡ heard ++ t.rest.sets
+  found-all : left ≡ [] → is_few models (length written + length t.rest.sets) ≡ true → written ++ kept ≡ all_heard ++ t.rest.sets
   found-all none few =
       ap (λ (Ss : List Atoms). written ++ Ss) (few-kept models written left t.rest.sets cut small none few)
       ∙ ap (λ (Ss : List Atoms). Ss ++ t.rest.sets) (sym (ap (λ (Ss : List Atoms). written ++ Ss) none ∙ append-nil written))
 
-  found-count : left ≡ [] → length (heard ++ t.rest.sets) ≡ length written + length t.rest.sets
+  found-count : left ≡ [] → length (all_heard ++ t.rest.sets) ≡ length written + length t.rest.sets
   found-count none = ap (λ (Ss : List Atoms). length (Ss ++ t.rest.sets)) (ap (λ (Ss : List Atoms). written ++ Ss) none ∙ append-nil written) ∙ length-append written t.rest.sets
 
   -- few were found
   few-found : (end : End) → end_of t.end ≡ end → ¬ (end ≡ Limited) → last_at models (length written) (length t.rest.sets) t.end ≡ end → left ≡ [] →
-      is_few models (length written + length t.rest.sets) ≡ true → HasReport p units heard t → Ended
+      is_few models (length written + length t.rest.sets) ≡ true → HasReport p units all_heard t → Ended
   few-found end is isn't last none few has =
-      let wrote = wrote-as (end_of t.end) (heard ++ t.rest.sets) (last ∙ sym is) (found-all none few) in
-      inl (heard, t, has, inl (record {
+      let wrote = wrote-as (end_of t.end) (all_heard ++ t.rest.sets) (last ∙ sym is) (found-all none few) in
+      inl (all_heard, t, has, inl (record {
         few = λ some. let less = few-says models (length written + length t.rest.sets) few some in omega (arith, less, found-count none);
         reports = told-left end (told-as end last) isn't none;
         means = wrote.means;
@@ -278,19 +282,19 @@ module _ (p : Program) (units models : ℕ) (written left : List Atoms) (t : Tol
 
   -- as many were found as may be written, and the budget is spent
   part-found : end_of t.end ≡ Unfinished → last_at models (length written) (length t.rest.sets) t.end ≡ Unfinished → left ≡ [] →
-      is_few models (length written + length t.rest.sets) ≡ false → HasReport p units heard t → Ended
+      is_few models (length written + length t.rest.sets) ≡ false → HasReport p units all_heard t → Ended
   part-found is last none many has =
       let much = many-says models (length written + length t.rest.sets) many in
       let count = found-count none in
-      let enough : models ≤ length (heard ++ t.rest.sets) = omega (arith, much.1, count) in
-      let Ss : List Atoms = take models (heard ++ t.rest.sets) in
-      let taken : length Ss ≡ models = length-take-le models (heard ++ t.rest.sets) enough in
+      let enough : models ≤ length (all_heard ++ t.rest.sets) = omega (arith, much.1, count) in
+      let Ss : List Atoms = take models (all_heard ++ t.rest.sets) in
+      let taken : length Ss ≡ models = length-take-le models (all_heard ++ t.rest.sets) enough in
       let wrote = wrote-as Unfinished Ss last (part-kept models written left t.rest.sets cut small none much.0) in
       let partly : WritesAs Partial (whole_text p (end_of t.end) Ss) h h' w w' o.status =
       subst (λ (x : End). WritesAs Partial (whole_text p x Ss) h h' w w' o.status) (sym is)
       (subst (λ (b : Bool). WritesAs (status_for Unfinished b) (whole_text p Unfinished Ss) h h' w w' o.status) (some-of Ss (omega (arith, taken, much.0))) wrote) in
       let no : ¬ (Unfinished ≡ Limited) = λ e. cc in
-      inl (heard, t, has, inr (record {
+      inl (all_heard, t, has, inr (record {
         end_is = is;
         some = much.0;
         enough = enough;
@@ -299,8 +303,8 @@ module _ (p : Program) (units models : ℕ) (written left : List Atoms) (t : Tol
       }))
 
   -- all were found
-  found-are : t.end ≡ ends.Finished → HasReport p units heard t → heard ++ t.rest.sets ≡ answers p
-  found-are is has = (subst (λ (e : StreamEnd). Says p (asks Enum 0 false) (report_of heard t) (end_of e)) is has.says).0
+  found-are : t.end ≡ ends.Finished → HasReport p units all_heard t → all_heard ++ t.rest.sets ≡ answers p
+  found-are is has = (subst (λ (e : StreamEnd). Says p (asks Enum 0 false) (report_of all_heard t) (end_of e)) is has.says).0
 
   abbrev Few : Bool
   Few = is_few models (length written + length t.rest.sets)
@@ -318,7 +322,7 @@ module _ (p : Program) (units models : ℕ) (written left : List Atoms) (t : Tol
       let f : ⊥ = omega (arith, says.1, less) in absurd f
   few-open false full few = full
 
-  finished : (few : Bool) → t.end ≡ ends.Finished → Few ≡ few → HasReport p units heard t → Ended
+  finished : (few : Bool) → t.end ≡ ends.Finished → Few ≡ few → HasReport p units all_heard t → Ended
   finished true is few has =
       let more = few-open Full refl few in
       let no : ¬ (Finished ≡ Limited) = λ e. cc in
@@ -332,10 +336,10 @@ module _ (p : Program) (units models : ℕ) (written left : List Atoms) (t : Tol
           let none = open-says models written left cut more in
           let all = found-are is has in
           first (last-finished false is many) much.0
-          (let count = found-count none in let same : length (heard ++ t.rest.sets) ≡ length (answers p) = ap length all in omega (arith, much.1, count, same))
+          (let count = found-count none in let same : length (all_heard ++ t.rest.sets) ≡ length (answers p) = ap length all in omega (arith, much.1, count, same))
           (part-kept models written left t.rest.sets cut small none much.0 ∙ ap (take models) all)
 
-  unpaid : (x : Clash) → t.end ≡ ends.Unpaid x → HasReport p units heard t → Ended
+  unpaid : (x : Clash) → t.end ≡ ends.Unpaid x → HasReport p units all_heard t → Ended
   unpaid x is has = by Full Few refl refl
     where
       last : (full : Bool) → Full ≡ full → last_at models (length written) (length t.rest.sets) t.end ≡ cond full Limited Unfinished
@@ -356,7 +360,7 @@ module _ (p : Program) (units models : ℕ) (written left : List Atoms) (t : Tol
       by true e = refl
       by false e = absurd (false≢true (sym e))
 
-  ended : (e : StreamEnd) → t.end ≡ e → Tells p units heard (wants models written false false) t e → Ended
+  ended : (e : StreamEnd) → t.end ≡ e → Tells p units all_heard (wants models written false false) t e → Ended
   ended ends.Finished is has = finished Few is refl has
   ended (ends.Unpaid x) is has = unpaid x is has
   ended ends.Unwanted is less = unwanted is less

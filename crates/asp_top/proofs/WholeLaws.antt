@@ -390,16 +390,18 @@ tells-listed-enough given p L best known picked brief = by given.form refl
     text = enough-enum Text given p given.models L best known picked.1
 
     in-lines : (streamed : Bool) → given.form ≡ Text → given.stream ≡ streamed → (Ss : List Atoms) × ToldEnough Text streamed given p (text_for Text given p (found Enum Limited L best known)) Ss
-    in-lines false form stream = (L, picked, text)
+    in-lines false form stream = (L, (picked, text))
     in-lines true form stream = (
       take given.models (answers p),
-      (refl, length-take-le given.models (answers p) (few-of given.models (answers p) L picked)),
-      text ∙ ap (λ (x : List ℕ). x ++ last_lines given.models) (brief-lines (is_brief given) p L (take given.models (answers p)) (brief form stream)),
+      (
+        (refl, length-take-le given.models (answers p) (few-of given.models (answers p) L picked)),
+        text ∙ ap (λ (x : List ℕ). x ++ last_lines given.models) (brief-lines (is_brief given) p L (take given.models (answers p)) (brief form stream)),
+      ),
     )
 
     by : (form : Form) → given.form ≡ form → (Ss : List Atoms) × ToldEnough form given.stream given p (text_for form given p (found Enum Limited L best known)) Ss
     by Text form = in-lines given.stream form refl
-    by Json form = (L, picked, enough-enum Json given p given.models L best known picked.1)
+    by Json form = (L, (picked, enough-enum Json given p given.models L best known picked.1))
 
 -- the first of them were written, in lines
 first-told : (given : Options) (p : Program) → IsListing given p → given.models ≤ length (answers p) → TellsEnough given p (mode_of given.mode p) (first_text p given.models)

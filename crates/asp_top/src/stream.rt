@@ -118,12 +118,12 @@ fn end_stream<K: Sink>(
     compiled: &Compiled,
 ) -> Outcome
     requires front { IsPrefix (heard_of outlet.old.outlet.listing.program outlet.old.outlet.listing.sets outlet.old.left) (answers outlet.old.outlet.listing.program) }
-    requires rest { HasRest outlet.old.outlet.listing.program (heard_of outlet.old.outlet.listing.program outlet.old.outlet.listing.sets outlet.old.left) told.entry }
+    requires rest { HasRest outlet.old.outlet.listing.program (heard_of outlet.old.outlet.listing.program outlet.old.outlet.listing.sets outlet.old.left) told }
     requires program { outlet.old.outlet.listing.program ≡ compiled.now }
     ensures same { outlet.new.outlet.sink.ghost_name ≡ outlet.old.outlet.sink.ghost_name }
     ensures ends { (a : Moment) → a.heard ≡ [] → a.failed ≡ false
         → IsAfter outlet.old.outlet.listing.program a (moment outlet.old.outlet.listing.sets (K.held outlet.old.outlet.sink.now) (K.faults outlet.old.outlet.sink.now) outlet.old.outlet.failed)
-        → EndsStream outlet.old.outlet.listing.program outlet.old.models outlet.old.outlet.listing.sets outlet.old.outlet.failed outlet.old.short told.entry
+        → EndsStream outlet.old.outlet.listing.program outlet.old.models outlet.old.outlet.listing.sets outlet.old.outlet.failed outlet.old.short told
         a.held (K.held outlet.new.outlet.sink.now) a.faults (K.faults outlet.new.outlet.sink.now) result }
     ensures sent { IsSentOn result.status (K.is_sent outlet.new.outlet.sink.now) }
     ensures closed { TellsClosed result.status (K.is_closed outlet.new.outlet.sink.now) }
