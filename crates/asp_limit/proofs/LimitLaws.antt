@@ -1,7 +1,7 @@
 -- What is written, and what is left out.
-use Rattle.std.proofs.Common.{◌≡◌, ◌⊎◌, ℕ, zero, suc, ◌+◌, ◌-◌, ◌<◌, ◌≤◌, ◌^◌, ◌==◌, Bool, true, false, cond, List, [], ◌∷◌, ◌++◌, length, map, get_or, take, drop, refl, sym, ap, ◌∙◌, subst, inl, inr, arith, append_assoc, append-nil, length-append, length-take-le}
-use Rattle.std.specs.Prelude.{min, nat_le}
-use Rattle.std.proofs.lemmas.Bool.{eqb-false, eqb-true, false≢true, leb-false, leb-true}
+use Rattle.std.proofs.Common.{◌≡◌, ◌⊎◌, ℕ, ◌+◌, ◌-◌, ◌<◌, ◌≤◌, ◌^◌, Bool, true, false, List, [], ◌∷◌, ◌++◌, length, map, get_or, take, drop, refl, sym, ap, ◌∙◌, subst, inl, inr, arith, append_assoc, append-nil, length-append, length-take-le}
+use Rattle.std.specs.Prelude.{nat_le}
+use Rattle.std.proofs.lemmas.Bool.{leb-false, leb-true}
 use Rattle.std.proofs.lemmas.List.{map_more, take-append-drop, take-map, take_all, take_at}
 use mathlib.Core.List.{IsPrefix}
 use Rattle.asp_model.specs.declared.program.Program.{Program}
@@ -9,7 +9,7 @@ use Rattle.asp_model.specs.Models.{answers}
 use Rattle.asp_model.specs.Sets.{Atoms}
 use Rattle.asp_rows.specs.declared.row.Row.{Row}
 use Rattle.asp_rows.specs.Listed.{Listed}
-use Rattle.asp_limit.specs.Limits.{IsCutAt, IsLimitedTo, heard_of, left_out, room}
+use Rattle.asp_limit.specs.Limits.{heard_of, left_out}
 
 module _ {A : Type 0} where
   -- the first of what comes next
@@ -37,10 +37,6 @@ module _ {A : Type 0} where
   none-of : (xs : List A) → length xs ≡ 0 → xs ≡ []
   none-of [] e = refl
   none-of (x ∷ xs) e = let f : ⊥ = omega (arith, e) in absurd f
-
-  all-dropped : (n : ℕ) (xs : List A) → n ≡ length xs → drop n xs ≡ []
-  all-dropped n xs e = none-of (drop n xs) (let both : length (take n xs) + length (drop n xs) ≡ length xs = sym (length-append (take n xs) (drop n xs)) ∙ ap length (take-append-drop n xs) in
-      let first : length (take n xs) ≡ n = length-take-le n xs (omega (arith, e)) in omega (arith, both, first, e))
 
   drop-at : (xs ys : List A) → drop (length xs) (xs ++ ys) ≡ ys
   drop-at [] ys = refl
@@ -117,60 +113,6 @@ front-more atoms old new rows sets place row set are is within same was now =
     ∙ ap (λ (t : List Atoms). t ++ f (get_or rows place row) ∷ []) (sym (take-map f place rows) ∙ ap (take place) are)
     ∙ ap (λ (S : Atoms). take place sets ++ S ∷ []) (ap f (sym is) ∙ sym same) in
     now ∙ ap (λ (l : Listed). record l { sets = l.sets ++ set ∷ [] }) was ∙ ap (λ (Ss : List Atoms). record { atoms = atoms; sets = Ss }) (sym more)
-
-room-unlimited : (models written : ℕ) → (models == 0) ≡ true → room models written ≡ 18446744073709551615
-room-unlimited models written e = ap (λ (b : Bool). cond b 18446744073709551615 (models - written)) e
-
-room-limited : (models written : ℕ) → (models == 0) ≡ false → room models written ≡ models - written
-room-limited models written e = ap (λ (b : Bool). cond b 18446744073709551615 (models - written)) e
-
-positive : (n : ℕ) → (n == 0) ≡ false → 0 < n
-positive zero e = absurd (false≢true (sym e))
-positive (suc n) e = omega arith
-
--- nothing of what comes next is written
-pub cut-none : (models : ℕ) (written : List Atoms) (left next : ℕ) (short : Bool) → (short ≡ true) ⊎ (left ≡ 0 → ⊥) → IsLimitedTo models written left short
-    → IsLimitedTo models (written ++ []) (left + next) short
-cut-none models written left next short (inl wants) h = λ fine. absurd (false≢true (sym fine ∙ wants))
-cut-none models written left next short (inr some) h = λ fine.
-    let is = h fine in
-    let same : written ++ [] ≡ written = append-nil written in
-    record {
-      within = λ limit. subst (λ (t : List Atoms). length t ≤ models) (sym same) (is.within limit);
-      full = by is.full same;
-    }
-  where
-    by : (left ≡ 0) ⊎ ((0 < models) × (length written ≡ models)) → written ++ [] ≡ written → (left + next ≡ 0) ⊎ ((0 < models) × (length (written ++ []) ≡ models))
-    by (inl none) same = absurd (some none)
-    by (inr full) same = inr (full.0, ap length same ∙ full.1)
-
--- as many as may be written of what comes next are
-pub cut-some : (models : ℕ) (written next : List Atoms) (left n : ℕ) → left ≡ 0 → length next < 18446744073709551615 → n ≡ min (room models (length written)) (length next)
-    → IsCutAt models written left → IsCutAt models (written ++ take n next) (left + (length next - n))
-cut-some models written next left n none few is h = by (models == 0) refl
-  where
-    count : n ≤ length next → length (written ++ take n next) ≡ length written + n
-    count le = length-append written (take n next) ∙ ap (λ (k : ℕ). length written + k) (length-take-le n next le)
-
-    by : (b : Bool) → (models == 0) ≡ b → IsCutAt models (written ++ take n next) (left + (length next - n))
-    by true e =
-        let zero-is : models ≡ 0 = eqb-true models 0 e in
-        let all : n ≡ length next = omega (arith, is, room-unlimited models (length written) e, few) in
-        record { within = λ limit. let f : ⊥ = omega (arith, limit, zero-is) in absurd f; full = inl (omega (arith, none, all)) }
-    by false e =
-        let some : 0 < models = positive models e in
-        let rest : room models (length written) ≡ models - length written = room-limited models (length written) e in
-        let le : n ≤ length next = omega (arith, is) in
-        let fits : length written ≤ models = h.within some in
-        record {
-          within = λ limit. omega (arith, count le, is, rest, fits);
-          full = last (n == length next) refl some rest le fits;
-        }
-      where
-        last : (b : Bool) → (n == length next) ≡ b → 0 < models → room models (length written) ≡ models - length written → n ≤ length next → length written ≤ models
-            → (left + (length next - n) ≡ 0) ⊎ ((0 < models) × (length (written ++ take n next) ≡ models))
-        last true e some rest le fits = inl (let all = eqb-true n (length next) e in omega (arith, none, all))
-        last false e some rest le fits = inr (some, omega (arith, count le, is, rest, fits, eqb-false n (length next) e))
 
 -- what was heard then
 pub heard-more : (p q : Program) (old new rows : List Atoms) (n m k count : ℕ) → q ≡ p → new ≡ old ++ take k rows → m ≡ n → count ≡ length rows → IsPrefix (heard_of p old n ++ rows) (answers p)

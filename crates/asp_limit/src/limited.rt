@@ -154,7 +154,7 @@ impl<'a, K: Sink> LimitedOutlet<'a, K> {
 }
 
 impl<K: Sink> Reader for LimitedOutlet<'_, K> {
-    ghost use Rattle.std.proofs.Common.{◌≡◌, ◌∙◌, List, ◌++◌, ap, refl, sym, subst};
+    ghost use Rattle.std.proofs.Common.{◌≡◌, ◌∙◌, ◌++◌, refl, subst};
     ghost use Rattle.asp_model.specs.declared.program.Program.{Program};
     ghost use Rattle.asp_outlet.specs.Hearing.{hears_nothing, hears_then};
     ghost use Rattle.asp_outlet.specs.Outlets.{Hears, IsAfter, moment};

@@ -37,7 +37,7 @@ use Rattle.asp_top.specs.Codes.{IsLost}
 use Rattle.asp_top.specs.Loops.{HasLoops}
 use Rattle.asp_top.specs.Meaning.{status_for}
 use Rattle.asp_top.specs.Notes.{is_streamed}
-use Rattle.asp_top.specs.Runs.{DeliversFirst, DeliversLast, DeliversPart, DeliversRest, EndsRun, HasRest, IsCounted, IsCutShort, ReportsLast, Solves, SolvesBy, Streams, StreamsFound, TellsFaults, WritesAs, is_few, kept_of, last_at, last_of, left_of, streams, with_answers}
+use Rattle.asp_top.specs.Runs.{DeliversFirst, DeliversLast, DeliversPart, DeliversRest, EndsRun, IsCounted, IsCutShort, ReportsLast, Solves, SolvesBy, Streams, StreamsFound, TellsFaults, WritesAs, is_few, kept_of, last_at, last_of, left_of, streams, with_answers}
 
 filled : (n : ℕ) → (n ≡ 0 → ⊥) → not (nat_eq n 0) ≡ true
 filled n some = ap not (isn't (nat_eq n 0) refl)
@@ -268,13 +268,18 @@ module _ (p : Program) (units models : ℕ) (written left : List Atoms) (t : Tol
       is_few models (length written + length t.rest.sets) ≡ true → HasReport p units all_heard t → Ended
   few-found end is isn't last none few has =
       let wrote = wrote-as (end_of t.end) (all_heard ++ t.rest.sets) (last ∙ sym is) (found-all none few) in
-      inl (all_heard, t, has, inl (record {
-        few = λ some. let less = few-says models (length written + length t.rest.sets) few some in omega (arith, less, found-count none);
-        reports = told-left end (told-as end last) isn't none;
-        means = wrote.means;
-        later = wrote.later;
-        quiet = wrote.quiet;
-      }))
+      inl (
+        all_heard,
+        t,
+        has,
+        inl (record {
+          few = λ some. let less = few-says models (length written + length t.rest.sets) few some in omega (arith, less, found-count none);
+          reports = told-left end (told-as end last) isn't none;
+          means = wrote.means;
+          later = wrote.later;
+          quiet = wrote.quiet;
+        }),
+      )
 
   some-of : (Ss : List Atoms) → 0 < length Ss → is_some_of Ss ≡ true
   some-of [] some = let f : ⊥ = omega (arith, some) in absurd f
@@ -294,13 +299,18 @@ module _ (p : Program) (units models : ℕ) (written left : List Atoms) (t : Tol
       subst (λ (x : End). WritesAs Partial (whole_text p x Ss) h h' w w' o.status) (sym is)
       (subst (λ (b : Bool). WritesAs (status_for Unfinished b) (whole_text p Unfinished Ss) h h' w w' o.status) (some-of Ss (omega (arith, taken, much.0))) wrote) in
       let no : ¬ (Unfinished ≡ Limited) = λ e. cc in
-      inl (all_heard, t, has, inr (record {
-        end_is = is;
-        some = much.0;
-        enough = enough;
-        reports = told-left Unfinished (told-as Unfinished last) no none;
-        wrote = partly;
-      }))
+      inl (
+        all_heard,
+        t,
+        has,
+        inr (record {
+          end_is = is;
+          some = much.0;
+          enough = enough;
+          reports = told-left Unfinished (told-as Unfinished last) no none;
+          wrote = partly;
+        }),
+      )
 
   -- all were found
   found-are : t.end ≡ ends.Finished → HasReport p units all_heard t → all_heard ++ t.rest.sets ≡ answers p
@@ -365,11 +375,7 @@ module _ (p : Program) (units models : ℕ) (written left : List Atoms) (t : Tol
   ended (ends.Unpaid x) is has = unpaid x is has
   ended ends.Unwanted is less = unwanted is less
 
--- what is left of a stream of the program
-pub rest-of : {E : Type 0} (r : Result Told E) (p q : Program) (units : ℕ) (heard : List Atoms) (wants : Bool) → q ≡ p → IfOk r (IsTellingOf p units heard wants) → IfOk r (HasRest q heard)
-rest-of (Ok t) p q units heard wants same told = record { atoms = told.atoms ∙ ap atoms_of (sym same); few = told.few }
-rest-of (Err e) p q units heard wants same told = tt
-
+-- what was told, and written
 pub streams-of : {E : Type 0} (r : Result Told E) (p q : Program) (units models : ℕ) (written : List Atoms) (left : ℕ) (failed short : Bool) (h h' : Option (List ℕ)) (w w' : ℕ) (o : Outcome) → q ≡ p
     → IsPrefix (heard_of q written left) (answers p) → IsLimitedTo models written left short → IfOk r (IsTellingOf p units (heard_of q written left) (wants models written failed short))
     → EndsRun r q models written failed short h h' w w' o → Streams p units models h h' w w' o

@@ -11,7 +11,7 @@ use Rattle.asp_model.specs.declared.results.Ask.{Ask}
 use Rattle.asp_model.specs.declared.results.End.{End}
 use Rattle.asp_model.specs.declared.results.End.TheVariants.{Finished, Limited, Unfinished}
 use Rattle.asp_model.specs.declared.results.Mode.{Mode}
-use Rattle.asp_model.specs.declared.results.Mode.TheVariants.{Enum, Opt, Consequences}
+use Rattle.asp_model.specs.declared.results.Mode.TheVariants.{Enum}
 use Rattle.asp_model.specs.Asked.{reasoning_of}
 use Rattle.asp_model.specs.Found.{Found}
 use Rattle.asp_model.specs.Models.{answers}

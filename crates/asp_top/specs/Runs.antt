@@ -117,7 +117,7 @@ IsReported false models A done report = report ≡ Some (told_with A done)
 IsReported true models A done report = (heard rest : List Atoms) × (done.results.answers ≡ heard ++ rest) × (report ≡ Some (with_answers (left_of models heard rest) done))
 
 -- ---- outputs get atoms, and facts and copies are set aside, before the search
--- No parts are asked for. The report is that of a run on what is left of the program, with what is asked and the units that were given;
+-- No parts are asked for. The report is that of a run on what is left of the program, with what is asked of the run and the units that were given;
 -- with what was set aside it says of the program what was asked, and has a proof if that was asked for. Where consequences are told by name all
 -- this is about the program with atoms for its outputs, and the texts of those are what is said.
 pub record IsSolved (given : Options) (a : Around) (report : Option Report) : Type 0 where
