@@ -75,5 +75,6 @@ refuse 'an example' examples/colouring.aspif --proof
 refuse 'an optimum' examples/independent_set.aspif --opt-all
 printf 'asp 1 0 0\n1 1 9 1 2 3 4 5 6 7 8 9 0 0\n0\n' > "$room/free"
 refuse '512 answers, as they come' "$room/free" --mode enum --stream
+refuse 'the first 100 of 512 answers' "$room/free" --mode enum --stream --models 100
 refuse 'an example' examples/colouring.aspif --split 4
 [ "$failed" -eq 0 ]

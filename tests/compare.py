@@ -4,7 +4,7 @@
     compare.py PROGRAM [COUNT [SEED]] [--no-clasp] [--smodels]     (PROGRAM may have words behind it: "build/aspenum --workers 4")
 
 With --smodels the programs are smodels texts, and the reference solves what tests/smodels.py makes of them. Each program has up to seven atoms and every kind of statement. In an enumeration, with --stream too, and where all optima are listed, the bytes
-must be the reference's, and where consequences are asked for, by numbers and by name, also of outputs of several literals and of some atoms alone, in lines and as JSON; in an optimisation the closing lines, cost and count, must be. With a limit the number of answers must be
+must be the reference's, and with --stream and a limit those of its first answers, and where consequences are asked for, by numbers and by name, also of outputs of several literals and of some atoms alone, in lines and as JSON; in an optimisation the closing lines, cost and count, must be. With a limit the number of answers must be
 the reference's, and they must be some of its answers in its order. Every fourth program is solved in parts too. Where clasp lists other answers than the
 reference, or with a limit another number of them, that is told and counted, and is no failure: clasp 3.3.5 is known to lose
 answers of choices over weight bodies.
@@ -156,6 +156,20 @@ def limit_differs(aspenum, case, mode, limit):
     return None
 
 
+def first_differs(aspenum, case, limit):
+    """What is wrong with the first so many answers, or nothing."""
+    whole = wanted_of(case.text, "enum")
+    found = answers(whole)
+    if len(found) >= limit:
+        whole = "".join(f"Answer: {number}\n{answer}\n" for number, answer in enumerate(found[:limit], 1)) + f"LIMIT REACHED\nModels: {limit}+\n"
+    given = run([*aspenum, *case.words, "--mode", "enum", "--stream", "--models", str(limit)], case.source)
+    if given.stdout.decode() != whole:
+        return f"--stream --models {limit} differs from the reference"
+    if given.returncode != (11 if "LIMIT" in whole else 20 if "UNSATISFIABLE" in whole else 30):
+        return f"the status is {given.returncode} with --stream --models {limit}"
+    return None
+
+
 def differs(aspenum, case):
     """What is wrong with aspenum's answers to a program, or nothing."""
     for mode, (words, part) in MODES.items():
@@ -172,12 +186,16 @@ def differs(aspenum, case):
         wrong = names_differ(aspenum, case)
         if wrong:
             return wrong
-    for mode in ("enum", "optima"):
+    for mode in ("optima", "enum"):
         count = len(answers(wanted_of(case.text, mode)))
         for limit in sorted({1, max(count, 1), count + 1}):
             wrong = limit_differs(aspenum, case, mode, limit)
             if wrong:
                 return wrong
+    for limit in sorted({1, max(count // 2, 1), max(count, 1), count + 1}):
+        wrong = first_differs(aspenum, case, limit)
+        if wrong:
+            return wrong
     return None
 
 

@@ -4,10 +4,13 @@
     stream.py PROGRAM
 
 Of 2^40 answers the first 1,000 are read, and the pipe is closed: they are the right ones, and the run ends with 74.
-Programs with few answers and many have the same bytes and status with the option and without, also where the budget is spent."""
+Programs with few answers and many have the same bytes and status with the option and without, also where the budget is spent.
+With --models N the first N answers are written, and no others: of 2^40 in less than ten seconds, of a program with few answers exactly
+the head of the whole list, and where the budget is spent before N at most of those that were found."""
 import os
 import subprocess
 import sys
+import time
 
 from search import random_sat
 
@@ -42,10 +45,58 @@ def same(text, *words):
     return runs[0].stdout == runs[1].stdout and runs[0].returncode == runs[1].returncode
 
 
+def run(text, *words):
+    """What a stream writes, and its status."""
+    done = subprocess.run([PROGRAM, "--mode", "enum", "--stream", *words], input=text.encode(), capture_output=True, timeout=SECONDS)
+    return done.stdout.decode(), done.returncode
+
+
 def run_lines(text, *words):
     """The texts of the answers of a stream, and the lines behind them."""
-    lines = subprocess.run([PROGRAM, "--mode", "enum", "--stream", *words], input=text.encode(), capture_output=True, timeout=SECONDS).stdout.decode().splitlines()
+    lines = run(text, *words)[0].splitlines()
     return [*lines[1:-2:2], *lines[-2:]]
+
+
+def answer_lines(lines):
+    """The lines of answers with these texts."""
+    return "".join(f"Answer: {number}\n{answer}\n" for number, answer in enumerate(lines, 1))
+
+
+def limited(text, whole, count, limit):
+    """What is wrong with the first answers of a program that has so many, written whole like this, or nothing."""
+    wanted, status = whole, 30
+    if count >= limit:
+        wanted, status = "".join(it + "\n" for it in whole.splitlines()[: 2 * limit]) + f"LIMIT REACHED\nModels: {limit}+\n", 11
+    if run(text, "--models", str(limit)) != (wanted, status):
+        yield f"--models {limit} of {count} answers writes others, or ends otherwise"
+
+
+def limit_faults():
+    began = time.monotonic()
+    given = run(free(40), "--models", "5")
+    if time.monotonic() - began > 10:
+        yield "the first 5 of 2^40 answers took more than ten seconds"
+    if given != (answer_lines(line(40, number) for number in range(5)) + "LIMIT REACHED\nModels: 5+\n", 11):
+        yield "the first 5 of 2^40 answers are others, or the run ends otherwise"
+    for count, limits in ((0, (1, 2)), (1, (1, 2, 3)), (10, (1, 2, 63, 64, 65, 66, 100, 1000, 1023, 1024, 1025)), (13, (1, 70, 4097, 8191, 8192, 8193))):
+        whole = run(free(count))[0]
+        for limit in limits:
+            yield from limited(free(count), whole, 2**count, limit)
+
+
+def spent_faults(text, whole):
+    """What is wrong with limits of a program whose budget is spent: these are the texts of all its answers."""
+    for limit in (1, 3, 10, 10000):
+        lines = run_lines(text, "--budget", "40", "--models", str(limit))
+        found, end = lines[:-2], lines[-2:]
+        if end == ["LIMIT REACHED", f"Models: {limit}+"]:
+            if found != whole[:limit]:
+                yield f"--models {limit} with a budget writes other answers than the first"
+        elif end != ["BUDGET SPENT", f"Models: {len(found)}+"] or len(found) > limit:
+            yield f"--models {limit} with a budget ends otherwise"
+        rest = iter(whole)
+        if not all(answer in rest for answer in found):
+            yield f"--models {limit} with a budget writes what isn't an answer, or not in the order"
 
 
 def faults():
@@ -65,6 +116,8 @@ def faults():
     rest = iter(whole)
     if not all(answer in rest for answer in spent[:-2]) or spent[-2:] != ["BUDGET SPENT", f"Models: {len(spent) - 2}+"]:
         yield "a run whose budget was spent writes other answers, or ends otherwise"
+    yield from limit_faults()
+    yield from spent_faults(text, whole[:-2])
 
 
 def main():

@@ -62,8 +62,9 @@ name, after '=':\n\
 \x20 --progress        write a line to standard error when the conflicts or the\n\
 \x20                   answers have doubled, and for each cheaper answer\n\
 \x20 --stream          of all answers, write each as soon as none that stands before\n\
-\x20                   it can come: the same lines, by one thread; without effect\n\
-\x20                   beside --proof, --quiet, --models or --output json\n\
+\x20                   it can come: the same lines, by one thread; with --models N\n\
+\x20                   the first N; without effect beside --proof, --quiet or\n\
+\x20                   --output json\n\
 \x20 -h, --help        write this page\n\
 \x20 --version         write the version\n\
 \n\

@@ -1,32 +1,43 @@
 -- How a stream ends, from what its outlet wrote.
-use Rattle.std.proofs.Common.{◌≡◌, ◌∙◌, ℕ, Bool, true, false, not, nat_eq, List, [], ◌∷◌, ◌++◌, length, refl, sym, ap, subst, inl, inr}
-use Rattle.std.specs.Prelude.{Option, None, Some, Result, Ok, Err, IfOk, IfSome}
-use Rattle.std.proofs.lemmas.Bool.{eqb-true}
+use Rattle.std.proofs.Common.{◌≡◌, ◌⊎◌, ◌∙◌, ℕ, zero, suc, ◌+◌, ◌-◌, ◌<◌, ◌≤◌, ◌==◌, ◌||◌, Bool, true, false, not, cond, nat_eq, List, [], ◌∷◌, ◌++◌, length, take, refl, sym, ap, subst, inl, inr, arith, append_assoc, append-nil, length-append, length-take-le}
+use Rattle.std.specs.Prelude.{Option, None, Some, Result, Ok, Err, IfOk, IfSome, nat_lt}
+use Rattle.std.proofs.lemmas.Bool.{eqb-true, false≢true, ltb-false, ltb-true}
+use Rattle.std.proofs.lemmas.List.{take_all, take_at}
 use mathlib.Core.List.{IsPrefix}
+use Rattle.asp_io.specs.Causes.{Rose}
 use Rattle.asp_model.specs.declared.program.Program.{Program}
 use Rattle.asp_model.specs.declared.results.Ask.{Ask}
 use Rattle.asp_model.specs.declared.results.End.{End}
+use Rattle.asp_model.specs.declared.results.End.TheVariants.{Finished, Limited, Unfinished}
+use Rattle.asp_model.specs.declared.results.Mode.TheVariants.{Enum}
 use Rattle.asp_model.specs.Models.{answers, atoms_of}
 use Rattle.asp_model.specs.Sets.{Atoms}
 use Rattle.asp_vars.specs.Numbering.{bodies_of}
+use Rattle.asp_vars.specs.Paid.{Clash}
 use Rattle.asp_counts.specs.Telling.{AreNumbered}
+use Rattle.asp_crew_laws.specs.declared.report.Report.{Report}
+use Rattle.asp_crew_laws.specs.Reports.{Says}
+use Rattle.asp_crew_laws.specs.Runs.{asks}
 use Rattle.asp_cli.specs.declared.Options.{Options}
-use Rattle.asp_outlet.specs.Outlets.{Heard, IsAfter, Moment, moment}
+use Rattle.asp_outlet.specs.Outlets.{Heard, IsAfter, Moment, moment, whole_text}
 use Rattle.asp_outlet.proofs.OutletLaws.{front_is_written}
+use Rattle.asp_limit.specs.Limits.{IsCutAt, IsLimitedTo, heard_of, left_out, room, wants}
 use Rattle.asp_prepare.specs.declared.prepared.Prepared.{Prepared}
 use Rattle.asp_prepare.specs.Meaning.{is_some_of}
 use Rattle.asp_prepare.specs.Naming.{ask_of, prepared_of, searched}
 use Rattle.asp_prepare.proofs.ToldLaws.{same-ask}
-use Rattle.asp_stream.specs.Endings.{IsTellingOf, Tells}
+use Rattle.asp_stream.specs.Endings.{HasReport, IsTellingOf, Tells, end_of, report_of}
 use Rattle.asp_stream.specs.declared.told.End.{End as StreamEnd}
 use Rattle.asp_stream.specs.declared.told.End.TheVariants as ends
 use Rattle.asp_stream.specs.declared.told.Told.{Told}
 use Rattle.asp_top.specs.declared.counts.Tally.{Tally}
 use Rattle.asp_top.specs.declared.status.Outcome.{Outcome}
-use Rattle.asp_top.specs.declared.status.Status.TheVariants.{Memory, WriteFault}
+use Rattle.asp_top.specs.declared.status.Status.TheVariants.{Memory, Partial, WriteFault}
+use Rattle.asp_top.specs.Codes.{IsLost}
 use Rattle.asp_top.specs.Loops.{HasLoops}
+use Rattle.asp_top.specs.Meaning.{status_for}
 use Rattle.asp_top.specs.Notes.{is_streamed}
-use Rattle.asp_top.specs.Runs.{DeliversRest, EndsRun, EndsStream, HasRest, IsCounted, IsCutShort, Solves, SolvesBy, Streams, ending, streams}
+use Rattle.asp_top.specs.Runs.{DeliversFirst, DeliversLast, DeliversPart, DeliversRest, EndsRun, IsCounted, IsCutShort, ReportsLast, Solves, SolvesBy, Streams, StreamsFound, TellsFaults, WritesAs, is_few, kept_of, last_at, last_of, left_of, streams, with_answers}
 
 filled : (n : ℕ) → (n ≡ 0 → ⊥) → not (nat_eq n 0) ≡ true
 filled n some = ap not (isn't (nat_eq n 0) refl)
@@ -61,28 +72,326 @@ cut-by-memory p a m o none fine after front kept is =
       later = after.1.later;
     })
 
+-- ---- which answers were written
+module _ {A : Type 0} where
+  -- a front of a front
+  pub front-first : (xs ys zs : List A) → IsPrefix (xs ++ ys) zs → IsPrefix xs zs
+  front-first xs ys zs h = (ys ++ h.0, sym (append_assoc xs ys h.0) ∙ h.1)
+
+  take-over : (n : ℕ) (xs ys : List A) → length xs ≤ n → take n (xs ++ ys) ≡ xs ++ take (n - length xs) ys
+  take-over n [] ys le = ap (λ (k : ℕ). take k ys) (let same : n ≡ n - 0 = omega arith in same)
+  take-over zero (x ∷ xs) ys le = let f : ⊥ = omega (arith, le) in absurd f
+  take-over (suc n) (x ∷ xs) ys le =
+      ap (λ (t : List A). x ∷ t) (take-over n xs ys (omega (arith, le)))
+      ∙ ap (λ (k : ℕ). x ∷ (xs ++ take k ys)) (let same : n - length xs ≡ suc n - length (x ∷ xs) = omega arith in same)
+
+  -- what was written, and what is then, where nothing was left out
+  none-left : (n : ℕ) (written left rest : List A) → left ≡ [] → length written ≤ n → written ++ take (n - length written) rest ≡ take n ((written ++ left) ++ rest)
+  none-left n written left rest none le =
+      sym (take-over n written rest le)
+      ∙ ap (λ (t : List A). take n (t ++ rest)) (sym (ap (λ (t : List A). written ++ t) none ∙ append-nil written))
+
+  -- as many were written as may be
+  all-written : (n : ℕ) (written left all : List A) → length written ≡ n → IsPrefix (written ++ left) all → written ≡ take n all
+  all-written n written left all count front =
+      sym (take_at written (left ++ front.0) n count)
+      ∙ ap (take n) (sym (append_assoc written left front.0) ∙ front.1)
+
+  none-kept : (n : ℕ) (written rest : List A) → n ≡ 0 → written ++ take n rest ≡ written
+  none-kept n written rest e = ap (λ (k : ℕ). written ++ take k rest) e ∙ append-nil written
+
+room-none : (models written : ℕ) → (models == 0) ≡ true → room models written ≡ 18446744073709551615
+room-none models written e = ap (λ (b : Bool). cond b 18446744073709551615 (models - written)) e
+
+room-some : (models written : ℕ) → (models == 0) ≡ false → room models written ≡ models - written
+room-some models written e = ap (λ (b : Bool). cond b 18446744073709551615 (models - written)) e
+
+positive : (n : ℕ) → (n == 0) ≡ false → 0 < n
+positive zero e = absurd (false≢true (sym e))
+positive (suc n) e = omega arith
+
+-- no more were written than the limit says, and others left out only where as many were written
+record CutAt (models : ℕ) (written left : List Atoms) : Type 0 where
+  pub within : 0 < models → length written ≤ models
+  pub full : (left ≡ []) ⊎ ((0 < models) × (length written ≡ models))
+
+cut-at : (p : Program) (models : ℕ) (written : List Atoms) (left : ℕ) → IsCutAt models written left → CutAt models written (left_out p written left)
+cut-at p models written left is = record { within = is.within; full = by is.full }
+  where
+    by : (left ≡ 0) ⊎ ((0 < models) × (length written ≡ models)) → (left_out p written left ≡ []) ⊎ ((0 < models) × (length written ≡ models))
+    by (inl none) = inl (ap (λ (n : ℕ). left_out p written n) none)
+    by (inr full) = inr full
+
+-- what a limit that isn't reached says
+few-says : (models found : ℕ) → is_few models found ≡ true → 0 < models → found < models
+few-says models found few some = by (models == 0) refl
+  where
+    by : (b : Bool) → (models == 0) ≡ b → found < models
+    by true e = let f : ⊥ = omega (arith, some, eqb-true models 0 e) in absurd f
+    by false e = ltb-true found models (sym (ap (λ (b : Bool). b || nat_lt found models) e) ∙ few)
+
+many-says : (models found : ℕ) → is_few models found ≡ false → (0 < models) × (models ≤ found)
+many-says models found many = by (models == 0) refl
+  where
+    by : (b : Bool) → (models == 0) ≡ b → (0 < models) × (models ≤ found)
+    by true e = absurd (false≢true (sym many ∙ ap (λ (b : Bool). b || nat_lt found models) e))
+    by false e = (positive models e, ltb-false found models (sym (ap (λ (b : Bool). b || nat_lt found models) e) ∙ many))
+
+-- no more may be written
+full-says : (models : ℕ) (written left : List Atoms) → CutAt models written left → (room models (length written) == 0) ≡ true → (0 < models) × (length written ≡ models)
+full-says models written left cut full = by (models == 0) refl
+  where
+    none : room models (length written) ≡ 0
+    none = eqb-true (room models (length written)) 0 full
+
+    by : (b : Bool) → (models == 0) ≡ b → (0 < models) × (length written ≡ models)
+    by true e = let f : ⊥ = omega (arith, none, room-none models (length written) e) in absurd f
+    by false e = let some = positive models e in (some, omega (arith, none, room-some models (length written) e, cut.within some))
+
+-- more may be written, so nothing was left out
+open-says : (models : ℕ) (written left : List Atoms) → CutAt models written left → (room models (length written) == 0) ≡ false → left ≡ []
+open-says models written left cut more = by cut.full
+  where
+    by : (left ≡ []) ⊎ ((0 < models) × (length written ≡ models)) → left ≡ []
+    by (inl none) = none
+    by (inr full) =
+        let limited : (models == 0) ≡ false = isn't (models == 0) refl in
+        let zero-room : room models (length written) ≡ 0 = omega (arith, room-some models (length written) limited, full.1) in
+        absurd (false≢true (sym more ∙ ap (λ (n : ℕ). n == 0) zero-room))
+      where
+        isn't : (b : Bool) → (models == 0) ≡ b → (models == 0) ≡ false
+        isn't true e = let f : ⊥ = omega (arith, full.0, eqb-true models 0 e) in absurd f
+        isn't false e = e
+
+-- what is still written
+module _ (models : ℕ) (written left rest : List Atoms) (cut : CutAt models written left) (small : length rest < 18446744073709551615) where
+  -- all that is left, where few were found
+  few-kept : left ≡ [] → is_few models (length written + length rest) ≡ true → take (room models (length written)) rest ≡ rest
+  few-kept none few = by (models == 0) refl
+    where
+      by : (b : Bool) → (models == 0) ≡ b → take (room models (length written)) rest ≡ rest
+      by true e = take_all (room models (length written)) rest (omega (arith, small, room-none models (length written) e))
+      by false e =
+          let less = few-says models (length written + length rest) few (positive models e) in
+          take_all (room models (length written)) rest (omega (arith, less, room-some models (length written) e))
+
+  left-kept : left ≡ [] → left_of models (written ++ left) rest ≡ take (room models (length written)) rest
+  left-kept none = by (models == 0) refl
+    where
+      same : written ++ left ≡ written
+      same = ap (λ (t : List Atoms). written ++ t) none ∙ append-nil written
+
+      by : (b : Bool) → (models == 0) ≡ b → left_of models (written ++ left) rest ≡ take (room models (length written)) rest
+      by true e =
+          ap (λ (b : Bool). cond b rest (take (models - length (written ++ left)) rest)) e
+          ∙ sym (take_all (room models (length written)) rest (omega (arith, small, room-none models (length written) e)))
+      by false e =
+          ap (λ (b : Bool). cond b rest (take (models - length (written ++ left)) rest)) e
+          ∙ ap (λ (t : List Atoms). take (models - length t) rest) same
+          ∙ ap (λ (n : ℕ). take n rest) (sym (room-some models (length written) e))
+
+  -- the first of what was found
+  part-kept : left ≡ [] → 0 < models → written ++ take (room models (length written)) rest ≡ take models ((written ++ left) ++ rest)
+  part-kept none some = by (models == 0) refl
+    where
+      by : (b : Bool) → (models == 0) ≡ b → written ++ take (room models (length written)) rest ≡ take models ((written ++ left) ++ rest)
+      by true e = let f : ⊥ = omega (arith, some, eqb-true models 0 e) in absurd f
+      by false e =
+          ap (λ (n : ℕ). written ++ take n rest) (room-some models (length written) e)
+          ∙ none-left models written left rest none (cut.within some)
+
+  -- as many were written as may be
+  full-kept : (all : List Atoms) → (room models (length written) == 0) ≡ true → IsPrefix (written ++ left) all → written ++ take (room models (length written)) rest ≡ take models all
+  full-kept all full front =
+      none-kept (room models (length written)) written rest (eqb-true (room models (length written)) 0 full)
+      ∙ all-written models written left all (full-says models written left cut full).1 front
+
 -- ---- by how it ended
-pub ends-some : (e : StreamEnd) (end : End) (p : Program) (heard : List Atoms) (t : Told) (h h' : Option (List ℕ)) (w w' : ℕ) (o : Outcome) → Some end ≡ ending e
-    → DeliversRest p heard t h h' w w' o → EndsStream e p heard t h h' w w' o
-ends-some ends.Finished end p heard t h h' w w' o is d = d
-ends-some (ends.Unpaid x) end p heard t h h' w w' o is d = d
-ends-some ends.Unwanted end p heard t h h' w w' o is d = absurd cc
+module _ (p : Program) (units models : ℕ) (written left : List Atoms) (t : Told) (h h' : Option (List ℕ)) (w w' : ℕ) (o : Outcome)
+    (front : IsPrefix (written ++ left) (answers p)) (cut : CutAt models written left) (small : length t.rest.sets < 18446744073709551615)
+    (d : DeliversLast p models written t h h' w w' o) where
+  abbrev all_heard : List Atoms
+  all_heard = written ++ left
 
-streams-by : (e : StreamEnd) (p q : Program) (units : ℕ) (heard : List Atoms) (wants : Bool) (t : Told) (h h' : Option (List ℕ)) (w w' : ℕ) (o : Outcome) → q ≡ p
-    → Tells p units heard wants t e → EndsStream e q heard t h h' w w' o → Streams p units h h' w w' o
-streams-by ends.Finished p q units heard wants t h h' w w' o same has d = inr (heard, t, has, subst (λ (x : Program). DeliversRest x heard t h h' w w' o) same d)
-streams-by (ends.Unpaid x) p q units heard wants t h h' w w' o same has d = inr (heard, t, has, subst (λ (x : Program). DeliversRest x heard t h h' w w' o) same d)
-streams-by ends.Unwanted p q units heard wants t h h' w w' o same unwanted cut = inl (subst (λ (x : Program). IsCutShort x h h' w w' o) same cut)
+  abbrev kept : List Atoms
+  kept = take (room models (length written)) t.rest.sets
 
--- what is left of a stream of the program
-pub rest-of : {E : Type 0} (r : Result Told E) (p q : Program) (units : ℕ) (heard : List Atoms) (wants : Bool) → q ≡ p → IfOk r (IsTellingOf p units heard wants) → IfOk r (HasRest q heard)
-rest-of (Ok t) p q units heard wants same told = record { atoms = told.atoms ∙ ap atoms_of (sym same); few = told.few }
-rest-of (Err e) p q units heard wants same told = tt
+  abbrev Ended : Type 0
+  Ended = StreamsFound p units models h h' w w' o ⊎ DeliversFirst p models h h' w w' o
 
-pub streams-of : {E : Type 0} (r : Result Told E) (p q : Program) (units : ℕ) (heard : List Atoms) (wants : Bool) (h h' : Option (List ℕ)) (w w' : ℕ) (o : Outcome) → q ≡ p
-    → IfOk r (IsTellingOf p units heard wants) → EndsRun r q heard h h' w w' o → Streams p units h h' w w' o
-streams-of (Ok t) p q units heard wants h h' w w' o same told e = streams-by t.end p q units heard wants t h h' w w' o same told.tells e
-streams-of (Err x) p q units heard wants h h' w w' o same told cut = inl (subst (λ (y : Program). IsCutShort y h h' w w' o) same cut)
+  -- what was written, by how the results end
+  abbrev WroteAs : End → List Atoms → Type 0
+  WroteAs end Ss = WritesAs (status_for end (is_some_of Ss)) (whole_text p end Ss) h h' w w' o.status
+
+  wrote-as : (end : End) (Ss : List Atoms) → last_at models (length written) (length t.rest.sets) t.end ≡ end → written ++ kept ≡ Ss → WroteAs end Ss
+  wrote-as end Ss is same = subst (λ (x : End). WroteAs x Ss) is (subst (λ (X : List Atoms). WroteAs (last_at models (length written) (length t.rest.sets) t.end) X) same d.wrote)
+
+  told-as : (end : End) → last_at models (length written) (length t.rest.sets) t.end ≡ end → ReportsLast end p (kept_of models written t) d.report
+  told-as end is = subst (λ (x : End). ReportsLast x p (kept_of models written t) d.report) is d.report_is
+
+  -- the first answers
+  first : last_at models (length written) (length t.rest.sets) t.end ≡ Limited → 0 < models → models ≤ length (answers p) → written ++ kept ≡ take models (answers p) → Ended
+  first is some enough same =
+      let told = told-as Limited is in
+      inr (record { some = some; enough = enough; report = d.report; reports = d.reports; mode = told.0; program = told.1; wrote = wrote-as Limited (take models (answers p)) is same })
+
+  full-enough : (room models (length written) == 0) ≡ true → models ≤ length (answers p)
+  full-enough full =
+      let whole : length (answers p) ≡ length written + length (left ++ front.0) =
+      ap length (sym front.1) ∙ ap length (append_assoc written left front.0) ∙ length-append written (left ++ front.0) in
+      omega (arith, whole, (full-says models written left cut full).1)
+
+  first-full : last_at models (length written) (length t.rest.sets) t.end ≡ Limited → (room models (length written) == 0) ≡ true → Ended
+  first-full is full = first is (full-says models written left cut full).0 (full-enough full) (full-kept models written left t.rest.sets cut small (answers p) full front)
+
+  -- what is reported where it isn't the first
+  told-left : (end : End) → ReportsLast end p (kept_of models written t) d.report → ¬ (end ≡ Limited) → left ≡ [] → o.report ≡ Some (with_answers (left_of models all_heard t.rest.sets) (report_of all_heard t))
+  told-left end told isn't none =
+      d.reports ∙ ap (λ (r : Report). Some r) (plain end told isn't)
+      ∙ ap (λ (Ss : List Atoms). Some (with_answers Ss (report_of all_heard t))) (sym (left-kept models written left t.rest.sets cut small none))
+    where
+      plain : (end : End) → ReportsLast end p (kept_of models written t) d.report → ¬ (end ≡ Limited) → d.report ≡ report_of [] (kept_of models written t)
+      plain Finished told isn't = told
+      plain Unfinished told isn't = told
+      plain Limited told isn't = absurd (isn't refl)
+
+  found-all : left ≡ [] → is_few models (length written + length t.rest.sets) ≡ true → written ++ kept ≡ all_heard ++ t.rest.sets
+  found-all none few =
+      ap (λ (Ss : List Atoms). written ++ Ss) (few-kept models written left t.rest.sets cut small none few)
+      ∙ ap (λ (Ss : List Atoms). Ss ++ t.rest.sets) (sym (ap (λ (Ss : List Atoms). written ++ Ss) none ∙ append-nil written))
+
+  found-count : left ≡ [] → length (all_heard ++ t.rest.sets) ≡ length written + length t.rest.sets
+  found-count none = ap (λ (Ss : List Atoms). length (Ss ++ t.rest.sets)) (ap (λ (Ss : List Atoms). written ++ Ss) none ∙ append-nil written) ∙ length-append written t.rest.sets
+
+  -- few were found
+  few-found : (end : End) → end_of t.end ≡ end → ¬ (end ≡ Limited) → last_at models (length written) (length t.rest.sets) t.end ≡ end → left ≡ [] →
+      is_few models (length written + length t.rest.sets) ≡ true → HasReport p units all_heard t → Ended
+  few-found end is isn't last none few has =
+      let wrote = wrote-as (end_of t.end) (all_heard ++ t.rest.sets) (last ∙ sym is) (found-all none few) in
+      inl (
+        all_heard,
+        t,
+        has,
+        inl (record {
+          few = λ some. let less = few-says models (length written + length t.rest.sets) few some in omega (arith, less, found-count none);
+          reports = told-left end (told-as end last) isn't none;
+          means = wrote.means;
+          later = wrote.later;
+          quiet = wrote.quiet;
+        }),
+      )
+
+  some-of : (Ss : List Atoms) → 0 < length Ss → is_some_of Ss ≡ true
+  some-of [] some = let f : ⊥ = omega (arith, some) in absurd f
+  some-of (S ∷ Ss) some = refl
+
+  -- as many were found as may be written, and the budget is spent
+  part-found : end_of t.end ≡ Unfinished → last_at models (length written) (length t.rest.sets) t.end ≡ Unfinished → left ≡ [] →
+      is_few models (length written + length t.rest.sets) ≡ false → HasReport p units all_heard t → Ended
+  part-found is last none many has =
+      let much = many-says models (length written + length t.rest.sets) many in
+      let count = found-count none in
+      let enough : models ≤ length (all_heard ++ t.rest.sets) = omega (arith, much.1, count) in
+      let Ss : List Atoms = take models (all_heard ++ t.rest.sets) in
+      let taken : length Ss ≡ models = length-take-le models (all_heard ++ t.rest.sets) enough in
+      let wrote = wrote-as Unfinished Ss last (part-kept models written left t.rest.sets cut small none much.0) in
+      let partly : WritesAs Partial (whole_text p (end_of t.end) Ss) h h' w w' o.status =
+      subst (λ (x : End). WritesAs Partial (whole_text p x Ss) h h' w w' o.status) (sym is)
+      (subst (λ (b : Bool). WritesAs (status_for Unfinished b) (whole_text p Unfinished Ss) h h' w w' o.status) (some-of Ss (omega (arith, taken, much.0))) wrote) in
+      let no : ¬ (Unfinished ≡ Limited) = λ e. cc in
+      inl (
+        all_heard,
+        t,
+        has,
+        inr (record {
+          end_is = is;
+          some = much.0;
+          enough = enough;
+          reports = told-left Unfinished (told-as Unfinished last) no none;
+          wrote = partly;
+        }),
+      )
+
+  -- all were found
+  found-are : t.end ≡ ends.Finished → HasReport p units all_heard t → all_heard ++ t.rest.sets ≡ answers p
+  found-are is has = (subst (λ (e : StreamEnd). Says p (asks Enum 0 false) (report_of all_heard t) (end_of e)) is has.says).0
+
+  abbrev Few : Bool
+  Few = is_few models (length written + length t.rest.sets)
+
+  abbrev Full : Bool
+  Full = room models (length written) == 0
+
+  last-finished : (few : Bool) → t.end ≡ ends.Finished → Few ≡ few → last_at models (length written) (length t.rest.sets) t.end ≡ cond few Finished Limited
+  last-finished few is e = ap (λ (x : StreamEnd). last_of x Few Full) is ∙ ap (λ (b : Bool). cond b Finished Limited) e
+
+  few-open : (b : Bool) → Full ≡ b → Few ≡ true → Full ≡ false
+  few-open true full few =
+      let says = full-says models written left cut full in
+      let less = few-says models (length written + length t.rest.sets) few says.0 in
+      let f : ⊥ = omega (arith, says.1, less) in absurd f
+  few-open false full few = full
+
+  finished : (few : Bool) → t.end ≡ ends.Finished → Few ≡ few → HasReport p units all_heard t → Ended
+  finished true is few has =
+      let more = few-open Full refl few in
+      let no : ¬ (Finished ≡ Limited) = λ e. cc in
+      few-found Finished (ap end_of is) no (last-finished true is few) (open-says models written left cut more) few has
+  finished false is many has = by Full refl
+    where
+      by : (b : Bool) → Full ≡ b → Ended
+      by true full = first-full (last-finished false is many) full
+      by false more =
+          let much = many-says models (length written + length t.rest.sets) many in
+          let none = open-says models written left cut more in
+          let all = found-are is has in
+          first (last-finished false is many) much.0
+          (let count = found-count none in let same : length (all_heard ++ t.rest.sets) ≡ length (answers p) = ap length all in omega (arith, much.1, count, same))
+          (part-kept models written left t.rest.sets cut small none much.0 ∙ ap (take models) all)
+
+  unpaid : (x : Clash) → t.end ≡ ends.Unpaid x → HasReport p units all_heard t → Ended
+  unpaid x is has = by Full Few refl refl
+    where
+      last : (full : Bool) → Full ≡ full → last_at models (length written) (length t.rest.sets) t.end ≡ cond full Limited Unfinished
+      last full e = ap (λ (y : StreamEnd). last_of y Few Full) is ∙ ap (λ (b : Bool). cond b Limited Unfinished) e
+
+      by : (full few : Bool) → Full ≡ full → Few ≡ few → Ended
+      by true few full e = first-full (last true full) full
+      by false true more few =
+          let no : ¬ (Unfinished ≡ Limited) = λ e. cc in
+          few-found Unfinished (ap end_of is) no (last false more) (open-says models written left cut more) few has
+      by false false more many = part-found (ap end_of is) (last false more) (open-says models written left cut more) many has
+
+  -- no more was wanted
+  unwanted : t.end ≡ ends.Unwanted → wants models written false false ≡ false → Ended
+  unwanted is less = first-full (ap (λ (y : StreamEnd). last_of y Few Full) is) (by Full less)
+    where
+      by : (b : Bool) → not b ≡ false → b ≡ true
+      by true e = refl
+      by false e = absurd (false≢true (sym e))
+
+  ended : (e : StreamEnd) → t.end ≡ e → Tells p units all_heard (wants models written false false) t e → Ended
+  ended ends.Finished is has = finished Few is refl has
+  ended (ends.Unpaid x) is has = unpaid x is has
+  ended ends.Unwanted is less = unwanted is less
+
+-- what was told, and written
+pub streams-of : {E : Type 0} (r : Result Told E) (p q : Program) (units models : ℕ) (written : List Atoms) (left : ℕ) (failed short : Bool) (h h' : Option (List ℕ)) (w w' : ℕ) (o : Outcome) → q ≡ p
+    → IsPrefix (heard_of q written left) (answers p) → IsLimitedTo models written left short → IfOk r (IsTellingOf p units (heard_of q written left) (wants models written failed short))
+    → EndsRun r q models written failed short h h' w w' o → Streams p units models h h' w w' o
+streams-of (Ok t) p q units models written left failed short h h' w w' o same front limited told (inl cut) = inl (subst (λ (x : Program). IsCutShort x h h' w w' o) same cut)
+streams-of (Ok t) p q units models written left failed short h h' w w' o same front limited told (inr d) =
+    let few = told.few in
+    let heard : List Atoms = heard_of q written left in
+    let tells = subst (λ (b : Bool). Tells p units heard (wants models written false b) t t.end) d.1
+    (subst (λ (b : Bool). Tells p units heard (wants models written b short) t t.end) d.0 told.tells) in
+    inr (ended p units models written (left_out q written left) t h h' w w' o front (cut-at q models written left (limited d.1)) (omega (arith, few))
+    (subst (λ (x : Program). DeliversLast x models written t h h' w w' o) same d.2) t.end refl tells)
+streams-of (Err x) p q units models written left failed short h h' w w' o same front limited told cut = inl (subst (λ (y : Program). IsCutShort y h h' w w' o) same cut)
+
+-- nothing was written yet
+pub limited-start : (models : ℕ) (written : List Atoms) (left : ℕ) (short : Bool) → written ≡ [] → left ≡ 0 → IsLimitedTo models written left short
+limited-start models written left short none empty = λ fine. record { within = λ some. subst (λ (Ss : List Atoms). length Ss ≤ models) (sym none) (omega arith); full = inl empty }
 
 -- since nothing was heard
 pub from-start : {K : Type 0} (held : K → Option (List ℕ)) (faults : K → ℕ) (k k₁ k₂ : K) (l₁ l₂ : Heard) (f₁ f₂ : Bool) → k₁ ≡ k → l₁.sets ≡ [] → f₁ ≡ false → l₂.program ≡ l₁.program
@@ -96,22 +405,49 @@ from-start {K = K} held faults k k₁ k₂ l₁ l₂ f₁ f₂ now none fine sam
     subst (λ (p : Program). IsAfter p (moment [] (held k) (faults k) false) m) (sym same) three
 
 -- the sink is the same at another name
-pub streams-moved : {K : Type 0} (held : K → Option (List ℕ)) (faults : K → ℕ) (p : Program) (units : ℕ) (h : Option (List ℕ)) (w : ℕ) (x y : K) (o : Outcome) → x ≡ y
-    → Streams p units h (held y) w (faults y) o → Streams p units h (held x) w (faults x) o
-streams-moved {K = K} held faults p units h w x y o e s = subst (λ (k : K). Streams p units h (held k) w (faults k) o) (sym e) s
+pub streams-moved : {K : Type 0} (held : K → Option (List ℕ)) (faults : K → ℕ) (p : Program) (units models : ℕ) (h : Option (List ℕ)) (w : ℕ) (x y : K) (o : Outcome) → x ≡ y
+    → Streams p units models h (held y) w (faults y) o → Streams p units models h (held x) w (faults x) o
+streams-moved {K = K} held faults p units models h w x y o e s = subst (λ (k : K). Streams p units models h (held k) w (faults k) o) (sym e) s
+
+-- each failed write is told
+pub streams-told : (p : Program) (units models : ℕ) (h h' : Option (List ℕ)) (w w' : ℕ) (o : Outcome) → Streams p units models h h' w w' o → TellsFaults w w' o.status
+streams-told p units models h h' w w' o (inl cut) = by cut.why
+  where
+    by : ((o.status ≡ Memory) × (w' ≡ w)) ⊎ (IsLost o.status × Rose w w') → TellsFaults w w' o.status
+    by (inl m) = λ kept. m.1
+    by (inr m) = λ kept. absurd (kept m.0)
+streams-told p units models h h' w w' o (inr (inl f)) = by f.3
+  where
+    by : DeliversRest p f.0 f.1 models h h' w w' o ⊎ DeliversPart p f.0 f.1 models h h' w w' o → TellsFaults w w' o.status
+    by (inl d) = d.quiet
+    by (inr d) = d.wrote.quiet
+streams-told p units models h h' w w' o (inr (inr d)) = d.wrote.quiet
 
 -- ---- what the notes tell of it
-pub counted-stream : (p : Program) (units : ℕ) (h h' : Option (List ℕ)) (w w' : ℕ) (o : Outcome) (t : Tally) → t.atoms ≡ length (atoms_of p) → t.bodies ≡ length (bodies_of p)
-    → IfSome t.loops (HasLoops p) → AreNumbered 0 t.workers → Streams p units h h' w w' o → IfSome o.report (IsCounted 0 t)
-counted-stream p units h h' w w' o t atoms bodies loops numbered (inl cut) = subst (λ r. IfSome r (IsCounted 0 t)) (sym cut.none) tt
-counted-stream p units h h' w w' o t atoms bodies loops numbered (inr d) =
-    let of = sym d.2.program in
-    subst (λ r. IfSome r (IsCounted 0 t)) (sym d.3.reports) (record {
+counted-of : (p q : Program) (t : Tally) → t.atoms ≡ length (atoms_of p) → t.bodies ≡ length (bodies_of p) → IfSome t.loops (HasLoops p) → AreNumbered 0 t.workers → q ≡ p
+    → (r : Report) → r.paid.program ≡ q → IsCounted 0 t r
+counted-of p q t atoms bodies loops numbered is r paid =
+    let of = sym (paid ∙ is) in
+    record {
       atoms = atoms ∙ ap (λ (q : Program). length (atoms_of q)) of;
       bodies = bodies ∙ ap (λ (q : Program). length (bodies_of q)) of;
       loops = subst (λ (q : Program). IfSome t.loops (HasLoops q)) of loops;
       numbered = numbered;
-    })
+    }
+
+pub counted-stream : (p : Program) (units models : ℕ) (h h' : Option (List ℕ)) (w w' : ℕ) (o : Outcome) (t : Tally) → t.atoms ≡ length (atoms_of p) → t.bodies ≡ length (bodies_of p)
+    → IfSome t.loops (HasLoops p) → AreNumbered 0 t.workers → Streams p units models h h' w w' o → IfSome o.report (IsCounted 0 t)
+counted-stream p units models h h' w w' o t atoms bodies loops numbered (inl cut) = subst (λ r. IfSome r (IsCounted 0 t)) (sym cut.none) tt
+counted-stream p units models h h' w w' o t atoms bodies loops numbered (inr (inl f)) = by f.3
+  where
+    one : o.report ≡ Some (with_answers (left_of models f.0 f.1.rest.sets) (report_of f.0 f.1)) → IfSome o.report (IsCounted 0 t)
+    one is = subst (λ r. IfSome r (IsCounted 0 t)) (sym is) (counted-of p p t atoms bodies loops numbered refl (with_answers (left_of models f.0 f.1.rest.sets) (report_of f.0 f.1)) f.2.program)
+
+    by : DeliversRest p f.0 f.1 models h h' w w' o ⊎ DeliversPart p f.0 f.1 models h h' w w' o → IfSome o.report (IsCounted 0 t)
+    by (inl d) = one d.reports
+    by (inr d) = one d.reports
+counted-stream p units models h h' w w' o t atoms bodies loops numbered (inr (inr d)) =
+    subst (λ r. IfSome r (IsCounted 0 t)) (sym d.reports) (counted-of p p t atoms bodies loops numbered refl d.report d.program)
 
 -- ---- whether it is one
 pub streamed-as : (given : Options) (p : Program) (x : Prepared) (q : Program) (ask : Ask) (b : Bool) → x ≡ prepared_of given p → q ≡ x.compiled → ask ≡ ask_of given q
@@ -121,9 +457,9 @@ streamed-as given p x q ask b is of asks by =
     sym (by ∙ ap (λ (a : Ask). is_streamed given a.mode) (asks ∙ ap (λ (r : Program). ask_of given r) searched-is ∙ same-ask given p))
 
 pub solves-streamed : (given : Options) (p : Program) (x : Prepared) (h h' : Option (List ℕ)) (w w' : ℕ) (o : Outcome) → x ≡ prepared_of given p → streams given p ≡ true
-    → Streams x.compiled given.budget h h' w w' o → SolvesBy (streams given p) given p h h' w w' o
+    → Streams x.compiled given.budget given.models h h' w w' o → SolvesBy (streams given p) given p h h' w w' o
 solves-streamed given p x h h' w w' o is on s =
-    subst (λ (b : Bool). SolvesBy b given p h h' w w' o) (sym on) (subst (λ (y : Prepared). Streams y.compiled given.budget h h' w w' o) is s)
+    subst (λ (b : Bool). SolvesBy b given p h h' w w' o) (sym on) (subst (λ (y : Prepared). Streams y.compiled given.budget given.models h h' w w' o) is s)
 
 pub solves-at-once : (given : Options) (p : Program) (h h' : Option (List ℕ)) (w w' : ℕ) (o : Outcome) → streams given p ≡ false → Solves given p h h' w w' o
     → SolvesBy (streams given p) given p h h' w w' o

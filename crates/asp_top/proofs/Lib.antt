@@ -1,3 +1,4 @@
+pub mod ListingLaws
 pub mod StreamLaws
 pub mod EndLaws
 pub mod RunLaws

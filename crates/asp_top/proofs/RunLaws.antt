@@ -1,5 +1,5 @@
 -- What each status means, from what reading, solving and writing did.
-use Rattle.std.proofs.Common.{◌≡◌, ◌⊎◌, ℕ, ◌<◌, ◌≤◌, Bool, true, false, ◌||◌, List, [], ◌∷◌, length, refl, sym, ap, ◌∙◌, subst, inl, inr, arith}
+use Rattle.std.proofs.Common.{◌≡◌, ◌⊎◌, ℕ, ◌<◌, ◌≤◌, Bool, true, false, ◌||◌, cond, List, [], ◌∷◌, length, refl, sym, ap, ◌∙◌, subst, inl, inr, arith}
 use Rattle.std.specs.Prelude.{ℤ, Option, None, Some, Result, Ok, Err, IfErr, IfOk, IfSome, IsErrOf, OnOk, is_some}
 use Rattle.std.proofs.lemmas.Bool.{false≢true}
 use Rattle.std.proofs.KnownBytes.{Keeps-refl}
@@ -35,8 +35,9 @@ use Rattle.asp_top.specs.Codes.{IsLost}
 use Rattle.asp_named.specs.Named.{has_numbers}
 use Rattle.asp_top.specs.Notes.{is_written}
 use Rattle.asp_top.specs.Parting.{Divides, HandingMeans}
-use Rattle.asp_top.specs.Runs.{Around, DeliveryMeans, Does, DoesBy, EndsUnready, IsAnswered, IsDivided, IsExact, IsGiven, IsOver, IsReady, IsReported, IsSaid, IsSentOn, IsSolved, IsStreamCut, Means, Prepares, Runs, Says, Solves, SolvesBy, Streams, TellsClosed, around, layout_of, status_of, status_unready, streams}
-use Rattle.asp_top.proofs.StreamLaws.{is-listing, means-asked, streamed-cut, streamed-solved}
+use Rattle.asp_top.specs.Runs.{Around, DeliversPart, DeliversRest, DeliveryMeans, Does, DoesBy, EndsUnready, HasFirst, HasPart, IsAnswered, IsDivided, IsExact, IsFew, IsGiven, IsOver, IsReady, IsReported, IsSaid, IsSentOn, IsSolved, IsStreamCut, Means, Prepares, Runs, Says, Solves, SolvesBy, Streams, TellsClosed, WritesAs, around, first_text, layout_of, part_text, run_ask, status_of, status_unready, streams}
+use Rattle.asp_top.proofs.ListingLaws.{is-listing}
+use Rattle.asp_top.proofs.StreamLaws.{first-searched, means-asked, part-lines, streamed-cut, streamed-first, streamed-solved}
 use Rattle.asp_equal.specs.declared.reduce.Aside.{Aside}
 use Rattle.asp_model.specs.Sound.{IsSound}
 use Rattle.asp_cli.specs.declared.Options.{Options}
@@ -70,13 +71,17 @@ given-exact given a program status source done quiet = record {
 exact : (given : Options) (a : Around) (report : Option Report) (status : Status) → Means given a report status → Quiet a status → IsExact given a status
 exact given a report All m quiet = given-exact given a m.solved.program All m.solved.source (λ w. inl refl) quiet
 exact given a report NoModel m quiet = given-exact given a m.solved.program NoModel m.solved.source (λ w. inl refl) quiet
-exact given a report Partial m quiet = given-exact given a m.solved.program Partial m.solved.source (λ w. inl refl) quiet
+exact given a report Partial (inl m) quiet = given-exact given a m.solved.program Partial m.solved.source (λ w. inl refl) quiet
+exact given a report Partial (inr m) quiet = given-exact given a m.has.solved.program Partial m.has.solved.source (λ w. inl refl) quiet
 exact given a report Unknown m quiet = given-exact given a m.solved.program Unknown m.solved.source (λ w. inl refl) quiet
-exact given a report Enough m quiet = given-exact given a m.solved.program Enough m.solved.source (λ w. inl refl) quiet
+exact given a report Enough (inl m) quiet = given-exact given a m.solved.program Enough m.solved.source (λ w. inl refl) quiet
+exact given a report Enough (inr m) quiet = given-exact given a m.has.program Enough m.has.source (λ w. inl refl) quiet
 exact given a report Parts m quiet = given-exact given a m.divided.program Parts m.divided.source (λ w. inl refl) quiet
 exact given a report (WriteFault closed) (inl m) quiet = given-exact given a m.solved.program (WriteFault closed) m.solved.source (λ w. absurd (w m.cause)) quiet
 exact given a report (WriteFault closed) (inr (inl m)) quiet = given-exact given a m.divided.program (WriteFault closed) m.divided.source (λ w. absurd (w m.cause)) quiet
-exact given a report (WriteFault closed) (inr (inr m)) quiet = given-exact given a m.0.program (WriteFault closed) m.0.source (λ w. absurd (w m.1)) quiet
+exact given a report (WriteFault closed) (inr (inr (inl m))) quiet = given-exact given a m.0.program (WriteFault closed) m.0.source (λ w. absurd (w m.1)) quiet
+exact given a report (WriteFault closed) (inr (inr (inr (inl m)))) quiet = given-exact given a m.has.program (WriteFault closed) m.has.source (λ w. absurd (w m.cause)) quiet
+exact given a report (WriteFault closed) (inr (inr (inr (inr m)))) quiet = given-exact given a m.has.solved.program (WriteFault closed) m.has.solved.source (λ w. absurd (w m.cause)) quiet
 exact given a report Unnamed m quiet = given-exact given a m.program Unnamed m.source (λ w. inr refl) quiet
 exact given a report Help m quiet = absurd m
 exact given a report Usage m quiet = absurd m
@@ -141,31 +146,51 @@ runs-memory given a kept reads writes quiet =
     let means : Means given a None Memory = inl (record { none = refl; kept = kept }) in
     record { means = means; exact = exact given a None Memory means (λ isn't. quiet); later = (reads, writes) }
 
-written : (given : Options) (a : Around) (report : Option Report) → (s : IsSolved given a report) → (end : End) (model : Bool) → s.done.results.end ≡ end → has_model s.done.results ≡ model
-    → Appends a.held a.held' (report_text (asked given s.program) (report_with (set_aside given s.program) s.done) (layout_of given)) → Means given a report (status_for end model)
-written given a report s Finished true e m text = record { solved = s; end_is = e; model_is = m; text = text }
-written given a report s Finished false e m text = record { solved = s; end_is = e; model_is = m; text = text }
-written given a report s Limited model e m text = record { solved = s; end_is = e; model_is = limited-has (searched given s.program) (ask_of given s.program) given.budget s.done s.is e; text = text }
-written given a report s Unfinished true e m text = record { solved = s; end_is = e; model_is = m; text = text }
-written given a report s Unfinished false e m text = record { solved = s; end_is = e; model_is = m; text = text }
+written : (given : Options) (a : Around) (report : Option Report) → (s : IsSolved given a report) → IsFew given s.program s.done → (end : End) (model : Bool) → s.done.results.end ≡ end →
+    has_model s.done.results ≡ model → Appends a.held a.held' (report_text (asked given s.program) (report_with (set_aside given s.program) s.done) (layout_of given)) → Means given a report (status_for end model)
+written given a report s few Finished true e m text = record { solved = s; end_is = e; model_is = m; few = few; text = text }
+written given a report s few Finished false e m text = record { solved = s; end_is = e; model_is = m; few = few; text = text }
+written given a report s few Limited model e m text =
+    inl (record { solved = s; end_is = e; model_is = limited-has (searched given s.program) (run_ask given s.program) given.budget s.done s.is e; few = few; text = text })
+written given a report s few Unfinished true e m text = inl (record { solved = s; end_is = e; model_is = m; few = few; text = text })
+written given a report s few Unfinished false e m text = record { solved = s; end_is = e; model_is = m; few = few; text = text }
 
-delivered : (given : Options) (a : Around) (s : Status) (report : Option Report) → (solved : IsSolved given a report)
+delivered : (given : Options) (a : Around) (s : Status) (report : Option Report) → (solved : IsSolved given a report) → IsFew given solved.program solved.done
     → DeliveryMeans (layout_of given) (searched given solved.program) (told_with (set_aside given solved.program) solved.done) a.held a.held' a.writes a.writes' s → Means given a report s
-delivered given a s report solved (inl m) =
+delivered given a s report solved few (inl m) =
     let F = set_aside given solved.program in
     let done = solved.done in
     let is : s ≡ status_for done.results.end (has_model done.results) = m.0 ∙ ap (status_for done.results.end) (told-model F done) in
     let text = subst (Appends a.held a.held') (told-text given solved.program done (layout_of given) solved.proof) m.1 in
-    subst (Means given a report) (sym is) (written given a report solved done.results.end (has_model done.results) refl refl text)
-delivered given a s report solved (inr m) =
+    subst (Means given a report) (sym is) (written given a report solved few done.results.end (has_model done.results) refl refl text)
+delivered given a s report solved few (inr m) =
     subst (Means given a report) (sym m.0.1)
     (inl (record {
       solved = solved;
+      few = few;
       text =
           subst (AppendsFront a.held a.held') (told-text given solved.program solved.done (layout_of given) solved.proof) m.1;
       cause =
           m.2;
     }))
+
+-- the first of all answers were written, or a front of their lines
+first-written : (given : Options) (a : Around) (text : List ℕ) (s : Status) (report : Option Report) → (has : HasFirst given a report) → text ≡ first_text has.program given.models
+    → WritesAs Enough text a.held a.held' a.writes a.writes' s → Means given a report s
+first-written given a text s report has same w = by w.means
+  where
+    by : ((s ≡ Enough) × Appends a.held a.held' text) ⊎ (IsLost s × AppendsFront a.held a.held' text × Rose a.writes a.writes') → Means given a report s
+    by (inl m) = subst (Means given a report) (sym m.0) (inr (record { has = has; text = subst (Appends a.held a.held') same m.1 }))
+    by (inr m) = subst (Means given a report) (sym m.0.1) (inr (inr (inr (inl (record { has = has; text = subst (AppendsFront a.held a.held') same m.1; cause = m.2 })))))
+
+-- the first of what was found was written when the budget was spent, or a front of their lines
+part-written : (given : Options) (a : Around) (text : List ℕ) (s : Status) (report : Option Report) → (has : HasPart given a report) → text ≡ part_text given has.solved.program has.solved.done
+    → WritesAs Partial text a.held a.held' a.writes a.writes' s → Means given a report s
+part-written given a text s report has same w = by w.means
+  where
+    by : ((s ≡ Partial) × Appends a.held a.held' text) ⊎ (IsLost s × AppendsFront a.held a.held' text × Rose a.writes a.writes') → Means given a report s
+    by (inl m) = subst (Means given a report) (sym m.0) (inr (record { has = has; text = subst (Appends a.held a.held') same m.1 }))
+    by (inr m) = subst (Means given a report) (sym m.0.1) (inr (inr (inr (inr (record { has = has; text = subst (AppendsFront a.held a.held') same m.1; cause = m.2 })))))
 
 -- the text of parts was written, or cut off
 handed : (given : Options) (a : Around) (s : Status) (report : Option Report) → (divided : IsDivided given a report)
@@ -173,11 +198,16 @@ handed : (given : Options) (a : Around) (s : Status) (report : Option Report) �
 handed given a s report divided (inl m) = subst (Means given a report) (sym m.0) (record { divided = divided; text = m.1 })
 handed given a s report divided (inr m) = subst (Means given a report) (sym m.0.1) (inr (inl (record { divided = divided; text = m.1; cause = m.2 })))
 
+-- what is asked of a run that writes its answers at once
+asked-once : (given : Options) (p : Program) → streams given p ≡ false → ask_of given p ≡ run_ask given p
+asked-once given p off = ap (λ (b : Bool). record (ask_of given p) { models = cond b 0 given.models }) (sym off)
+
 runs-solved : (given : Options) (a : Around) (p : Program) (o : Outcome) → given.split ≡ None → IsGiven given.format given.make a p → IsSound p →
     HasNumbers given p → a.reads ≤ a.reads' → a.reads' ≡ a.reads → streams given p ≡ false
     → Solves given p a.held a.held' a.writes a.writes' o → Runs given a o
 runs-solved given a p o whole from sound numbers reads quiet off (inl m) = subst (Runs given a) (sym m.0) (runs-memory given a m.1 reads (omega (arith, m.2)) quiet)
 runs-solved given a p o whole from sound numbers reads quiet off (inr s) =
+    let is : IsReport (searched given p) (run_ask given p) given.budget s.0 = subst (λ (ask : Ask). IsReport (searched given p) ask given.budget s.0) (asked-once given p off) s.1.0 in
     let solved : IsSolved given a o.report = record {
       program = p;
       source = from;
@@ -185,19 +215,19 @@ runs-solved given a p o whole from sound numbers reads quiet off (inr s) =
       numbers = numbers;
       whole = whole;
       done = s.0;
-      reports = subst (λ (b : Bool). IsReported b (set_aside given p) s.0 o.report) (sym off) s.2.reports;
-      is = s.1.0;
+      reports = subst (λ (b : Bool). IsReported b given.models (set_aside given p) s.0 o.report) (sym off) s.2.reports;
+      is = is;
       says =
-          told-says given p (ask_of given p) s.0 s.0.results.end (asked-sound given p sound numbers) s.1.0.says;
+          told-says given p (run_ask given p) s.0 s.0.results.end (asked-sound given p sound numbers) is.says;
       proof = s.1.1;
     } in
-    let means = delivered given a o.status o.report solved s.2.means in
+    let means = delivered given a o.status o.report solved (λ on some. absurd (false≢true (sym off ∙ on))) s.2.means in
     record { means = means; exact = exact given a o.report o.status means (λ isn't. quiet); later = (reads, s.2.later) }
 
 -- its answers were written while they were found
 runs-streamed : (given : Options) (a : Around) (p : Program) (o : Outcome) → given.split ≡ None → IsGiven given.format given.make a p → IsSound p →
     HasNumbers given p → a.reads ≤ a.reads' → a.reads' ≡ a.reads → streams given p ≡ true
-    → Streams (searched given p) given.budget a.held a.held' a.writes a.writes' o → Runs given a o
+    → Streams (searched given p) given.budget given.models a.held a.held' a.writes a.writes' o → Runs given a o
 runs-streamed given a p o whole from sound numbers reads quiet on (inl cut) =
     let short = streamed-cut given a p o from sound numbers on cut in
     let means : Means given a o.report o.status = by cut.why short in
@@ -205,12 +235,24 @@ runs-streamed given a p o whole from sound numbers reads quiet on (inl cut) =
   where
     by : ((o.status ≡ Memory) × (a.writes' ≡ a.writes)) ⊎ (IsLost o.status × Rose a.writes a.writes') → IsStreamCut given a o.report → Means given a o.report o.status
     by (inl m) short = subst (Means given a o.report) (sym m.0) (inr short)
-    by (inr m) short = subst (Means given a o.report) (sym m.0.1) (inr (inr (short, m.1)))
-runs-streamed given a p o whole from sound numbers reads quiet on (inr d) =
-    let solved = streamed-solved given a p d.0 d.1 o whole from sound numbers on d.2 d.3 in
-    let means = delivered given a o.status o.report solved
-    (means-asked given p (searched given p) d.0 d.1 a.held a.held' a.writes a.writes' o.status (is-listing given p on) d.3.means) in
-    record { means = means; exact = exact given a o.report o.status means (λ isn't. quiet); later = (reads, d.3.later) }
+    by (inr m) short = subst (Means given a o.report) (sym m.0.1) (inr (inr (inl (short, m.1))))
+runs-streamed given a p o whole from sound numbers reads quiet on (inr (inl f)) = by f.3
+  where
+    by : DeliversRest (searched given p) f.0 f.1 given.models a.held a.held' a.writes a.writes' o ⊎ DeliversPart (searched given p) f.0 f.1 given.models a.held a.held' a.writes a.writes' o → Runs given a o
+    by (inl d) =
+        let solved = streamed-solved given a p f.0 f.1 o whole from sound numbers on f.2 d.reports in
+        let means = delivered given a o.status o.report solved (λ streamed some. d.few some)
+        (means-asked given p (searched given p) f.0 f.1 a.held a.held' a.writes a.writes' o.status (is-listing given p on) d.means) in
+        record { means = means; exact = exact given a o.report o.status means (λ isn't. quiet); later = (reads, d.later) }
+    by (inr d) =
+        let solved = streamed-solved given a p f.0 f.1 o whole from sound numbers on f.2 d.reports in
+        let has : HasPart given a o.report = record { solved = solved; end_is = d.end_is; streamed = on; some = d.some; enough = d.enough } in
+        let means = part-written given a _ o.status o.report has (part-lines given p f.0 f.1 (is-listing given p on)) d.wrote in
+        record { means = means; exact = exact given a o.report o.status means (λ isn't. quiet); later = (reads, d.wrote.later) }
+runs-streamed given a p o whole from sound numbers reads quiet on (inr (inr d)) =
+    let has = streamed-first given a p o from sound numbers on d in
+    let means = first-written given a _ o.status o.report has (first-searched given p given.models sound numbers (is-listing given p on)) d.wrote in
+    record { means = means; exact = exact given a o.report o.status means (λ isn't. quiet); later = (reads, d.wrote.later) }
 
 runs-divided : (given : Options) (a : Around) (p : Program) (most : ℕ) (o : Outcome) → given.split ≡ Some most → IsGiven given.format given.make a p → a.reads ≤ a.reads' → a.reads' ≡ a.reads
     → Divides p most a.held a.held' a.writes a.writes' o → Runs given a o
@@ -327,9 +369,9 @@ unsplit (Some n) e = absurd cc
 none-is-some : {A : Type 0} (x : A) → None ≡ Some x → ⊥
 none-is-some x e = cc
 
-unreported : (b : Bool) (A : Aside) (done : Report) → IsReported b A done None → ⊥
-unreported false A done is = none-is-some _ is
-unreported true A done is = none-is-some _ is.3
+unreported : (b : Bool) (models : ℕ) (A : Aside) (done : Report) → IsReported b models A done None → ⊥
+unreported false models A done is = none-is-some _ is
+unreported true models A done is = none-is-some _ is.3
 
 begun : (byte : ℕ) (bytes : List ℕ) → byte ∷ bytes ≡ [] → ⊥
 begun byte bytes e = cc
@@ -343,11 +385,13 @@ unwritten : (given : Options) (l l' : Option (List ℕ)) (r r' : ℕ) (status : 
 unwritten given l l' r r' status over = by status (over (Some []) 0).means
   where
     by : (s : Status) → Means given (around l l' r r' (Some []) (Some []) 0 0) None s → is_written s ≡ false
-    by All m = absurd (unreported _ _ _ m.solved.reports)
-    by NoModel m = absurd (unreported _ _ _ m.solved.reports)
-    by Partial m = absurd (unreported _ _ _ m.solved.reports)
-    by Unknown m = absurd (unreported _ _ _ m.solved.reports)
-    by Enough m = absurd (unreported _ _ _ m.solved.reports)
+    by All m = absurd (unreported _ _ _ _ m.solved.reports)
+    by NoModel m = absurd (unreported _ _ _ _ m.solved.reports)
+    by Partial (inl m) = absurd (unreported _ _ _ _ m.solved.reports)
+    by Partial (inr m) = absurd (unreported _ _ _ _ m.has.solved.reports)
+    by Unknown m = absurd (unreported _ _ _ _ m.solved.reports)
+    by Enough (inl m) = absurd (unreported _ _ _ _ m.solved.reports)
+    by Enough (inr m) = absurd (none-is-some m.has.reports.0 m.has.reports.1)
     by Help m = absurd m
     by Memory m = refl
     by Usage m = refl
@@ -385,7 +429,9 @@ lost-nothing given l l' r r' status is_closed over = by status (over (Some []) 0
     by Unnamed m = tt
     by (WriteFault closed) (inl m) = absurd (no-rise m.cause)
     by (WriteFault closed) (inr (inl m)) = absurd (no-rise m.cause)
-    by (WriteFault closed) (inr (inr m)) = absurd (no-rise m.1)
+    by (WriteFault closed) (inr (inr (inl m))) = absurd (no-rise m.1)
+    by (WriteFault closed) (inr (inr (inr (inl m)))) = absurd (no-rise m.cause)
+    by (WriteFault closed) (inr (inr (inr (inr m)))) = absurd (no-rise m.cause)
     by Parts m = tt
 
 pub nothing-closed : (given : Options) (l l' : Option (List ℕ)) (r r' : ℕ) (status : Status) (o : Outcome) (is_closed : Bool) →

@@ -1,5 +1,5 @@
 -- What a run that finished has read and written, from what its status means.
-use Rattle.std.proofs.Common.{◌≡◌, ℕ, ◌<◌, Bool, true, false, not, ◌&&◌, ◌||◌, cond, List, [], ◌∷◌, ◌++◌, length, refl, sym, ap, ◌∙◌, subst, ℤ, Contains, arith}
+use Rattle.std.proofs.Common.{◌≡◌, ℕ, ◌<◌, ◌≤◌, Bool, true, false, not, ◌&&◌, ◌||◌, cond, List, [], ◌∷◌, ◌++◌, length, take, inl, inr, refl, sym, ap, ◌∙◌, subst, ℤ, Contains, arith, length-take-le}
 use Rattle.std.specs.Prelude.{Option, None, Some, Ok, IfSome, codes, decimal, filter, flat_map, is_some, map, option_map}
 use Rattle.std.specs.List.{list_any}
 use Rattle.std.specs.Io.KnownBytes.{Appends}
@@ -29,7 +29,7 @@ use Rattle.asp_equal.specs.declared.reduce.Aside.{Aside}
 use Rattle.asp_equal.specs.Reduced.{restored}
 use Rattle.asp_crew_laws.specs.declared.report.Report.{Report}
 use Rattle.asp_crew_laws.specs.Runs.{IsBest, IsFound}
-use Rattle.asp_crew_laws.specs.Reports.{HasBest, IsAllFound, IsPartOf, Says as SaysReport, asks_list}
+use Rattle.asp_crew_laws.specs.Reports.{HasBest, IsAllFound, IsAsked, IsPartOf, Says as SaysReport, asks_list}
 use Rattle.asp_crew_laws.specs.Proofs.{HasProof}
 use Rattle.asp_cli.specs.Given.{Given, options}
 use Rattle.asp_cli.specs.declared.Options.{Options}
@@ -40,16 +40,17 @@ use Rattle.asp_cli.specs.Found.{seeks_consequences}
 use Rattle.asp_model.specs.declared.program.Minimize.{Minimize}
 use Rattle.asp_model.specs.Texts.{shown}
 use Rattle.asp_prepare.specs.Meaning.{has_model_in, is_some_of, mode_by, mode_of}
-use Rattle.asp_prepare.specs.Naming.{HasNumbers, ask_of, asked, is_json, is_named, is_settled, set_aside}
+use Rattle.asp_prepare.specs.Naming.{HasNumbers, asked, is_json, is_named, is_settled, set_aside}
 use Rattle.asp_prepare.specs.Told.{found_with, report_text, report_with, text_by, text_in, with_known, without_names}
-use Rattle.asp_top.specs.Runs.{Around, IsGiven, IsSentOn, IsWritten, Means, Runs, is_brief, layout_of}
+use Rattle.asp_top.specs.Runs.{Around, IsGiven, IsSentOn, IsWritten, Means, Runs, first_text, is_brief, layout_of, run_ask, streams}
+use Rattle.asp_top.proofs.ListingLaws.{IsListing, is-listing, streams-by}
 use Rattle.asp_top.specs.Series.{RunsBy, RunsOn}
 use Rattle.asp_json.specs.Json.{json_text, json_with}
 use Rattle.asp_cli.specs.declared.Form.{Form}
 use Rattle.asp_cli.specs.declared.Form.TheVariants.{Text, Json}
 use Rattle.asp_cli.specs.declared.Format.{Format}
 use Rattle.asp_top.specs.Formats.{outcome_for}
-use Rattle.asp_top.specs.Whole.{ArePicked, InForm, IsInput, IsWhole, TellsAll, TellsEnough, TellsNone, Wrote, closing, none_text, told_line}
+use Rattle.asp_top.specs.Whole.{ArePicked, ArePickedBy, InForm, IsInput, IsWhole, TellsAll, TellsEnough, TellsNone, Wrote, closing, none_text, told_line}
 use Rattle.asp_prepare.proofs.PlainLaws.{model-same, text-same}
 use Rattle.asp_prepare.proofs.ToldLaws.{no-proof}
 
@@ -356,13 +357,63 @@ enough-opt : (form : Form) (given : Options) (p : Program) (n : ℕ) (L : List A
 enough-opt Text given p n L best known listing some count part is = opt-limited given.all_optima (is_brief given) p n L best known listing some count part is
 enough-opt Json given p n L best known listing some count part is = enough-json given.all_optima given p n L best known listing some count part is
 
-tells-enough : (given : Options) (p : Program) (mode : Mode) (L : List Atoms) (best : Option (Atoms × List ℤ)) (known : Option Atoms) → asks_list given.all_optima mode ≡ true → 0 < given.models
-    → length L ≡ given.models → IsPartOf given.all_optima false p mode (found mode Limited L best known) → HasBest p mode best →
-    TellsEnough given p mode (text_for given.form given p (found mode Limited L best known))
-tells-enough given p Enum L best known listing some count part is =
-    (L, (part-enum given.all_optima p (found Enum Limited L best known) part, count), enough-enum given.form given p given.models L best known count)
-tells-enough given p Opt L best known listing some count part is = enough-opt given.form given p given.models L best known listing some count part is
-tells-enough given p (Consequences w) L best known listing some count part is = absurd (false≢true listing)
+filter-less : (f : Atoms → Bool) (all : List Atoms) → length (filter f all) ≤ length all
+filter-less f [] = omega arith
+filter-less f (S ∷ all) = by (f S) (filter-less f all)
+  where
+    by : (b : Bool) → length (filter f all) ≤ length all → length (cond b (S ∷ filter f all) (filter f all)) ≤ length (S ∷ all)
+    by true less = omega (arith, less)
+    by false less = omega (arith, less)
+
+-- of no more than there are
+few-of : (n : ℕ) (all L : List Atoms) → ArePicked n all L → n ≤ length all
+few-of n all L picked =
+    let less : length (filter picked.0.0 all) ≤ length all = filter-less picked.0.0 all in
+    let same : length L ≡ length (filter picked.0.0 all) = ap length picked.0.1 in
+    omega (arith, less, same, picked.1)
+
+brief-lines : (brief : Bool) (p : Program) (L M : List Atoms) → brief ≡ true → lines brief p L ≡ lines brief p M
+brief-lines true p L M e = refl
+brief-lines false p L M e = absurd (false≢true e)
+
+-- what such a text tells, in this form
+abbrev ToldEnough : Form → Bool → Options → Program → List ℕ → List Atoms → Type 0
+ToldEnough form streamed given p text Ss = InForm form (ArePickedBy streamed given.models (answers p) Ss × (text ≡ lines (is_brief given) p Ss ++ last_lines given.models))
+    (ArePicked given.models (answers p) Ss × (text ≡ json_found given p (found Enum Limited Ss None None)))
+
+-- With `--stream` no line tells which they are.
+tells-listed-enough : (given : Options) (p : Program) (L : List Atoms) (best : Option (Atoms × List ℤ)) (known : Option Atoms) → ArePicked given.models (answers p) L
+    → (given.form ≡ Text → given.stream ≡ true → is_brief given ≡ true) → TellsEnough given p Enum (text_for given.form given p (found Enum Limited L best known))
+tells-listed-enough given p L best known picked brief = by given.form refl
+  where
+    text : plain_text p (found Enum Limited L best known) (is_brief given) ≡ lines (is_brief given) p L ++ last_lines given.models
+    text = enough-enum Text given p given.models L best known picked.1
+
+    in-lines : (streamed : Bool) → given.form ≡ Text → given.stream ≡ streamed → (Ss : List Atoms) × ToldEnough Text streamed given p (text_for Text given p (found Enum Limited L best known)) Ss
+    in-lines false form stream = (L, (picked, text))
+    in-lines true form stream = (
+      take given.models (answers p),
+      (
+        (refl, length-take-le given.models (answers p) (few-of given.models (answers p) L picked)),
+        text ∙ ap (λ (x : List ℕ). x ++ last_lines given.models) (brief-lines (is_brief given) p L (take given.models (answers p)) (brief form stream)),
+      ),
+    )
+
+    by : (form : Form) → given.form ≡ form → (Ss : List Atoms) × ToldEnough form given.stream given p (text_for form given p (found Enum Limited L best known)) Ss
+    by Text form = in-lines given.stream form refl
+    by Json form = (L, (picked, enough-enum Json given p given.models L best known picked.1))
+
+-- the first of them were written, in lines
+first-told : (given : Options) (p : Program) → IsListing given p → given.models ≤ length (answers p) → TellsEnough given p (mode_of given.mode p) (first_text p given.models)
+first-told given p list enough =
+    let Ss : List Atoms = take given.models (answers p) in
+    let count : length Ss ≡ given.models = length-take-le given.models (answers p) enough in
+    let text : first_text p given.models ≡ lines (is_brief given) p Ss ++ last_lines given.models =
+    joined (lines false p Ss) _ _ (ap last_lines count) ∙ ap (λ (b : Bool). lines b p Ss ++ last_lines given.models) (sym list.full) in
+    let told : ToldEnough Text given.stream given p (first_text p given.models) Ss =
+    (subst (λ (b : Bool). ArePickedBy b given.models (answers p) Ss) (sym list.stream) (refl, count), text) in
+    subst (λ (m : Mode). TellsEnough given p m (first_text p given.models)) (sym list.mode)
+    (Ss, subst (λ (f : Form). ToldEnough f given.stream given p (first_text p given.models) Ss) (sym list.form) told)
 
 -- ---- whether there is a model, told with what was set aside
 some-map : {A B : Type 0} (f : A → B) (L : List A) → is_some_of (map f L) ≡ is_some_of L
@@ -539,19 +590,40 @@ nothing-asked given p (Consequences w) L best known sound numbers mode is none =
           told.1,
     )
 
+-- Where the answers of an enumeration aren't written while they are found, they aren't, or not as lines.
+brief-so : (given : Options) (p : Program) → is_settled given ≡ true → mode_of given.mode p ≡ Enum → streams given p ≡ false → given.form ≡ Text → given.stream ≡ true → is_brief given ≡ true
+brief-so given p settled mode off form stream = by (is_brief given) refl
+  where
+    by : (b : Bool) → is_brief given ≡ b → is_brief given ≡ true
+    by true e = e
+    by false e = absurd (false≢true (sym off ∙ streams-by given p (record { stream = stream; mode = mode; form = form; full = e; settled = settled })))
+
 enough-asked : (given : Options) (p : Program) (mode : Mode) (L : List Atoms) (best : Option (Atoms × List ℤ)) (known : Option Atoms) →
-    mode_of given.mode p ≡ mode → asks_list given.all_optima mode ≡ true → 0 < given.models
+    is_settled given ≡ true → streams given p ≡ false → mode_of given.mode p ≡ mode → asks_list given.all_optima mode ≡ true → 0 < given.models
     → length L ≡ given.models → IsPartOf given.all_optima false (asked given p) mode (found mode Limited L best known) → HasBest (asked given p) mode best
     → TellsEnough given p mode (text_for given.form given (asked given p) (found mode Limited L best known))
-enough-asked given p Enum L best known mode listing some count part is =
-    subst (λ (q : Program). IsPartOf given.all_optima false q Enum (found Enum Limited L best known) → HasBest q Enum best →
+enough-asked given p Enum L best known settled off mode listing some count part is =
+    subst (λ (q : Program). IsPartOf given.all_optima false q Enum (found Enum Limited L best known) →
     TellsEnough given p Enum (text_for given.form given q (found Enum Limited L best known))) (sym (asked-listed given p Enum mode refl))
-    (λ own best-own. tells-enough given p Enum L best known listing some count own best-own) part is
-enough-asked given p Opt L best known mode listing some count part is =
+    (λ own. tells-listed-enough given p L best known (part-enum given.all_optima p (found Enum Limited L best known) own, count) (brief-so given p settled mode off)) part
+enough-asked given p Opt L best known settled off mode listing some count part is =
     subst (λ (q : Program). IsPartOf given.all_optima false q Opt (found Opt Limited L best known) → HasBest q Opt best →
     TellsEnough given p Opt (text_for given.form given q (found Opt Limited L best known))) (sym (asked-listed given p Opt mode refl))
-    (λ own best-own. tells-enough given p Opt L best known listing some count own best-own) part is
-enough-asked given p (Consequences w) L best known mode listing some count part is = absurd (false≢true listing)
+    (λ own best-own. enough-opt given.form given p given.models L best known listing some count own best-own) part is
+enough-asked given p (Consequences w) L best known settled off mode listing some count part is = absurd (false≢true listing)
+
+-- A run that asks for all answers has no limit.
+unstreamed : (b : Bool) (n : ℕ) → 0 < cond b 0 n → b ≡ false
+unstreamed true n some = let f : ⊥ = omega (arith, some) in absurd f
+unstreamed false n some = refl
+
+enough-run : (given : Options) (p : Program) (L : List Atoms) (best : Option (Atoms × List ℤ)) (known : Option Atoms) → is_settled given ≡ true
+    → IsAsked (asked given p) (without_names (run_ask given p)) (found (mode_of given.mode p) Limited L best known)
+    → TellsEnough given p (mode_of given.mode p) (text_for given.form given (asked given p) (found (mode_of given.mode p) Limited L best known))
+enough-run given p L best known settled says =
+    let off = unstreamed (streams given p) given.models says.some in
+    let limit : cond (streams given p) 0 given.models ≡ given.models = ap (λ (b : Bool). cond b 0 given.models) off in
+    enough-asked given p (mode_of given.mode p) L best known settled off refl says.listing (subst (λ (n : ℕ). 0 < n) limit says.some) (says.count ∙ limit) says.part says.best
 
 -- ---- the theorem
 -- a text with its mode and its end
@@ -562,7 +634,7 @@ text-of form p r brief names mode end m e =
 
 -- A report of such a run tells this.
 abbrev Telling : Options → End → Bool → (Program → Mode → List ℕ → Type 0) → Type 0
-Telling given end model Tells = (p : Program) (R : Report) → is_settled given ≡ true → IsSound p → HasNumbers given p → SaysReport (asked given p) (without_names (ask_of given p)) R end
+Telling given end model Tells = (p : Program) (R : Report) → is_settled given ≡ true → IsSound p → HasNumbers given p → SaysReport (asked given p) (without_names (run_ask given p)) R end
     → has_model_in (mode_of given.mode p) (found (mode_of given.mode p) end R.results.answers R.results.best R.results.known) ≡ model
     → Tells p (mode_of given.mode p) (text_for given.form given (asked given p) (found (mode_of given.mode p) end R.results.answers R.results.best R.results.known))
 
@@ -587,7 +659,7 @@ wrote given a report end model Tells is_sent plain telling w sent =
       program = p;
       input = input-of given.format given.make a p w.solved.source;
       text = text_for given.form given q (found mode end R.results.answers R.results.best R.results.known);
-      tells = telling p R (settled-from given plain w.solved.whole) w.solved.sound w.solved.numbers (subst (SaysReport q (without_names (ask_of given p)) R) w.end_is s.says)
+      tells = telling p R (settled-from given plain w.solved.whole) w.solved.sound w.solved.numbers (subst (SaysReport q (without_names (run_ask given p)) R) w.end_is s.says)
           (model-same (is_named given) q mode end told.results.answers told.results.best s.known told.results.known s.same
           ∙ model-of mode mode end told.results ∙ ap (λ m. has_model_in m told.results) (sym w.solved.is.mode_is)
           ∙ model-with F done.results.mode done.results ∙ w.model_is);
@@ -603,9 +675,22 @@ whole given a o is_sent plain runs sent = by o.status runs.means sent
         (λ p R settled sound numbers says some. all-asked given p (mode_of given.mode p) R.results.answers R.results.best R.results.known settled sound numbers refl says some) m (sent refl)
     by NoModel m sent = wrote given a o.report Finished false (TellsNone given) is_sent plain
         (λ p R settled sound numbers says none. nothing-asked given p (mode_of given.mode p) R.results.answers R.results.best R.results.known sound numbers refl says none) m (sent refl)
-    by Enough m sent = wrote given a o.report Limited true (TellsEnough given) is_sent plain
-        (λ p R settled sound numbers says some. enough-asked given p (mode_of given.mode p) R.results.answers R.results.best R.results.known refl says.listing says.some says.count
-        (part-of given.all_optima (asked given p) (mode_of given.mode p) (mode_of given.mode p) Limited R.results says.part) says.best) m (sent refl)
+    by Enough (inl m) sent = wrote given a o.report Limited true (TellsEnough given) is_sent plain
+        (λ p R settled sound numbers says some. enough-run given p R.results.answers R.results.best R.results.known settled (record {
+          listing = says.listing;
+          some = says.some;
+          count = says.count;
+          part = part-of given.all_optima (asked given p) (mode_of given.mode p) (mode_of given.mode p) Limited R.results says.part;
+          best = says.best;
+        })) m (sent refl)
+    by Enough (inr m) sent = record {
+      program = m.has.program;
+      input = input-of given.format given.make a m.has.program m.has.source;
+      text = first_text m.has.program given.models;
+      tells = first-told given m.has.program (is-listing given m.has.program m.has.streamed) m.has.enough;
+      written = m.text;
+      sent = sent refl;
+    }
     by status m sent = tt
 
 -- the same where the words of a run give these options

@@ -118,15 +118,15 @@ is_enumeration _ = false
 abbrev pub lists_lines : Options → Bool
 lists_lines given = not (is_json given.form) && (not (is_some given.make || given.quiet) && is_settled given)
 
--- Whether answers are written while they are found: where that was asked for, and all answers are listed as lines.
+-- Whether answers are written while they are found: where that was asked for, and answers are listed as lines.
 abbrev pub is_streamed : Options → Mode → Bool
-is_streamed given mode = given.stream && (is_enumeration mode && ((given.models == 0) && lists_lines given))
+is_streamed given mode = given.stream && (is_enumeration mode && lists_lines given)
 
 abbrev pub is_idle_stream : Options → Mode → Bool
 is_idle_stream given mode = given.stream && not (is_streamed given mode)
 
 abbrev pub stream_text : Options → Mode → List ℕ
-stream_text given mode = if is_idle_stream given mode then codes "aspenum: --stream has no effect: no list of all answers is written as lines\n" else []
+stream_text given mode = if is_idle_stream given mode then codes "aspenum: --stream has no effect: no list of answers is written as lines\n" else []
 
 -- a row of slots where one thread searched
 abbrev pub is_idle_row : Options → Bool

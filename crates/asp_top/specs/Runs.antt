@@ -1,13 +1,15 @@
 -- What each status of a run says of the words, of the bytes read and of the bytes written.
-use Rattle.std.specs.Prelude.{◌≡◌, ◌⊎◌, ℕ, ◌+◌, ◌<◌, ◌≤◌, ◌^◌, ◌==◌, Bool, true, false, ◌||◌, if◌then◌else◌, List, [], ◌++◌, Option, None, Some, Result, Ok, Err, IfSome, is_some, length, ℤ}
+use Rattle.std.specs.Prelude.{◌≡◌, ◌⊎◌, ℕ, ◌+◌, ◌-◌, ◌<◌, ◌≤◌, ◌^◌, ◌==◌, nat_lt, Bool, true, false, ◌||◌, if◌then◌else◌, List, [], ◌++◌, Option, None, Some, Result, Ok, Err, IfSome, is_some, length, take, ℤ}
 use Rattle.std.specs.Io.KnownBytes.{Appends, Keeps, IsAtEnd}
 use Rattle.asp_io.specs.Causes.{Rose, AppendsFront}
 use Rattle.asp_read.specs.declared.fault.Fault.{Fault}
 use Rattle.asp_read.specs.declared.fault.ReadError.{ReadError}
 use Rattle.asp_read.specs.declared.fault.ReadError.TheVariants as errors
 use Rattle.asp_model.specs.declared.program.Program.{Program}
+use Rattle.asp_model.specs.declared.results.Ask.{Ask}
 use Rattle.asp_model.specs.declared.results.End.{End}
 use Rattle.asp_model.specs.declared.results.End.TheVariants.{Finished, Limited, Unfinished}
+use Rattle.asp_model.specs.declared.results.Mode.TheVariants.{Enum}
 use Rattle.asp_model.specs.Sound.{IsSound}
 use Rattle.asp_equal.specs.declared.reduce.Aside.{Aside}
 use Rattle.asp_named.specs.Named.{has_numbers}
@@ -37,10 +39,12 @@ use Rattle.asp_prepare.specs.declared.layout.Layout.{Layout}
 use Rattle.asp_prepare.specs.declared.prepared.Prepared.{Prepared}
 use Rattle.asp_prepare.specs.declared.prepared.Unready.{Unready}
 use Rattle.asp_prepare.specs.declared.prepared.Unready.TheVariants as unready
-use Rattle.asp_prepare.specs.Meaning.{has_model, mode_of}
+use Rattle.asp_prepare.specs.Meaning.{has_model, is_some_of, mode_of}
 use Rattle.asp_prepare.specs.Naming.{HasNumbers, WhyNot, ask_of, asked, is_named, prepared_of, searched, set_aside}
 use Rattle.asp_prepare.specs.Told.{SaysOf, report_text, report_with, told_with}
 use Rattle.asp_top.specs.Meaning.{status_for}
+use Rattle.asp_outlet.specs.Outlets.{whole_text}
+use Rattle.asp_limit.specs.Limits.{room}
 use Rattle.asp_stream.specs.Endings.{HasReport, report_of}
 use Rattle.asp_stream.specs.declared.told.End.{End as StreamEnd}
 use Rattle.asp_stream.specs.declared.told.End.TheVariants as ends
@@ -98,14 +102,22 @@ streams given p = is_streamed given (mode_of given.mode p)
 abbrev pub with_answers : List Atoms → Report → Report
 with_answers Ss r = record r { results = record r.results { answers = Ss } }
 
+-- what is asked of a run: all answers, where they are written while they are found; the limit then ends what is written
+abbrev pub run_ask : Options → Program → Ask
+run_ask given p = record (ask_of given p) { models = if streams given p then 0 else given.models }
+
+-- those of the last answers that may still be written, where the others were; 0 is no limit
+abbrev pub left_of : ℕ → List Atoms → List Atoms → List Atoms
+left_of models heard rest = if models == 0 then rest else take (models - length heard) rest
+
 -- What is reported of a run, told with what was set aside: all that it found; or of one whose answers were written while they were
--- found, only the last of them, as they were found.
-abbrev pub IsReported : Bool → Aside → Report → Option Report → Type 0
-IsReported false A done report = report ≡ Some (told_with A done)
-IsReported true A done report = (heard rest : List Atoms) × (done.results.answers ≡ heard ++ rest) × (report ≡ Some (with_answers rest done))
+-- found, only those that were written at the end, as they were found.
+abbrev pub IsReported : Bool → ℕ → Aside → Report → Option Report → Type 0
+IsReported false models A done report = report ≡ Some (told_with A done)
+IsReported true models A done report = (heard rest : List Atoms) × (done.results.answers ≡ heard ++ rest) × (report ≡ Some (with_answers (left_of models heard rest) done))
 
 -- ---- outputs get atoms, and facts and copies are set aside, before the search
--- No parts are asked for. The report is that of a run on what is left of the program, with what is asked and the units that were given;
+-- No parts are asked for. The report is that of a run on what is left of the program, with what is asked of the run and the units that were given;
 -- with what was set aside it says of the program what was asked, and has a proof if that was asked for. Where consequences are told by name all
 -- this is about the program with atoms for its outputs, and the texts of those are what is said.
 pub record IsSolved (given : Options) (a : Around) (report : Option Report) : Type 0 where
@@ -115,9 +127,9 @@ pub record IsSolved (given : Options) (a : Around) (report : Option Report) : Ty
   pub numbers : HasNumbers given program
   pub whole : given.split ≡ None
   pub done : Report
-  pub reports : IsReported (streams given program) (set_aside given program) done report
-  pub is : IsReport (searched given program) (ask_of given program) given.budget done
-  pub says : SaysOf (asked given program) (ask_of given program) (report_with (set_aside given program) done) done.results.end
+  pub reports : IsReported (streams given program) given.models (set_aside given program) done report
+  pub is : IsReport (searched given program) (run_ask given program) given.budget done
+  pub says : SaysOf (asked given program) (run_ask given program) (report_with (set_aside given program) done) done.results.end
   pub proof : HasProof given.proof done
 
 -- the closing lines alone are written of a ring, and where they were asked for
@@ -128,16 +140,22 @@ is_brief given = is_some given.make || given.quiet
 abbrev pub layout_of : Options → Layout
 layout_of given = record { form = given.form; brief = is_brief given; names = given.names }
 
+-- Where answers are written while they are found, the run found fewer than `--models` asks for.
+abbrev pub IsFew : Options → Program → Report → Type 0
+IsFew given p done = streams given p ≡ true → 0 < given.models → length done.results.answers < given.models
+
 -- exactly the text of the report was written
 pub record IsWritten (given : Options) (a : Around) (report : Option Report) (end : End) (model : Bool) : Type 0 where
   pub solved : IsSolved given a report
   pub end_is : solved.done.results.end ≡ end
   pub model_is : has_model solved.done.results ≡ model
+  pub few : IsFew given solved.program solved.done
   pub text : Appends a.held a.held' (report_text (asked given solved.program) (report_with (set_aside given solved.program) solved.done) (layout_of given))
 
 -- a front of that text was written, and a fault counted
 pub record IsCutOff (given : Options) (a : Around) (report : Option Report) : Type 0 where
   pub solved : IsSolved given a report
+  pub few : IsFew given solved.program solved.done
   pub text : AppendsFront a.held a.held' (report_text (asked given solved.program) (report_with (set_aside given solved.program) solved.done) (layout_of given))
   pub cause : Rose a.writes a.writes'
 
@@ -170,6 +188,58 @@ pub record IsStreamCut (given : Options) (a : Around) (report : Option Report) :
   pub streamed : streams given program ≡ true
   pub none : report ≡ None
   pub text : AppendsFront a.held a.held' (answers_from program 1 (answers program))
+
+-- ---- as many answers as `--models` asks for, written while they are found
+-- They are the first of all answers. The report tells that a list was sought.
+pub record HasFirst (given : Options) (a : Around) (report : Option Report) : Type 0 where
+  pub program : Program
+  pub source : IsGiven given.format given.make a program
+  pub streamed : streams given program ≡ true
+  pub some : 0 < given.models
+  pub enough : given.models ≤ length (answers program)
+  pub reports : (r : Report) × (report ≡ Some r) × (r.results.mode ≡ Enum)
+
+-- the lines of the first answers, so many, and those after the last
+abbrev pub first_text : Program → ℕ → List ℕ
+first_text p models = whole_text p Limited (take models (answers p))
+
+-- exactly these lines were written
+pub record IsFirst (given : Options) (a : Around) (report : Option Report) : Type 0 where
+  pub has : HasFirst given a report
+  pub text : Appends a.held a.held' (first_text has.program given.models)
+
+-- a front of them was written, and a fault counted
+pub record IsFirstCut (given : Options) (a : Around) (report : Option Report) : Type 0 where
+  pub has : HasFirst given a report
+  pub text : AppendsFront a.held a.held' (first_text has.program given.models)
+  pub cause : Rose a.writes a.writes'
+
+-- The budget was spent before it was known which answers are the first, and no fewer were found than `--models` asks for.
+pub record HasPart (given : Options) (a : Around) (report : Option Report) : Type 0 where
+  pub solved : IsSolved given a report
+  pub end_is : solved.done.results.end ≡ Unfinished
+  pub streamed : streams given solved.program ≡ true
+  pub some : 0 < given.models
+  pub enough : given.models ≤ length solved.done.results.answers
+
+-- the report with the first of its answers, so many
+abbrev pub cut_to : ℕ → Report → Report
+cut_to models r = with_answers (take models r.results.answers) r
+
+-- the text of the report with the first of its answers, so many
+abbrev pub part_text : Options → Program → Report → List ℕ
+part_text given p done = report_text (asked given p) (report_with (set_aside given p) (cut_to given.models done)) (layout_of given)
+
+-- exactly this text was written
+pub record IsPart (given : Options) (a : Around) (report : Option Report) : Type 0 where
+  pub has : HasPart given a report
+  pub text : Appends a.held a.held' (part_text given has.solved.program has.solved.done)
+
+-- a front of it was written, and a fault counted
+pub record IsPartCut (given : Options) (a : Around) (report : Option Report) : Type 0 where
+  pub has : HasPart given a report
+  pub text : AppendsFront a.held a.held' (part_text given has.solved.program has.solved.done)
+  pub cause : Rose a.writes a.writes'
 
 -- nothing was solved and nothing written
 pub record IsUntouched (a : Around) (report : Option Report) : Type 0 where
@@ -212,9 +282,9 @@ Reads given = given.make ≡ None
 abbrev pub Means : Options → Around → Option Report → Status → Type 0
 Means given a report All = IsWritten given a report Finished true
 Means given a report NoModel = IsWritten given a report Finished false
-Means given a report Partial = IsWritten given a report Unfinished true
+Means given a report Partial = IsWritten given a report Unfinished true ⊎ IsPart given a report
 Means given a report Unknown = IsWritten given a report Unfinished false
-Means given a report Enough = IsWritten given a report Limited true
+Means given a report Enough = IsWritten given a report Limited true ⊎ IsFirst given a report
 Means given a report Help = ⊥
 Means given a report Memory = IsUntouched a report ⊎ IsStreamCut given a report
 Means given a report Usage = ⊥
@@ -222,7 +292,7 @@ Means given a report (Refused fault line) = Reads given × IsRefused given.forma
 Means given a report ReadFault = Reads given × IsUnread given.format a report
 Means given a report TooLong = Reads given × IsRefused given.format a report errors.TooLong
 Means given a report Unnamed = IsUnnamed given a report
-Means given a report (WriteFault closed) = IsCutOff given a report ⊎ (ArePartsCutOff given a report ⊎ (IsStreamCut given a report × Rose a.writes a.writes'))
+Means given a report (WriteFault closed) = IsCutOff given a report ⊎ (ArePartsCutOff given a report ⊎ ((IsStreamCut given a report × Rose a.writes a.writes') ⊎ (IsFirstCut given a report ⊎ IsPartCut given a report)))
 Means given a report Parts = IsParted given a report
 
 -- an accepted text, where one is read
@@ -294,44 +364,99 @@ pub record IsCutShort (p : Program) (held held' : Option (List ℕ)) (writes wri
 abbrev pub as_lines : Layout
 as_lines = record { form = forms.Text; brief = false; names = false }
 
--- The text of the report of what was heard and left was written, or cut off by a fault; what is left is reported.
-pub record DeliversRest (p : Program) (heard : List Atoms) (t : Told) (held held' : Option (List ℕ)) (writes writes' : ℕ) (o : Outcome) : Type 0 where
-  pub reports : o.report ≡ Some (report_of [] t)
-  pub means : DeliveryMeans as_lines p (report_of heard t) held held' writes writes' o.status
+-- This text was written, and so the status is this one; or a front of it, and exactly then a fault was counted.
+pub record WritesAs (status : Status) (text : List ℕ) (held held' : Option (List ℕ)) (writes writes' : ℕ) (result : Status) : Type 0 where
+  pub means : ((result ≡ status) × Appends held held' text) ⊎ (IsLost result × AppendsFront held held' text × Rose writes writes')
   pub later : writes ≤ writes'
-  pub quiet : TellsFaults writes writes' o.status
+  pub quiet : TellsFaults writes writes' result
 
--- how the results of a stream end; none where no more was wanted
-abbrev pub ending : StreamEnd → Option End
-ending ends.Finished = Some Finished
-ending (ends.Unpaid x) = Some Unfinished
-ending ends.Unwanted = None
+-- fewer were found than the limit says; 0 is no limit
+abbrev pub is_few : ℕ → ℕ → Bool
+is_few models found = (models == 0) || nat_lt found models
 
--- the text was written as far as it went, by how the stream ended
-abbrev pub EndsStream : StreamEnd → Program → List Atoms → Told → Option (List ℕ) → Option (List ℕ) → ℕ → ℕ → Outcome → Type 0
-EndsStream ends.Finished p heard t held held' writes writes' o = DeliversRest p heard t held held' writes writes' o
-EndsStream (ends.Unpaid x) p heard t held held' writes writes' o = DeliversRest p heard t held held' writes writes' o
-EndsStream ends.Unwanted p heard t held held' writes writes' o = IsCutShort p held held' writes writes' o
+-- how the results of a stream end: at its limit where as many answers were written before, or are with those that are left where
+-- these are all
+abbrev pub last_of : StreamEnd → Bool → Bool → End
+last_of ends.Finished few full = if few then Finished else Limited
+last_of (ends.Unpaid x) few full = if full then Limited else Unfinished
+last_of ends.Unwanted few full = Limited
 
--- What is left can be written by the outlet, and counted.
+-- the same where so many were written and so many are left
+abbrev pub last_at : ℕ → ℕ → ℕ → StreamEnd → End
+last_at models written rest e = last_of e (is_few models (written + rest)) (room models written == 0)
+
+-- of what is left, those that may still be written
+abbrev pub kept_of : ℕ → List Atoms → Told → Told
+kept_of models written t = record t { rest = record t.rest { sets = take (room models (length written)) t.rest.sets } }
+
+-- what is reported of a stream that ended so
+abbrev pub ReportsLast : End → Program → Told → Report → Type 0
+ReportsLast Limited p t r = (r.results.mode ≡ Enum) × (r.paid.program ≡ p)
+ReportsLast end p t r = r ≡ report_of [] t
+
+-- The answers that were left and may be written were, and the lines after the last, or a front of them.
+pub record DeliversLast (p : Program) (models : ℕ) (written : List Atoms) (t : Told) (held held' : Option (List ℕ)) (writes writes' : ℕ) (o : Outcome) : Type 0 where
+  pub report : Report
+  pub reports : o.report ≡ Some report
+  pub report_is : ReportsLast (last_at models (length written) (length t.rest.sets) t.end) p (kept_of models written t) report
+  pub wrote : WritesAs (status_for (last_at models (length written) (length t.rest.sets) t.end) (is_some_of (written ++ (kept_of models written t).rest.sets)))
+      (whole_text p (last_at models (length written) (length t.rest.sets) t.end) (written ++ (kept_of models written t).rest.sets)) held held' writes writes' o.status
+
+-- What is left can be counted, with what was heard, and is among the program's atoms.
 pub record HasRest (p : Program) (heard : List Atoms) (t : Told) : Type 0 where
   pub atoms : t.rest.atoms ≡ atoms_of p
   pub few : length heard + length t.rest.sets + 1 < 2 ^ 64
 
--- the same where memory may have run out
-abbrev pub EndsRun : {E : Type 0} → Result Told E → Program → List Atoms → Option (List ℕ) → Option (List ℕ) → ℕ → ℕ → Outcome → Type 0
-EndsRun (Ok t) p heard held held' writes writes' o = EndsStream t.end p heard t held held' writes writes' o
-EndsRun (Err e) p heard held held' writes writes' o = IsCutShort p held held' writes writes' o
+-- how a stream ends whose outlet wrote these: by a fault or want of memory, or with all that may be written
+abbrev pub EndsStream : Program → ℕ → List Atoms → Bool → Bool → Told → Option (List ℕ) → Option (List ℕ) → ℕ → ℕ → Outcome → Type 0
+EndsStream p models written failed short t held held' writes writes' o =
+    IsCutShort p held held' writes writes' o ⊎ ((failed ≡ false) × (short ≡ false) × DeliversLast p models written t held held' writes writes' o)
 
--- All answers that were sought with these units were found and written, unless it was cut short.
-abbrev pub Streams : Program → ℕ → Option (List ℕ) → Option (List ℕ) → ℕ → ℕ → Outcome → Type 0
-Streams p units held held' writes writes' o = IsCutShort p held held' writes writes' o
-    ⊎ ((heard : List Atoms) × (t : Told) × HasReport p units heard t × DeliversRest p heard t held held' writes writes' o)
+-- the same where memory may have run out
+abbrev pub EndsRun : {E : Type 0} → Result Told E → Program → ℕ → List Atoms → Bool → Bool → Option (List ℕ) → Option (List ℕ) → ℕ → ℕ → Outcome → Type 0
+EndsRun (Ok t) p models written failed short held held' writes writes' o = EndsStream p models written failed short t held held' writes writes' o
+EndsRun (Err e) p models written failed short held held' writes writes' o = IsCutShort p held held' writes writes' o
+
+-- The text of the report of what was heard and left was written, or cut off by a fault; what is left is reported.
+pub record DeliversRest (p : Program) (heard : List Atoms) (t : Told) (models : ℕ) (held held' : Option (List ℕ)) (writes writes' : ℕ) (o : Outcome) : Type 0 where
+  pub few : 0 < models → length (report_of heard t).results.answers < models
+  pub reports : o.report ≡ Some (with_answers (left_of models heard t.rest.sets) (report_of heard t))
+  pub means : DeliveryMeans as_lines p (report_of heard t) held held' writes writes' o.status
+  pub later : writes ≤ writes'
+  pub quiet : TellsFaults writes writes' o.status
+
+-- The same with the first of these answers alone, where the budget was spent and no fewer were found than may be written.
+pub record DeliversPart (p : Program) (heard : List Atoms) (t : Told) (models : ℕ) (held held' : Option (List ℕ)) (writes writes' : ℕ) (o : Outcome) : Type 0 where
+  pub end_is : (report_of heard t).results.end ≡ Unfinished
+  pub some : 0 < models
+  pub enough : models ≤ length (report_of heard t).results.answers
+  pub reports : o.report ≡ Some (with_answers (left_of models heard t.rest.sets) (report_of heard t))
+  pub wrote : WritesAs Partial (report_text p (cut_to models (report_of heard t)) as_lines) held held' writes writes' o.status
+
+-- The first of all answers were written, as many as may be, or a front of their lines.
+pub record DeliversFirst (p : Program) (models : ℕ) (held held' : Option (List ℕ)) (writes writes' : ℕ) (o : Outcome) : Type 0 where
+  pub some : 0 < models
+  pub enough : models ≤ length (answers p)
+  pub report : Report
+  pub reports : o.report ≡ Some report
+  pub mode : report.results.mode ≡ Enum
+  pub program : report.paid.program ≡ p
+  pub wrote : WritesAs Enough (first_text p models) held held' writes writes' o.status
+
+-- what was heard and left is what a report says, and was written; or the first of it
+abbrev pub StreamsFound : Program → ℕ → ℕ → Option (List ℕ) → Option (List ℕ) → ℕ → ℕ → Outcome → Type 0
+StreamsFound p units models held held' writes writes' o = (heard : List Atoms) × (t : Told) × HasReport p units heard t
+    × (DeliversRest p heard t models held held' writes writes' o ⊎ DeliversPart p heard t models held held' writes writes' o)
+
+-- All answers that were sought with these units were found and written, or the first of them, as many as may be, unless it was cut short.
+abbrev pub Streams : Program → ℕ → ℕ → Option (List ℕ) → Option (List ℕ) → ℕ → ℕ → Outcome → Type 0
+Streams p units models held held' writes writes' o = IsCutShort p held held' writes writes' o
+    ⊎ (StreamsFound p units models held held' writes writes' o ⊎ DeliversFirst p models held held' writes writes' o)
 
 -- The program was solved as was asked: its answers written while they were found, or all at once.
 abbrev pub SolvesBy : Bool → Options → Program → Option (List ℕ) → Option (List ℕ) → ℕ → ℕ → Outcome → Type 0
 SolvesBy false given p held held' writes writes' o = Solves given p held held' writes writes' o
-SolvesBy true given p held held' writes writes' o = Streams (searched given p) given.budget held held' writes writes' o
+SolvesBy true given p held held' writes writes' o = Streams (searched given p) given.budget given.models held held' writes writes' o
 
 -- The program was divided where parts are asked for, and else solved.
 abbrev pub DoesBy : Option ℕ → Options → Program → Option (List ℕ) → Option (List ℕ) → ℕ → ℕ → Outcome → Type 0

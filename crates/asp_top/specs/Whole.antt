@@ -1,5 +1,5 @@
 -- What a run that finished has read and written, said by the program alone: the theorem of docs/THEOREM.md.
-use Rattle.std.specs.Prelude.{◌≡◌, ℕ, ◌++◌, Bool, true, if◌then◌else◌, List, [], ◌∷◌, map, filter, length, Contains, Option, None, Some, Ok, IfSome, codes, decimal, ℤ}
+use Rattle.std.specs.Prelude.{◌≡◌, ℕ, ◌++◌, Bool, true, false, if◌then◌else◌, List, [], ◌∷◌, map, filter, length, take, Contains, Option, None, Some, Ok, IfSome, codes, decimal, ℤ}
 use Rattle.std.specs.Io.KnownBytes.{Appends}
 use Rattle.asp_model.specs.declared.program.Program.{Program}
 use Rattle.asp_model.specs.declared.results.End.{End}
@@ -45,6 +45,11 @@ closing found count = ended_line found ++ ended_line (codes "Models: " ++ count)
 abbrev pub ArePicked : ℕ → List Atoms → List Atoms → Type 0
 ArePicked n all Ss = ((chosen : Atoms → Bool) × (Ss ≡ filter chosen all)) × (length Ss ≡ n)
 
+-- Which answers are written of as many as `--models` asks for: with `--stream` the first ones.
+abbrev pub ArePickedBy : Bool → ℕ → List Atoms → List Atoms → Type 0
+ArePickedBy true n all Ss = (Ss ≡ take n all) × (length Ss ≡ n)
+ArePickedBy false n all Ss = ArePicked n all Ss
+
 -- which optima are written: all of them with `--opt-all`, and else this one
 abbrev pub written_optima : Options → Program → Atoms → List Atoms
 written_optima given p S = if given.all_optima then optima p else S ∷ []
@@ -87,10 +92,10 @@ TellsAll given p Opt text = (S : Atoms) × Contains (optima p) S × InForm given
 TellsAll given p (Consequences w) text = ¬ (answers p ≡ []) × InForm given.form (text ≡ told_line given.names w p ++ ended_line (codes "CONSEQUENCES FOUND"))
     (text ≡ json_of given p (Consequences w) Finished [] None (Some (consequences w p (answers p))) (told_texts w p))
 
--- As many answers as `--models` asks for are written, or with `--opt-all` as many optima.
+-- As many answers as `--models` asks for are written, with `--stream` in lines the first of all; or with `--opt-all` as many optima.
 abbrev pub TellsEnough : Options → Program → Mode → List ℕ → Type 0
-TellsEnough given p Enum text = (Ss : List Atoms) × ArePicked given.models (answers p) Ss × InForm given.form (text ≡ listed given p Ss ++ closing (codes "LIMIT REACHED") (decimal given.models ++ codes "+"))
-    (text ≡ json_of given p Enum Limited Ss None None [])
+TellsEnough given p Enum text = (Ss : List Atoms) × InForm given.form (ArePickedBy given.stream given.models (answers p) Ss × (text ≡ listed given p Ss ++ closing (codes "LIMIT REACHED") (decimal given.models ++ codes "+")))
+    (ArePicked given.models (answers p) Ss × (text ≡ json_of given p Enum Limited Ss None None []))
 TellsEnough given p Opt text = (S : Atoms) × (Ss : List Atoms) × Contains (optima p) S × ArePicked given.models (optima p) Ss × InForm given.form (text ≡ listed given p Ss ++ cost_line (cost p S) ++ closing (codes "LIMIT REACHED") (decimal given.models ++ codes "+"))
     (text ≡ json_of given p Opt Limited Ss (Some (S, cost p S)) None [])
 TellsEnough given p (Consequences w) text = ⊥

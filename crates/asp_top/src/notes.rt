@@ -319,11 +319,11 @@ fn lists_lines(options: &Options) -> bool
     }
 }
 
-/// Whether answers are written while they are found: where that was asked for, and all answers are listed as lines.
+/// Whether answers are written while they are found: where that was asked for, and answers are listed as lines.
 pub fn is_streamed(options: &Options, mode: Mode) -> bool
     ensures { result ≡ is_streamed options.now mode }
 {
-    options.stream && is_enumeration(mode) && options.models == 0 && lists_lines(options)
+    options.stream && is_enumeration(mode) && lists_lines(options)
 }
 
 fn is_idle_stream(options: &Options, mode: Mode) -> bool
@@ -339,7 +339,7 @@ fn write_stream<N: Sink>(notes: &mut N, options: &Options, mode: Mode) -> Result
     if is_idle_stream(options, mode) {
         write(
             notes,
-            b"aspenum: --stream has no effect: no list of all answers is written as lines\n",
+            b"aspenum: --stream has no effect: no list of answers is written as lines\n",
         )
     } else {
         write(notes, b"")

@@ -1,5 +1,5 @@
 use Rattle.std.proofs.Common.{◌∙◌}
-use Rattle.asp_top.proofs.EndLaws.{solves-at-once, solves-streamed, streamed-as}
+use Rattle.asp_top.proofs.EndLaws.{solves-at-once, solves-streamed, streamed-as, streams-told}
 use Rattle.asp_top.proofs.stream.solve_or_stream.Goals as goal
 
 pub returns-then-is_streamed-clause-solves : goal.returns-then-is_streamed-clause-solves
@@ -11,3 +11,6 @@ pub returns-else-is_streamed-clause-solves : goal.returns-else-is_streamed-claus
 returns-else-is_streamed-clause-solves g c = λ p is.
     let off = streamed-as c.args.options.now p c.args.prepared.now c.program.result.now c.ask_of-ask.result c.is_streamed.result is c.program.ensures.program c.ask_of-ask.ensures c.is_streamed.ensures in
     solves-at-once c.args.options.now p _ _ _ _ c.solve.result (off ∙ c.if-is_streamed.false) (c.solve.ensures.solves p is)
+
+pub returns-then-is_streamed-clause-flushed : goal.returns-then-is_streamed-clause-flushed
+returns-then-is_streamed-clause-flushed g c = streams-told c.args.prepared.now.compiled c.args.options.now.budget c.args.options.now.models _ _ _ _ c.stream.result c.stream.ensures.streams
