@@ -20,3 +20,4 @@ pub mod RunLaws
 pub mod WrongLaws
 pub mod ToldLaws
 pub mod ChaseLaws
+pub mod MemberLaws

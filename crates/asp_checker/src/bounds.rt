@@ -2,6 +2,7 @@
 ghost use Rattle.std.specs.Prelude.{◌≡◌, ◌+◌, ◌*◌, ◌^◌, ◌<◌, ◌≤ℤ◌, ◌+ℤ◌, pos, neg_ℤ, not, Some, IfOk, map, length};
 ghost use Rattle.std.specs.List.{AllByRecursion};
 ghost use Rattle.asp_model.specs.Costs.{priorities, betters, cost, just_above};
+ghost use Rattle.asp_vars.specs.Literals.{value_of};
 ghost use Rattle.asp_vars.specs.Numbering.{var_count};
 ghost use Rattle.asp_bound.specs.Optimism.{least};
 ghost use Rattle.asp_checker.specs.Propagation.{reaches_bound};
@@ -55,6 +56,19 @@ fn least(value: Option<bool>, if_true: i64, if_false: i64) -> i128
     }
 }
 
+// The same of a variable by its value, which is looked up only where it weighs something.
+fn cheapest(values: &Assign, var: u32, if_true: i64, if_false: i64) -> i128
+    requires { var < length values.now }
+    ensures value { result ≡ least (value_of values.now var) if_true if_false }
+    ensures low { neg_ℤ (pos (2 ^ 63)) ≤ℤ result }
+    ensures high { result ≤ℤ pos (2 ^ 63) }
+{
+    if if_true == 0 && if_false == 0 {
+        return 0;
+    }
+    least(values.value(var), if_true, if_false)
+}
+
 // What is spent at least at a priority.
 fn level_sum(values: &Assign, weights: &[i64], vars: u32) -> i128
     requires values { length values.now ≡ vars + 1 }
@@ -66,7 +80,7 @@ fn level_sum(values: &Assign, weights: &[i64], vars: u32) -> i128
     for at in 0..vars {
         let var = at + 1;
         let place = 2 * var as usize;
-        let more = least(values.value(var), weights[place], weights[place + 1]);
+        let more = cheapest(values, var, weights[place], weights[place + 1]);
         sum = add(sum, more);
     }
     sum

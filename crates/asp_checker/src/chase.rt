@@ -172,7 +172,12 @@ fn force(
         return Found::Nothing;
     }
     match values.value(var) {
-        Some(_) => conflict_by(compiled, bound, values, by),
+        Some(value) => {
+            if value == lit.truth() {
+                return Found::Nothing;
+            }
+            conflict_by(compiled, bound, values, by)
+        }
         None => force_open(compiled, bound, values, by, lit),
     }
 }

@@ -1,6 +1,6 @@
 //! What weight bodies and the bound may imply, by their sums. Hints are advice: each is tried before its value is set.
 ghost use Rattle.std.specs.Prelude.{◌≡◌, ◌+◌, ◌<◌, length};
-ghost use Rattle.asp_vars.specs.Numbering.{bodies_of, var_count};
+ghost use Rattle.asp_vars.specs.Numbering.{var_count};
 
 use crate::bounds::Bound;
 use asp_vars::assign::Assign;
@@ -43,8 +43,8 @@ pub(crate) fn fails(values: &Assign, vars: u32, lit: Lit) -> bool
     values.holds(lit.complement())
 }
 
-// Whether the literal holds, if it has a value.
-fn value_of(compiled: &Compiled, values: &Assign, lit: Lit) -> Option<bool>
+/// Whether the literal holds, if it has a value.
+pub(crate) fn value_of(compiled: &Compiled, values: &Assign, lit: Lit) -> Option<bool>
     requires { length values.now ≡ var_count compiled.now + 1 }
 {
     if lit.var() > compiled.vars() {
@@ -56,8 +56,8 @@ fn value_of(compiled: &Compiled, values: &Assign, lit: Lit) -> Option<bool>
     }
 }
 
-// Adds a hint for each literal without a value that weighs more than is left: the literal, or its complement.
-fn add_heavy(
+/// Adds a hint for each literal without a value that weighs more than is left: the literal, or its complement.
+pub(crate) fn add_heavy(
     hints: &mut Vec<Hint>,
     compiled: &Compiled,
     values: &Assign,
@@ -76,61 +76,6 @@ fn add_heavy(
             hints.push(Hint::Body(body, implied))?;
         }
     }
-    Ok(())
-}
-
-// The least and the greatest sum of the weights of a body's literals that hold.
-fn sums(compiled: &Compiled, values: &Assign, body: usize) -> (i64, i64)
-    requires size { length values.now ≡ var_count compiled.now + 1 }
-    requires body { body < length (bodies_of compiled.now) }
-{
-    let mut low: i64 = 0;
-    let mut high: i64 = 0;
-    for (lit, weight) in compiled.literals(body).iter().zip(compiled.weights(body)) {
-        match value_of(compiled, values, *lit) {
-            Some(true) => {
-                low = low.saturating_add(*weight);
-                high = high.saturating_add(*weight);
-            }
-            Some(false) => {}
-            None => high = high.saturating_add(*weight),
-        }
-    }
-    (low, high)
-}
-
-/// Adds what a weight body may imply.
-pub(crate) fn hints_of_body(
-    hints: &mut Vec<Hint>,
-    compiled: &Compiled,
-    values: &Assign,
-    body: usize,
-) -> Result<(), AllocError>
-    requires { length values.now ≡ var_count compiled.now + 1 }
-{
-    if body >= compiled.body_count() {
-        return Ok(());
-    }
-    let Some(bound) = compiled.bound(body) else {
-        return Ok(());
-    };
-    let bound = i64::from(bound);
-    let (low, high) = sums(compiled, values, body);
-    let held = compiled.body_lit(body);
-    let implied = match value_of(compiled, values, held) {
-        Some(true) if high >= bound => {
-            let left = high.saturating_sub(bound);
-            return add_heavy(hints, compiled, values, body, left, true);
-        }
-        Some(false) if low < bound => {
-            let left = bound.saturating_sub(low).saturating_sub(1);
-            return add_heavy(hints, compiled, values, body, left, false);
-        }
-        None if low < bound && high >= bound => return Ok(()),
-        None if low < bound => held.complement(),
-        _ => held,
-    };
-    hints.push(Hint::Body(body, implied))?;
     Ok(())
 }
 
@@ -224,6 +169,18 @@ fn is_dear(
     true
 }
 
+// A literal of the first variable that doesn't hold.
+fn failing(compiled: &Compiled, values: &Assign) -> Lit
+    requires { length values.now ≡ var_count compiled.now + 1 }
+{
+    let lit = Lit::new(1, true);
+    if holds(values, compiled.vars(), lit) {
+        lit.complement()
+    } else {
+        lit
+    }
+}
+
 /// Adds what the bound may imply.
 pub(crate) fn hints_of_bound(
     hints: &mut Vec<Hint>,
@@ -237,7 +194,7 @@ pub(crate) fn hints_of_bound(
     let mut left = Vec::new(*hints.allocator());
     room(compiled, bound, priced, values, &mut left)?;
     if is_reached(left.as_slice()) {
-        hints.push(Hint::Bound(Lit::new(1, true)))?;
+        hints.push(Hint::Bound(failing(compiled, values)))?;
         return Ok(());
     }
     for var in priced {

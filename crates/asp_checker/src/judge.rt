@@ -22,11 +22,11 @@ use crate::bounds::Bound;
 use crate::confirm::confirms;
 use crate::lines::{are_assumed, are_atoms, lits_of};
 use crate::loops::is_loop;
+use crate::members::{Order, is_stable_by};
 use crate::root::learn;
 use crate::rows::{Before, Rows};
 use crate::watches::Watches;
 use asp_complete::completion::completion;
-use asp_member::stable::is_stable;
 use asp_model::cost::{Cost, cost_of};
 use asp_model::holding::all_hold;
 use asp_model::interp::Interp;
@@ -105,7 +105,12 @@ fn is_in_order(opt: bool, before: &[Interp], set: &Interp) -> bool
 }
 
 // Whether a set of the program's atoms is an answer.
-fn is_answer(alloc: Global, compiled: &Compiled, set: &Interp) -> Result<bool, AllocError>
+fn is_answer(
+    alloc: Global,
+    compiled: &Compiled,
+    set: &Interp,
+    order: &mut Order,
+) -> Result<bool, AllocError>
     requires { list_all (has (atoms_of compiled.now)) set.now ≡ true }
     ensures yes { IfOk result (λ yes. yes ≡ true → Contains (answers compiled.now) set.now) }
     ensures no { IfOk result (λ yes. yes ≡ false → Contains (answers compiled.now) set.now → ⊥) }
@@ -115,7 +120,7 @@ fn is_answer(alloc: Global, compiled: &Compiled, set: &Interp) -> Result<bool, A
     if !all_hold(set, assumptions) {
         return Ok(false);
     }
-    let stable = is_stable(alloc, compiled, set)?;
+    let stable = is_stable_by(alloc, compiled, set, order)?;
     Ok(stable)
 }
 
@@ -182,6 +187,7 @@ fn fault_of_answer(
     sought: Sought,
     before: &[Interp],
     set: &Interp,
+    order: &mut Order,
 ) -> Result<Option<Why>, AllocError>
     requires { AreRightAnswers compiled.now sought before.now }
     ensures { IfOk result (λ o. MatchOption o (IsRightAnswer compiled.now sought before.now set.now) (HasAnswerFault compiled.now sought before.now set.now)) }
@@ -192,7 +198,7 @@ fn fault_of_answer(
     if !are_atoms(compiled, set) {
         return Ok(Some(Why::Literal));
     }
-    let member = is_answer(alloc, compiled, set)?;
+    let member = is_answer(alloc, compiled, set, order)?;
     if !member {
         return Ok(Some(Why::Member));
     }
@@ -228,6 +234,7 @@ pub(crate) fn read_answer(
     compiled: &Compiled,
     sought: Sought,
     answers: &mut Vec<Interp>,
+    order: &mut Order,
     bytes: &[u8],
 ) -> Result<Listed, AllocError>
     requires { AreRightAnswers compiled.now sought answers.old.items }
@@ -238,7 +245,7 @@ pub(crate) fn read_answer(
     };
     let before = answers.as_slice();
     let set = following(alloc, before, &change)?;
-    let fault = fault_of_answer(alloc, compiled, sought, before, &set)?;
+    let fault = fault_of_answer(alloc, compiled, sought, before, &set, order)?;
     match fault {
         Some(why) => Ok(Listed::Wrong(why)),
         None => {

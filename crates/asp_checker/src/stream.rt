@@ -24,6 +24,7 @@ use crate::judge::{
     Judgement, Listed, Read, Why, avoided, bound_at_first, completed, read_answer, read_line,
 };
 use crate::lines::assumptions;
+use crate::members::Order;
 use crate::root::first_root;
 use crate::rows::Rows;
 use crate::watches::Watches;
@@ -74,12 +75,14 @@ fn judge_answers<S: Source>(
     ensures cause { IsErrOf result read_fault → Rose (S.faults source.old) (S.faults source.new) }
     ensures quiet { ¬ IsErrOf result read_fault → S.faults source.new ≡ S.faults source.old }
 {
+    let mut order = Order::new(alloc, compiled)?;
     'answers: for _ in 0..MOST_LINES {
         let next = next_line(reader, source)?;
         if !next {
             return Err(refused(answers.len() + 3));
         }
-        let listed = read_answer(alloc, compiled, sought, answers, reader.line())?;
+        let bytes = reader.line();
+        let listed = read_answer(alloc, compiled, sought, answers, &mut order, bytes)?;
         match listed {
             Listed::Right => {}
             Listed::Wrong(why) => return Ok(Some(why)),

@@ -3,13 +3,14 @@
 //! This is advice alone, and nothing is proved of it but that it ends. What a nogood, a body or the bound says is seen to where
 //! it is looked at, and what isn't named here is found by the passes over all of them.
 ghost use Rattle.std.specs.Prelude.{◌≡◌, ◌+◌, ◌<◌, length};
-ghost use Rattle.asp_vars.specs.Numbering.{bodies_of, var_count};
+ghost use Rattle.asp_vars.specs.Numbering.{var_count};
 
 use crate::bounds::Bound;
-use crate::hints::{Hint, fails, hints_of_body, hints_of_bound, holds, priced};
+use crate::hints::{Hint, fails, hints_of_bound, holds, priced};
 use crate::named::Named;
 use crate::open::{another, another_from, first_open};
-use crate::seek::answer_near;
+use crate::scales::Scales;
+use crate::seek::Seeker;
 use asp_model::interp::Interp;
 use asp_model::seq::Seq;
 use asp_vars::assign::Assign;
@@ -22,6 +23,9 @@ const FIRST_LIMIT: usize = 2000;
 
 const MORE: usize = 300;
 
+// So many literals more are to hold, and a quarter more, until what a line names is looked at again.
+const STRIDE: usize = 8;
+
 // So many literals are few: such a nogood is never retired.
 const SHORT: usize = 2;
 
@@ -32,6 +36,8 @@ struct Watch {
     place: u32,
     // Another of its literals: where that fails, the nogood needn't be looked at.
     other: Lit,
+    // Whether it has no third literal.
+    is_pair: bool,
 }
 
 // What is kept of a nogood, at its place.
@@ -55,6 +61,8 @@ pub struct Watches {
     by_code: Vec<Vec<Watch>>,
     // The nogoods, by their places.
     entries: Vec<Entry>,
+    // How many of them were known before the first line. These always watch.
+    first: usize,
     // Those of lines that watch, and how many there may be before some are retired.
     watching: Vec<usize>,
     limit: usize,
@@ -64,10 +72,13 @@ pub struct Watches {
     retired_left: usize,
     // Those that said something, and watch again from the next line on.
     revived: Vec<usize>,
-    // Those that the line names.
+    // Those that the line names, and how many literals are to hold until they are looked at.
     named: Named,
-    // By variable, the weight bodies that it touches.
-    by_var: Vec<Vec<usize>>,
+    named_at: usize,
+    // The sums of the weight bodies.
+    scales: Scales,
+    // Where listed answers are sought.
+    seeker: Seeker,
     // The variables that cost something.
     priced: Vec<Var>,
     // How many of the literals that came to hold are done with.
@@ -76,10 +87,6 @@ pub struct Watches {
     within: usize,
     // What is to be looked at before anything else.
     hints: Vec<Hint>,
-    // The weight bodies with a literal that got a value since they were looked at, each once.
-    touched: Vec<usize>,
-    // By body, whether it is one of these.
-    is_touched: Vec<bool>,
     // How many literals had come to hold when the bound was looked at; none where it is to be looked at.
     priced_at: Option<usize>,
     // How many literals had come to hold when an answer was sought; none where one is to be sought.
@@ -90,26 +97,108 @@ pub struct Watches {
     stuck: Option<Hint>,
 }
 
-// What is to be done with a nogood that watches a literal that holds.
+// Which of the nogoods that watch a literal that holds is to be seen to.
+#[derive(Clone, Copy)]
 enum Turn {
-    // It can't be hit.
-    Keep,
+    // None: none of them can be hit.
+    End,
+    // The one at this place of the list: all of its literals hold but one at most.
+    Look(usize, u32),
+    // The one at this place watches this literal instead, beside the other.
+    Move(usize, u32, Lit, Lit),
+}
+
+// What is to be done with a nogood that watches a literal.
+enum Status {
+    // Nothing: the other literal that is named with it fails.
+    Idle,
+    // It can't be hit, since this literal fails.
+    Fails(Lit),
     // It watches this literal instead, beside the other.
-    Move(Lit, Lit),
+    Watches(Lit, Lit),
     // All of its literals hold but one at most.
-    Look,
+    Speaks,
+}
+
+// What is to be done with a nogood that watches a literal that holds.
+fn status_of(entry: &mut Entry, row: &[Lit], values: &Assign, vars: u32, held: Lit) -> Status
+    requires { length values.now ≡ vars + 1 }
+{
+    let other = if entry.one == held {
+        entry.two
+    } else {
+        entry.one
+    };
+    if fails(values, vars, other) {
+        return Status::Fails(other);
+    }
+    match another_from(values, vars, row, entry.start as usize, other) {
+        Some(spot) => {
+            entry.one = other;
+            entry.two = spot.lit;
+            entry.start = spot.place;
+            Status::Watches(spot.lit, other)
+        }
+        None => Status::Speaks,
+    }
+}
+
+// The same, where what is named with it is looked at first.
+fn status_at(
+    watch: Watch,
+    entries: &mut [Entry],
+    rows: &[Seq<Lit>],
+    values: &Assign,
+    vars: u32,
+    held: Lit,
+) -> Status
+    requires { length values.now ≡ vars + 1 }
+{
+    if fails(values, vars, watch.other) {
+        return Status::Idle;
+    }
+    if watch.is_pair {
+        return Status::Speaks;
+    }
+    let place = watch.place as usize;
+    let Some(entry) = entries.get_mut(place) else {
+        return Status::Idle;
+    };
+    match rows.get(place) {
+        Some(row) => status_of(entry, row.as_slice(), values, vars, held),
+        None => Status::Idle,
+    }
+}
+
+// The next of the nogoods that watch a literal that holds, from a place of their list on, that is to be seen to.
+fn scan(
+    watches: &mut [Watch],
+    entries: &mut [Entry],
+    rows: &[Seq<Lit>],
+    values: &Assign,
+    vars: u32,
+    held: Lit,
+    start: usize,
+) -> Turn
+    requires { length values.now ≡ vars + 1 }
+{
+    for at in start..watches.len() {
+        let watch = watches[at];
+        let place = watch.place;
+        match status_at(watch, entries, rows, values, vars, held) {
+            Status::Idle => {}
+            Status::Fails(other) => watches[at].other = other,
+            Status::Watches(lit, other) => return Turn::Move(at, place, lit, other),
+            Status::Speaks => return Turn::Look(at, place),
+        }
+    }
+    Turn::End
 }
 
 fn is_watching(entries: &[Entry], watch: Watch) -> bool {
     match entries.get(watch.place as usize) {
         Some(entry) => entry.is_watching,
         None => false,
-    }
-}
-
-fn set_mark(marks: &mut [bool], at: usize, mark: bool) {
-    if let Some(place) = marks.get_mut(at) {
-        *place = mark;
     }
 }
 
@@ -122,40 +211,6 @@ fn lists<T: Drop>(alloc: Global, count: usize) -> Result<Vec<Vec<T>>, AllocError
     Ok(lists)
 }
 
-// Adds a number to the list at a place.
-fn list_at(lists: &mut Vec<Vec<usize>>, place: usize, number: usize) -> Result<(), AllocError> {
-    if let Some(list) = lists.get_mut(place) {
-        list.push(number)?;
-    }
-    Ok(())
-}
-
-// Adds a weight body to the lists of its variable and of those that stand in it.
-fn list_body(
-    by_var: &mut Vec<Vec<usize>>,
-    compiled: &Compiled,
-    body: usize,
-) -> Result<(), AllocError>
-    requires { body < length (bodies_of compiled.now) }
-{
-    list_at(by_var, compiled.body_lit(body).var() as usize, body)?;
-    for lit in compiled.literals(body) {
-        list_at(by_var, lit.var() as usize, body)?;
-    }
-    Ok(())
-}
-
-// By variable, the weight bodies in which it stands, and the one whose variable it is.
-fn bodies_by_var(alloc: Global, compiled: &Compiled) -> Result<Vec<Vec<usize>>, AllocError> {
-    let mut by_var = lists(alloc, compiled.vars() as usize + 1)?;
-    for body in 0..compiled.body_count() {
-        if compiled.bound(body).is_some() {
-            list_body(&mut by_var, compiled, body)?;
-        }
-    }
-    Ok(by_var)
-}
-
 impl Watches {
     /// For a program and a bound, with no nogood yet. All weight bodies are to be looked at.
     pub(crate) fn new(
@@ -164,12 +219,12 @@ impl Watches {
         bound: &Option<Bound>,
     ) -> Result<Watches, AllocError> {
         let by_code = lists(alloc, 2 * (compiled.vars() as usize + 1))?;
-        let by_var = bodies_by_var(alloc, compiled)?;
+        let scales = Scales::new(alloc, compiled)?;
         let priced = priced(alloc, compiled, bound)?;
-        let is_touched = vec![in alloc; false; compiled.body_count()]?;
-        let mut watches = Watches {
+        Ok(Watches {
             by_code,
             entries: Vec::new(alloc),
+            first: 0,
             watching: Vec::new(alloc),
             limit: FIRST_LIMIT,
             retired: Vec::new(alloc),
@@ -177,20 +232,18 @@ impl Watches {
             retired_left: 0,
             revived: Vec::new(alloc),
             named: Named::new(alloc),
-            by_var,
+            named_at: 0,
+            scales,
+            seeker: Seeker::new(alloc),
             priced,
             done: 0,
             within: 0,
             hints: Vec::new(alloc),
-            touched: Vec::new(alloc),
-            is_touched,
             priced_at: None,
             sought_at: None,
             last: None,
             stuck: None,
-        };
-        watches.touch_all(compiled.body_count())?;
-        Ok(watches)
+        })
     }
 
     /// What its lists are taken from.
@@ -198,20 +251,22 @@ impl Watches {
         *self.hints.allocator()
     }
 
-    // So many weight bodies are to be looked at.
-    fn touch_all(&mut self, count: usize) -> Result<(), AllocError> {
-        for body in 0..count {
-            self.touch_body(body)?;
-        }
-        Ok(())
-    }
-
-    fn watch(&mut self, lit: Lit, place: usize, other: Lit) -> Result<(), AllocError> {
+    fn watch(
+        &mut self,
+        lit: Lit,
+        place: usize,
+        other: Lit,
+        is_pair: bool,
+    ) -> Result<(), AllocError> {
         let Ok(place) = u32::try_from(place) else {
             return Ok(());
         };
         if let Some(watches) = self.by_code.get_mut(lit.code()) {
-            watches.push(Watch { place, other })?;
+            watches.push(Watch {
+                place,
+                other,
+                is_pair,
+            })?;
         }
         Ok(())
     }
@@ -237,8 +292,9 @@ impl Watches {
             entry.two = two;
             entry.is_watching = true;
         }
-        self.watch(one, place, two)?;
-        self.watch(two, place, one)
+        let is_pair = lits.len() == 2;
+        self.watch(one, place, two, is_pair)?;
+        self.watch(two, place, one, is_pair)
     }
 
     fn hint(&mut self, place: usize) -> Result<(), AllocError> {
@@ -280,6 +336,7 @@ impl Watches {
         for row in rows {
             self.add(values, vars, row.as_slice(), usize::MAX)?;
         }
+        self.first = self.entries.len();
         Ok(())
     }
 
@@ -364,6 +421,9 @@ impl Watches {
 
     // The nogood said something.
     fn use_now(&mut self, place: usize) {
+        if place < self.first {
+            return;
+        }
         let now = self.entries.len();
         if let Some(entry) = self.entries.get_mut(place) {
             if entry.used < now {
@@ -398,16 +458,14 @@ impl Watches {
         requires { length values.now ≡ vars + 1 }
     {
         self.hints.clear();
-        for body in &self.touched {
-            set_mark(self.is_touched.as_mut_slice(), *body, false);
-        }
-        self.touched.clear();
+        self.scales.restart(values, vars);
         self.done = 0;
         self.within = 0;
         self.priced_at = None;
         self.sought_at = None;
         self.retired_left = 0;
         self.named.clear();
+        self.named_at = 0;
         self.revive(values, vars, rows)?;
         if let Some(hint) = self.stuck {
             self.hints.push(hint)?;
@@ -437,51 +495,6 @@ impl Watches {
         }
     }
 
-    // What is to be done with a nogood that watches this literal.
-    fn turn(
-        &mut self,
-        rows: &[Seq<Lit>],
-        values: &Assign,
-        vars: u32,
-        watch: Watch,
-        held: Lit,
-    ) -> Turn
-        requires { length values.now ≡ vars + 1 }
-    {
-        if fails(values, vars, watch.other) {
-            return Turn::Keep;
-        }
-        let Some(entry) = self.entries.get_mut(watch.place as usize) else {
-            return Turn::Keep;
-        };
-        let other = if entry.one == held {
-            entry.two
-        } else {
-            entry.one
-        };
-        if fails(values, vars, other) {
-            return Turn::Keep;
-        }
-        let Some(row) = rows.get(watch.place as usize) else {
-            return Turn::Keep;
-        };
-        match another_from(values, vars, row.as_slice(), entry.start as usize, other) {
-            Some(spot) => {
-                entry.one = other;
-                entry.two = spot.lit;
-                entry.start = spot.place;
-                Turn::Move(spot.lit, other)
-            }
-            None => Turn::Look,
-        }
-    }
-
-    // The next nogood that watches this literal.
-    fn watch_at(&self, held: Lit) -> Option<Watch> {
-        let watches = self.by_code.get(held.code())?;
-        watches.get(self.within).copied()
-    }
-
     // Lets a nogood watch another literal than the one that holds.
     fn rewatch(&mut self, held: Lit, place: u32, lit: Lit, other: Lit) -> Result<(), AllocError> {
         if let Some(watches) = self.by_code.get_mut(held.code()) {
@@ -490,7 +503,11 @@ impl Watches {
             }
         }
         if let Some(watches) = self.by_code.get_mut(lit.code()) {
-            watches.push(Watch { place, other })?;
+            watches.push(Watch {
+                place,
+                other,
+                is_pair: false,
+            })?;
         }
         Ok(())
     }
@@ -506,18 +523,29 @@ impl Watches {
         requires { length values.now ≡ vars + 1 }
     {
         for _ in 0..u64::MAX {
-            let Some(watch) = self.watch_at(held) else {
+            let Some(watches) = self.by_code.get_mut(held.code()) else {
                 return Ok(None);
             };
-            let place = watch.place;
-            match self.turn(rows, values, vars, watch, held) {
-                Turn::Keep => self.within = self.within.saturating_add(1),
-                Turn::Look => {
-                    self.within = self.within.saturating_add(1);
+            let entries = self.entries.as_mut_slice();
+            match scan(
+                watches.as_mut_slice(),
+                entries,
+                rows,
+                values,
+                vars,
+                held,
+                self.within,
+            ) {
+                Turn::End => return Ok(None),
+                Turn::Look(at, place) => {
+                    self.within = at.saturating_add(1);
                     self.use_now(place as usize);
                     return Ok(Some(place as usize));
                 }
-                Turn::Move(lit, other) => self.rewatch(held, place, lit, other)?,
+                Turn::Move(at, place, lit, other) => {
+                    self.within = at;
+                    self.rewatch(held, place, lit, other)?;
+                }
             }
         }
         Ok(None)
@@ -592,68 +620,28 @@ impl Watches {
         Ok(None)
     }
 
-    fn touch_body(&mut self, body: usize) -> Result<(), AllocError> {
-        if self.is_touched.get(body).copied().unwrap_or(true) {
-            return Ok(());
-        }
-        set_mark(self.is_touched.as_mut_slice(), body, true);
-        self.touched.push(body)?;
-        Ok(())
-    }
-
-    // The weight bodies that the literal touches are to be looked at.
-    fn touch(&mut self, lit: Lit) -> Result<(), AllocError> {
-        let Some(bodies) = self.by_var.get(lit.var() as usize) else {
-            return Ok(());
-        };
-        for body in bodies {
-            if !self.is_touched.get(*body).copied().unwrap_or(true) {
-                set_mark(self.is_touched.as_mut_slice(), *body, true);
-                self.touched.push(*body)?;
-            }
-        }
-        Ok(())
-    }
-
     // The next nogood that may be hit, or imply something.
     fn next_nogood(
         &mut self,
+        compiled: &Compiled,
         rows: &[Seq<Lit>],
         values: &Assign,
-        vars: u32,
         trail: &[Lit],
     ) -> Result<Option<usize>, AllocError>
-        requires { length values.now ≡ vars + 1 }
+        requires { length values.now ≡ var_count compiled.now + 1 }
     {
         for _ in 0..u64::MAX {
             let Some(held) = trail.get(self.done).copied() else {
                 return Ok(None);
             };
-            if let Some(place) = self.next_of(rows, values, vars, held)? {
+            if let Some(place) = self.next_of(rows, values, compiled.vars(), held)? {
                 return Ok(Some(place));
             }
-            self.touch(held)?;
+            self.scales.count(compiled, values, held)?;
             self.done = self.done.saturating_add(1);
             self.within = 0;
         }
         Ok(None)
-    }
-
-    // What the touched weight bodies may imply.
-    fn weigh(&mut self, compiled: &Compiled, values: &Assign) -> Result<(), AllocError>
-        requires { length values.now ≡ var_count compiled.now + 1 }
-    {
-        for _ in 0..u64::MAX {
-            let Some(body) = self.touched.pop() else {
-                return Ok(());
-            };
-            set_mark(self.is_touched.as_mut_slice(), body, false);
-            hints_of_body(&mut self.hints, compiled, values, body)?;
-            if !self.hints.is_empty() {
-                return Ok(());
-            }
-        }
-        Ok(())
     }
 
     // What the bound may imply.
@@ -690,14 +678,14 @@ impl Watches {
         listed: &[Interp],
         values: &Assign,
         held: usize,
-    ) -> Option<usize>
+    ) -> Result<Option<usize>, AllocError>
         requires { length values.now ≡ var_count compiled.now + 1 }
     {
         if listed.is_empty() || self.sought_at == Some(held) {
-            return None;
+            return Ok(None);
         }
         self.sought_at = Some(held);
-        answer_near(compiled, listed, values)
+        self.seeker.answer_near(compiled, listed, values)
     }
 
     /// What is to be looked at next, or nothing.
@@ -716,24 +704,28 @@ impl Watches {
         if let Some(hint) = self.hints.pop() {
             return Ok(Some(hint));
         }
-        if let Some(place) = self.next_nogood(rows, values, compiled.vars(), trail)? {
+        let held = trail.len();
+        if held >= self.named_at {
+            if let Some(place) = self.named.next(placed, values, compiled.vars(), held)? {
+                return Ok(Some(Hint::Placed(place)));
+            }
+            self.named_at = held.saturating_add(held / 4).saturating_add(STRIDE);
+        }
+        if let Some(place) = self.next_nogood(compiled, rows, values, trail)? {
             return Ok(Some(Hint::Nogood(place)));
         }
-        if let Some(place) = self
-            .named
-            .next(placed, values, compiled.vars(), trail.len())?
-        {
-            return Ok(Some(Hint::Placed(place)));
-        }
-        self.weigh(compiled, values)?;
+        self.scales.next_hints(&mut self.hints, compiled, values)?;
         if let Some(hint) = self.hints.pop() {
             return Ok(Some(hint));
+        }
+        if let Some(place) = self.named.next(placed, values, compiled.vars(), held)? {
+            return Ok(Some(Hint::Placed(place)));
         }
         self.price(compiled, bound, values, trail)?;
         if let Some(hint) = self.hints.pop() {
             return Ok(Some(hint));
         }
-        if let Some(place) = self.next_answer(compiled, listed, values, trail.len()) {
+        if let Some(place) = self.next_answer(compiled, listed, values, trail.len())? {
             return Ok(Some(Hint::Answer(place)));
         }
         match self.next_of_retired(rows, values, compiled.vars())? {

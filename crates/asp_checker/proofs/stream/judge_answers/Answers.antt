@@ -7,9 +7,14 @@ use Rattle.asp_checker.proofs.stream.judge_answers.Goals as goal
 pub answers-init : goal.answers-init
 answers-init g c = record { listed = rw c.requires (listed_first c.args.compiled.now c.args.sought (g.S.Source.left c.args.source.now) c.args.reader.now.behind); quiet = refl }
 
+pub returns-in_err-order-clause-says : goal.returns-in_err-order-clause-says
+returns-in_err-order-clause-says g c =
+    let p = err_from_is_err_and c.from_residual.result c.from_residual.ensures.1 in
+    rw (p.1, p.2) (no_memory c.args.compiled.now (g.S.Source.left c.args.source.now) (front_of (proof_of c.args.sought [] []) ++ c.args.reader.now.behind))
+
 pub returns-in_err-next-clause-says : goal.returns-in_err-next-clause-says
 returns-in_err-next-clause-says g c =
-    let p = err_from_is_err_and c.from_residual.result c.from_residual.ensures.1 in
+    let p = err_from_is_err_and c.from_residual-in_err-next.result c.from_residual-in_err-next.ensures.1 in
     rw (p.1, p.2)
     (step_failed c.args.compiled.now (g.S.Source.left c.args.source.now) (g.S.Source.left c.answers.source)
     (g.S.Source.left c.next_line.new.source) _ (front_of (proof_of c.args.sought c.answers.answers.items [])) c.answers.reader
@@ -30,7 +35,7 @@ returns-in_err-listed-clause-says g c =
 pub returns-in-Wrong-clause-says : goal.returns-in-Wrong-clause-says
 returns-in-Wrong-clause-says g c =
     let n = rw c.if-not-next.false at c.in_ok-next.ensures.next in
-    let h = rw (c.in-Wrong.is, c.line.ensures) at c.in_ok-listed.ensures in
+    let h = rw (c.in-Wrong.is, c.line-bytes.ensures) at c.in_ok-listed.ensures in
     let at =
     listed_at c.args.compiled.now c.args.sought c.answers.answers.items (g.S.Source.left c.args.source.now) (g.S.Source.left c.answers.source)
     (g.S.Source.left c.next_line.new.source) _ c.answers.reader c.next_line.new.reader c.answers.invariant.listed n in
@@ -40,7 +45,7 @@ returns-in-Wrong-clause-says g c =
 pub returns-in-Other-clause-says : goal.returns-in-Other-clause-says
 returns-in-Other-clause-says g c =
     let n = rw c.if-not-next.false at c.in_ok-next.ensures.next in
-    let h = rw (c.in-Other.is, c.line.ensures) at c.in_ok-listed.ensures in
+    let h = rw (c.in-Other.is, c.line-bytes.ensures) at c.in_ok-listed.ensures in
     let at =
     listed_at c.args.compiled.now c.args.sought c.answers.answers.items (g.S.Source.left c.args.source.now) (g.S.Source.left c.answers.source)
     (g.S.Source.left c.next_line.new.source) _ c.answers.reader c.next_line.new.reader c.answers.invariant.listed n in
@@ -50,7 +55,7 @@ returns-in-Other-clause-says g c =
 pub answers-preserved : goal.answers-preserved
 answers-preserved g c =
     let n = rw c.if-not-next.false at c.in_ok-next.ensures.next in
-    let h = rw (c.in-Right.is, c.line.ensures) at c.in_ok-listed.ensures in
+    let h = rw (c.in-Right.is, c.line-bytes.ensures) at c.in_ok-listed.ensures in
     let at =
     listed_at c.args.compiled.now c.args.sought c.answers.answers.items (g.S.Source.left c.args.source.now) (g.S.Source.left c.answers.source)
     (g.S.Source.left c.next_line.new.source) _ c.answers.reader c.next_line.new.reader c.answers.invariant.listed n in
