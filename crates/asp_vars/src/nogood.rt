@@ -33,6 +33,14 @@ impl Lits {
         }
     }
 
+    /// No literals, with room for so many.
+    pub fn with_capacity(alloc: Global, room: usize) -> Result<Lits, AllocError>
+        ensures { IfOk result (λ lits. lits ≡ []) }
+    {
+        let items = SmallVec::with_capacity(alloc, room)?;
+        Ok(Lits { items })
+    }
+
     /// These literals.
     pub fn from_slice(alloc: Global, lits: &[Lit]) -> Result<Lits, AllocError>
         ensures { IfOk result (λ l. l ≡ lits.now) }
