@@ -52,7 +52,7 @@ program-is mode v s f is = is.program ∙ ap (λ (t : Task). t.program) (sym (bo
 pub seeks : (mode : Mode) (v : Booked) (s : Searching) (f : Units) → IsReady mode v s f → sought (board v).task.goal ≡ reasoning_of s.mode
 seeks mode v s f is = sought-is mode s.bound (board v).task.goal is.work.goal ∙ ap reasoning_of (sym is.mode_is)
 
-ready-same : (mode : Mode) (v : Booked) (s t : Searching) (f g : Units) → IsReady mode v s f → HasSameTask s t → IsAtWork (board v) 0 mode s.known s.bound g → IsReady mode v t g
+pub ready-same : (mode : Mode) (v : Booked) (s t : Searching) (f g : Units) → IsReady mode v s f → HasSameTask s t → IsAtWork (board v) 0 mode s.known s.bound g → IsReady mode v t g
 ready-same mode v s t f g is same at = record {
   task = is.task;
   program = same.program ∙ is.program;
@@ -68,7 +68,7 @@ underway-same mode v s t f g is same learnt at = record {
   learnt = learnt;
 }
 
-unchanged : (v : Booked) → OnlyRecords v v
+pub unchanged : (v : Booked) → OnlyRecords v v
 unchanged v = record { task = refl; adds = adds-self v; nodes = refl; out = refl; pool = refl }
 
 -- the work that is left, by what the search was before
@@ -82,12 +82,12 @@ left-same s t g same =
     (var_count s.program + 1) (length t.entries)) same.known
     ∙ ap (λ (b : Option (List ℤ)). work g.left (length (models s.program)) (unfound s.program (used s) b) t.learnt (var_count s.program + 1) (length t.entries)) same.bound
 
-less-same : (s t : Searching) (g : Units) (n : ℕ) → HasSameTask s t →
+pub less-same : (s t : Searching) (g : Units) (n : ℕ) → HasSameTask s t →
     work g.left (length (models s.program)) (unfound s.program (used s) s.bound) t.learnt (var_count s.program + 1) (length t.entries) < n →
     work_left t g < n
 less-same s t g n same less = subst (λ k. k < n) (sym (left-same s t g same)) less
 
-unfound-le : (p : Program) (known : List Atoms) (bound : Option (List ℤ)) → unfound p known bound ≤ length (models p)
+pub unfound-le : (p : Program) (known : List Atoms) (bound : Option (List ℤ)) → unfound p known bound ≤ length (models p)
 unfound-le p known bound =
     let q : Atoms → Bool = λ S. not (is_done p known bound S) in
     omega (arith, length-filter q (models p), count_by-le-length q (models p))
@@ -203,7 +203,7 @@ not-dear p None S less = refl
 not-dear p (Some d) S less = ap not less
 
 -- so it may be recorded
-may-record : (mode : Mode) (t : Task) (bound : Option (List ℤ)) (S : Atoms) → IsSought mode bound t.goal → IsSmaller (cost t.program S) bound → MayRecord mode t S
+pub may-record : (mode : Mode) (t : Task) (bound : Option (List ℤ)) (S : Atoms) → IsSought mode bound t.goal → IsSmaller (cost t.program S) bound → MayRecord mode t S
 may-record Enum t bound S e less = may-list t bound S e (not-dear t.program bound S less)
 may-record Opt t bound S e less = may-optimise t e
 may-record (Consequences r) t bound S e less = may-tell t r bound S e
@@ -217,7 +217,7 @@ answer-may gives silent mode v s t f g is r h S e =
     (subst (λ (p : Program). IsSmaller (cost p S) s.bound) is.ready.program d.cheaper)
 
 -- the search and its units after the answer was recorded
-work-recorded : (mode : Mode) (b c : Board) (s t : Searching) (q : List Literal) (f : Units) (S : Atoms) → s.program ≡ b.task.program →
+pub work-recorded : (mode : Mode) (b c : Board) (s t : Searching) (q : List Literal) (f : Units) (S : Atoms) → s.program ≡ b.task.program →
     IsAtWork b 0 mode s.known s.bound f → list_any (same_set S) (used_up (reasoning_of mode) s.program s.known) ≡ false → Records mode s t q S →
     IsRecorded mode b c S →
     IsAtWork c 0 mode t.known t.bound f
@@ -236,7 +236,7 @@ work-recorded Opt b c s t q f S p at new r (inr done) =
     (subst (λ (x : Board). IsAtWork x 0 Opt s.known (Some (cost b.task.program S)) f) (sym done.0) (work-unimproved b 0 S done.1.best s.known s.bound f at done.1.stands done.1.dearer)))
 
 -- fewer models are left to be found
-fewer-by : (mode : Mode) (s t : Searching) (q : List Literal) (S : Atoms) → IsTrue (is_stable s.program S) →
+pub fewer-by : (mode : Mode) (s t : Searching) (q : List Literal) (S : Atoms) → IsTrue (is_stable s.program S) →
     list_any (same_set S) (used_up (reasoning_of mode) s.program s.known) ≡ false → IsSmaller (cost s.program S) s.bound → Records mode s t q S →
     unfound s.program (used_up (reasoning_of mode) s.program t.known) t.bound < unfound s.program (used_up (reasoning_of mode) s.program s.known) s.bound
 fewer-by Enum s t q S stable new less r =
@@ -250,7 +250,7 @@ fewer-by Opt s t q S stable new less r =
     (subst (λ (k : List Atoms). unfound s.program k (Some (cost s.program S)) < unfound s.program s.known s.bound) (sym r.0) (fewer-lower s.program s.known s.bound S stable new less))
 
 -- the same, by the searches' own modes
-fewer-used : (mode : Mode) (s t : Searching) → s.mode ≡ mode → t.mode ≡ s.mode →
+pub fewer-used : (mode : Mode) (s t : Searching) → s.mode ≡ mode → t.mode ≡ s.mode →
     unfound s.program (used_up (reasoning_of mode) s.program t.known) t.bound < unfound s.program (used_up (reasoning_of mode) s.program s.known)
     s.bound →
     unfound s.program (used_up (reasoning_of t.mode) s.program t.known) t.bound < unfound s.program (used s) s.bound
@@ -314,7 +314,7 @@ pub record IsAlong (mode : Mode) (v w : Booked) (s t : Searching) (g : Units) : 
 pub along-begins : (mode : Mode) (v : Booked) (s : Searching) (f : Units) → IsUnderway mode v s f → IsAlong mode v v s s f
 along-begins mode v s f is = record { underway = is; only = unchanged v; cube = refl }
 
-only-further : (u v w : Booked) → OnlyRecords u v → OnlyRecords v w → OnlyRecords u w
+pub only-further : (u v w : Booked) → OnlyRecords u v → OnlyRecords v w → OnlyRecords u w
 only-further u v w a b = record { task = b.task ∙ a.task; adds = adds-trans u v w a.adds b.adds; nodes = b.nodes ∙ a.nodes; out = b.out ∙ a.out; pool = b.pool ∙ a.pool }
 
 pub along-on : (mode : Mode) (u v w : Booked) (r s t : Searching) (f g : Units) (how : Course) → IsAlong mode u v r s f → Goes mode v w s t f g how → IsAlong mode u w r t g

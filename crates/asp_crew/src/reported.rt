@@ -31,7 +31,7 @@ fn end_by(enough: bool, closed: bool) -> End
 
 /// What one search has to say whose journal is the book's: the answers that were delivered in order, each once, and the best.
 /// So many nogoods were shared, and `short` says whether a worker ended for want of memory.
-pub(crate) fn told(
+pub fn told(
     mode: Mode,
     book: Book,
     unpaid: Option<Conflict>,

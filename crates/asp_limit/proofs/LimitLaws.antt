@@ -57,7 +57,8 @@ module _ {A : Type 0} where
           ap (take (n + length rows)) is ∙ take_at (take n xs ++ rows) rest (n + length rows) count
       by false e =
           let all : take n xs ≡ xs = take_all n xs (let less = leb-false n (length xs) e in omega (arith, less)) in
-          let count : length xs ≡ (length (take n xs) + length rows) + length rest = ap length is ∙ length-append (take n xs ++ rows) rest ∙ ap (λ (k : ℕ). k + length rest) (length-append (take n xs) rows) in
+          let count : length xs ≡ (length (take n xs) + length rows) + length rest =
+          ap length is ∙ length-append (take n xs ++ rows) rest ∙ ap (λ (k : ℕ). k + length rest) (length-append (take n xs) rows) in
           let none : rows ≡ [] = none-of rows (omega (arith, count, ap length all)) in
           ap (λ (k : ℕ). take k xs) (let same : n + length rows ≡ n = omega (arith, ap length none) in same) ∙ sym (append-nil (take n xs)) ∙ ap (λ (t : List A). take n xs ++ t) (sym none)
 
@@ -65,7 +66,8 @@ module _ {A : Type 0} where
   pub left-more : (written rows all : List A) (n k : ℕ) → IsPrefix ((written ++ take n (drop (length written) all)) ++ rows) all → (n ≡ 0) ⊎ (k ≡ 0) → k ≤ length rows
       → take (n + (length rows - k)) (drop (length (written ++ take k rows)) all) ≡ take n (drop (length written) all) ++ drop k rows
   left-more written rows all n k front (inl none) le =
-      let follows : (written ++ take n (drop (length written) all)) ++ rows ≡ written ++ rows = ap (λ (m : ℕ). (written ++ take m (drop (length written) all)) ++ rows) none ∙ ap (λ (t : List A). t ++ rows) (append-nil written) in
+      let follows : (written ++ take n (drop (length written) all)) ++ rows ≡ written ++ rows =
+      ap (λ (m : ℕ). (written ++ take m (drop (length written) all)) ++ rows) none ∙ ap (λ (t : List A). t ++ rows) (append-nil written) in
       let first : IsPrefix (written ++ take k rows) all = prefix-cut written rows all k (front.0, ap (λ (t : List A). t ++ front.0) (sym follows) ∙ front.1) in
       let rest : drop (length (written ++ take k rows)) all ≡ drop k rows ++ front.0 =
       ap (drop (length (written ++ take k rows))) (sym first.1) ∙ drop-at (written ++ take k rows) first.0 in
@@ -76,7 +78,8 @@ module _ {A : Type 0} where
   left-more written rows all n k front (inr none) le =
       let xs : List A = drop (length written) all in
       let is : xs ≡ (take n xs ++ rows) ++ front.0 =
-      ap (drop (length written)) (sym front.1) ∙ ap (drop (length written)) (ap (λ (t : List A). t ++ front.0) (append_assoc written (take n xs) rows) ∙ append_assoc written (take n xs ++ rows) front.0)
+      ap (drop (length written)) (sym front.1)
+      ∙ ap (drop (length written)) (ap (λ (t : List A). t ++ front.0) (append_assoc written (take n xs) rows) ∙ append_assoc written (take n xs ++ rows) front.0)
       ∙ drop-at written ((take n xs ++ rows) ++ front.0) in
       ap (λ (m : ℕ). take (n + (length rows - m)) (drop (length (written ++ take m rows)) all)) none
       ∙ ap (λ (t : List A). take (n + (length rows - 0)) (drop (length t) all)) (append-nil written)
@@ -90,21 +93,27 @@ module _ {A : Type 0} where
   left-fits written rows all n k most front room small = by (nat_le n (length (drop (length written) all))) refl
     where
       whole : length all ≡ (length (written ++ take n (drop (length written) all)) + length rows) + length front.0
-      whole = ap length (sym front.1) ∙ length-append ((written ++ take n (drop (length written) all)) ++ rows) front.0 ∙ ap (λ (m : ℕ). m + length front.0) (length-append (written ++ take n (drop (length written) all)) rows)
+      whole = ap length (sym front.1) ∙ length-append ((written ++ take n (drop (length written) all)) ++ rows) front.0
+          ∙ ap (λ (m : ℕ). m + length front.0) (length-append (written ++ take n (drop (length written) all)) rows)
 
       is : (drop (length written) all) ≡ (take n (drop (length written) all) ++ rows) ++ front.0
-      is = ap (drop (length written)) (sym front.1) ∙ ap (drop (length written)) (ap (λ (t : List A). t ++ front.0) (append_assoc written (take n (drop (length written) all)) rows) ∙ append_assoc written (take n (drop (length written) all) ++ rows) front.0)
+      is = ap (drop (length written)) (sym front.1)
+          ∙ ap (drop (length written)) (ap (λ (t : List A). t ++ front.0) (append_assoc written (take n (drop (length written) all)) rows) ∙ append_assoc written (take n (drop (length written) all) ++ rows) front.0)
           ∙ drop-at written ((take n (drop (length written) all) ++ rows) ++ front.0)
 
       by : (b : Bool) → nat_le n (length (drop (length written) all)) ≡ b → n + (length rows - k) < most
       by true e = omega (arith, room, length-append written (take n (drop (length written) all)), length-take-le n (drop (length written) all) (leb-true n (length (drop (length written) all)) e))
       by false e =
-          let all-taken : take n (drop (length written) all) ≡ (drop (length written) all) = take_all n (drop (length written) all) (let less = leb-false n (length (drop (length written) all)) e in omega (arith, less)) in
-          let count : length (drop (length written) all) ≡ (length (take n (drop (length written) all)) + length rows) + length front.0 = ap length is ∙ length-append (take n (drop (length written) all) ++ rows) front.0 ∙ ap (λ (m : ℕ). m + length front.0) (length-append (take n (drop (length written) all)) rows) in
+          let all-taken : take n (drop (length written) all) ≡ (drop (length written) all) =
+          take_all n (drop (length written) all) (let less = leb-false n (length (drop (length written) all)) e in omega (arith, less)) in
+          let count : length (drop (length written) all) ≡ (length (take n (drop (length written) all)) + length rows) + length front.0 =
+          ap length is ∙ length-append (take n (drop (length written) all) ++ rows) front.0
+          ∙ ap (λ (m : ℕ). m + length front.0) (length-append (take n (drop (length written) all)) rows) in
           omega (arith, count, ap length all-taken, small)
 
 -- one set more is copied
-pub front-more : (atoms : Atoms) (old new : Listed) (rows : List Row) (sets : List Atoms) (place : ℕ) (row : Row) (set : Atoms) → map (λ (x : Row). x.set) rows ≡ sets → row ≡ get_or rows place row → place < length rows
+pub front-more : (atoms : Atoms) (old new : Listed) (rows : List Row) (sets : List Atoms) (place : ℕ) (row : Row) (set : Atoms)
+    → map (λ (x : Row). x.set) rows ≡ sets → row ≡ get_or rows place row → place < length rows
     → set ≡ row.set → old ≡ record { atoms = atoms; sets = take place sets } → new ≡ record old { sets = old.sets ++ set ∷ [] } → new ≡ record { atoms = atoms; sets = take (place + 1) sets }
 front-more atoms old new rows sets place row set are is within same was now =
     let f : Row → Atoms = λ (x : Row). x.set in

@@ -245,7 +245,8 @@ module _ (p : Program) (units models : ℕ) (written left : List Atoms) (t : Tol
   first-full is full = first is (full-says models written left cut full).0 (full-enough full) (full-kept models written left t.rest.sets cut small (answers p) full front)
 
   -- what is reported where it isn't the first
-  told-left : (end : End) → ReportsLast end p (kept_of models written t) d.report → ¬ (end ≡ Limited) → left ≡ [] → o.report ≡ Some (with_answers (left_of models all_heard t.rest.sets) (report_of all_heard t))
+  told-left : (end : End) → ReportsLast end p (kept_of models written t) d.report → ¬ (end ≡ Limited) → left ≡ []
+      → o.report ≡ Some (with_answers (left_of models all_heard t.rest.sets) (report_of all_heard t))
   told-left end told isn't none =
       d.reports ∙ ap (λ (r : Report). Some r) (plain end told isn't)
       ∙ ap (λ (Ss : List Atoms). Some (with_answers Ss (report_of all_heard t))) (sym (left-kept models written left t.rest.sets cut small none))

@@ -147,7 +147,8 @@ runs-memory given a kept reads writes quiet =
     record { means = means; exact = exact given a None Memory means (λ isn't. quiet); later = (reads, writes) }
 
 written : (given : Options) (a : Around) (report : Option Report) → (s : IsSolved given a report) → IsFew given s.program s.done → (end : End) (model : Bool) → s.done.results.end ≡ end →
-    has_model s.done.results ≡ model → Appends a.held a.held' (report_text (asked given s.program) (report_with (set_aside given s.program) s.done) (layout_of given)) → Means given a report (status_for end model)
+    has_model s.done.results ≡ model → Appends a.held a.held' (report_text (asked given s.program) (report_with (set_aside given s.program) s.done) (layout_of given))
+    → Means given a report (status_for end model)
 written given a report s few Finished true e m text = record { solved = s; end_is = e; model_is = m; few = few; text = text }
 written given a report s few Finished false e m text = record { solved = s; end_is = e; model_is = m; few = few; text = text }
 written given a report s few Limited model e m text =
@@ -238,7 +239,8 @@ runs-streamed given a p o whole from sound numbers reads quiet on (inl cut) =
     by (inr m) short = subst (Means given a o.report) (sym m.0.1) (inr (inr (inl (short, m.1))))
 runs-streamed given a p o whole from sound numbers reads quiet on (inr (inl f)) = by f.3
   where
-    by : DeliversRest (searched given p) f.0 f.1 given.models a.held a.held' a.writes a.writes' o ⊎ DeliversPart (searched given p) f.0 f.1 given.models a.held a.held' a.writes a.writes' o → Runs given a o
+    by : DeliversRest (searched given p) f.0 f.1 given.models a.held a.held' a.writes a.writes' o ⊎ DeliversPart (searched given p) f.0 f.1 given.models a.held a.held' a.writes a.writes' o
+        → Runs given a o
     by (inl d) =
         let solved = streamed-solved given a p f.0 f.1 o whole from sound numbers on f.2 d.reports in
         let means = delivered given a o.status o.report solved (λ streamed some. d.few some)

@@ -292,7 +292,8 @@ Means given a report (Refused fault line) = Reads given × IsRefused given.forma
 Means given a report ReadFault = Reads given × IsUnread given.format a report
 Means given a report TooLong = Reads given × IsRefused given.format a report errors.TooLong
 Means given a report Unnamed = IsUnnamed given a report
-Means given a report (WriteFault closed) = IsCutOff given a report ⊎ (ArePartsCutOff given a report ⊎ ((IsStreamCut given a report × Rose a.writes a.writes') ⊎ (IsFirstCut given a report ⊎ IsPartCut given a report)))
+Means given a report (WriteFault closed) =
+    IsCutOff given a report ⊎ (ArePartsCutOff given a report ⊎ ((IsStreamCut given a report × Rose a.writes a.writes') ⊎ (IsFirstCut given a report ⊎ IsPartCut given a report)))
 Means given a report Parts = IsParted given a report
 
 -- an accepted text, where one is read
