@@ -123,7 +123,8 @@ abbrev pub AreAsking : Found → Type 0
 AreAsking f = IsAlone f × (f.queries ≡ true → unasked f ≡ None)
 
 abbrev pub IsAsking : Options → Type 0
-IsAsking o = o.queries ≡ true → (o.proof ≡ false) × (o.all_optima ≡ false) × (o.stream ≡ false) × (o.make ≡ None) × (o.split ≡ None) × (o.models ≡ 0) × (o.format ≡ Aspif) × (seeks_consequences (Some o.mode) ≡ false)
+IsAsking o = o.queries ≡ true → (o.proof ≡ false) × (o.all_optima ≡ false) × (o.stream ≡ false) × (o.make ≡ None) × (o.split ≡ None) × (o.models ≡ 0) ×
+    (o.format ≡ Aspif) × (seeks_consequences (Some o.mode) ≡ false)
 
 -- what was found with an option's value; none where the option doesn't take it
 abbrev pub found_with : Found → Name → List ℕ → Option Found
