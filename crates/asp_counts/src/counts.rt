@@ -21,6 +21,8 @@ pub struct Counts {
     pub kept: u64,
     /// Nogoods that were kept and are dropped, those of propagators too.
     pub dropped: u64,
+    /// The query of a series that is being answered, counted from 1; 0 where there is no series.
+    pub query: u64,
 }
 
 impl Counts {
@@ -36,6 +38,7 @@ impl Counts {
             answers: 0,
             kept: 0,
             dropped: 0,
+            query: 0,
         }
     }
 
@@ -62,7 +65,7 @@ impl Counts {
         self.kept = kept;
     }
 
-    /// Adds what another search did.
+    /// Adds what another search did. The query stays.
     pub fn add(&mut self, other: &Counts)
         ensures { self.new ≡ joined self.old other.now }
     {

@@ -247,6 +247,7 @@ fn step<K: Sink, W: Watch>(
     ensures closed { IfErr result (λ s. TellsClosed s (K.is_closed sink.new)) }
     ensures heard { W.IsAfter watch.old watch.new }
 {
+    counts.query = number;
     match answer(alloc, asking, counts, watch) {
         Ok(reply) => {
             let next = hand_over(alloc, asking, number, course, &reply, sink);

@@ -1,7 +1,7 @@
 -- What the notes get while a run goes on.
-use Rattle.std.specs.Prelude.{◌≡◌, ℕ, ◌+◌, ◌<◌, ◌≤◌, Bool, false, List, [], ◌∷◌, ◌++◌, codes, ℤ, Option, None, Some}
+use Rattle.std.specs.Prelude.{◌≡◌, ℕ, ◌+◌, ◌<◌, ◌≤◌, Bool, false, List, [], ◌∷◌, ◌++◌, codes, ℤ, Option, None, Some, cond, nat_eq}
 use Rattle.std.specs.List.{flat_map}
-use Rattle.std.specs.Fmt.{signed_decimal}
+use Rattle.std.specs.Fmt.{decimal, signed_decimal}
 use Rattle.asp_counts.specs.declared.counts.Counts.{Counts}
 pub use Rattle.asp_counts.specs.Counting.{nothing}
 use Rattle.asp_top.specs.Counts.{item_text, told_items}
@@ -17,8 +17,12 @@ abbrev pub best_text : Option (List ℤ) → List ℕ
 best_text None = []
 best_text (Some c) = codes ", best" ++ flat_map (λ q. 32 ∷ signed_decimal q) c
 
+-- the end of a line: in a series it names the query that is being answered
+abbrev pub end_of : ℕ → List ℕ
+end_of query = cond (nat_eq query 0) (codes "\n") (codes ", query " ++ decimal query ++ codes "\n")
+
 abbrev pub line_of : Told → List ℕ
-line_of t = flat_map item_text (told_items t.counts) ++ best_text t.best ++ codes "\n"
+line_of t = flat_map item_text (told_items t.counts) ++ best_text t.best ++ end_of t.counts.query
 
 -- neither conflicts nor answers are fewer, and one of them are more
 pub record IsMore (c d : Counts) : Type 0 where

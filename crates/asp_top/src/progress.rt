@@ -3,13 +3,13 @@ ghost use Rattle.std.specs.Prelude.{◌≡◌, ◌<◌, IsTrue, true};
 ghost use Rattle.std.specs.Option.{option_copied};
 ghost use Rattle.asp_buffer.specs.Out.{Puts, out};
 ghost use Rattle.asp_top.specs.Notes.{Writes, notes_of};
-ghost use Rattle.asp_top.specs.Progress.{IsMore, best_text, line_of, nothing};
+ghost use Rattle.asp_top.specs.Progress.{IsMore, best_text, end_of, line_of, nothing};
 ghost use Rattle.asp_top.specs.Telling.{EndsWith};
 
 use crate::counts::{Tally, put_items, told_items};
 use crate::notes::note;
 use crate::status::Outcome;
-use asp_buffer::{Waiting, flush, put};
+use asp_buffer::{Waiting, flush, put, put_number};
 use asp_cli::Options;
 use asp_counts::counts::Counts;
 use asp_counts::watch::Watch;
@@ -40,6 +40,19 @@ fn put_best<N: Sink>(
     }
 }
 
+// The end of a line, which names the query of a series.
+fn put_end<N: Sink>(notes: &mut N, waiting: &mut Waiting, query: u64) -> Result<(), Failed>
+    ensures { Puts (out (N.held notes.old) (N.faults notes.old) waiting.old)
+        (out (N.held notes.new) (N.faults notes.new) waiting.new) result (end_of query) }
+{
+    if query == 0 {
+        return put(notes, waiting, b"\n");
+    }
+    put(notes, waiting, b", query ")?;
+    put_number(notes, waiting, query)?;
+    put(notes, waiting, b"\n")
+}
+
 fn put_line<N: Sink>(
     notes: &mut N,
     waiting: &mut Waiting,
@@ -53,7 +66,7 @@ fn put_line<N: Sink>(
     let items = told_items(counts);
     put_items(notes, waiting, &items)?;
     put_best(notes, waiting, best)?;
-    put(notes, waiting, b"\n")
+    put_end(notes, waiting, counts.query)
 }
 
 fn write_line<N: Sink>(notes: &mut N, counts: &Counts, best: Option<&Cost>) -> Result<(), Failed>
