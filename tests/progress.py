@@ -7,7 +7,8 @@ Programs of search.py, and an enumeration, run with the option and without it: s
 line stands beside the one before it: the conflicts or the answers have doubled, or in an optimisation a cheaper answer was
 found; and between the last line and the counts of --stats nothing that was due is missing. With two and with four workers there
 are lines too, where the run is long enough, whose conflicts and answers don't fall, and standard output is the same where it must
-be. A line of a series names the query that is being answered, and no other line names one."""
+be. A line of a series names the query that is being answered, and no other line names one. With --stats a series tells the counts
+of each query, and their sums."""
 import re
 import subprocess
 import sys
@@ -92,8 +93,27 @@ def series_faults():
         yield f"another query: {at}"
 
 
+def parts_faults():
+    """A series with --stats: the counts of each of its queries, and their sums."""
+    text = random_sat(60, 4.2, 1) + b"6 0\n6 1 1\n6 2 -1 2\n0\n"
+    told = subprocess.run([sys.argv[1], "--stats", "--queries"], input=text, capture_output=True, timeout=120)
+    parts = [dict(line.split(": ") for line in part.splitlines()) for part in re.split(r"(?=^Quer)", told.stderr.decode(), flags=re.M)[1:]]
+    counted = ["Conflicts", "Decisions", "Propagated", "Restarts", "Kept", "Dropped"]
+    if [list(part) for part in parts] != [["Query", *counted]] * 3 + [["Queries", *counted]]:
+        yield f"other parts: {told.stderr.decode()}"
+    elif [part.get("Query", part.get("Queries")) for part in parts] != ["1", "2", "3", "3"]:
+        yield "other numbers"
+    elif any(int(parts[-1][it]) != sum(int(part[it]) for part in parts[:-1]) for it in counted[:4]) or int(parts[0]["Decisions"]) == 0:
+        yield f"no sums: {parts}"
+    if told.stdout != subprocess.run([sys.argv[1], "--queries"], input=text, capture_output=True, timeout=120).stdout:
+        yield "another output"
+
+
 def main():
     failed = 0
+    for fault in parts_faults():
+        print(f"failed: counts of a series: {fault}")
+        failed += 1
     for fault in series_faults():
         print(f"failed: a series: {fault}")
         failed += 1
@@ -101,7 +121,7 @@ def main():
         for fault in faults(*row):
             print(f"failed: {row[0]}: {fault}")
             failed += 1
-    print(f"progress: {len(ROWS) + 1} programs, {failed} faults")
+    print(f"progress: {len(ROWS) + 2} programs, {failed} faults")
     sys.exit(1 if failed else 0)
 
 

@@ -34,6 +34,19 @@ keeping n c = record c { kept = n; dropped = capped (c.dropped + (c.kept - n)) }
 abbrev pub counted : Step → ℕ → ℕ → Counts → Counts
 counted s implied kept c = keeping kept (implying implied (one_more s c))
 
+-- what was done since there were these counts; so many nogoods are kept as now
+abbrev pub since : Counts → Counts → Counts
+since c before = record {
+  conflicts = c.conflicts - before.conflicts;
+  decisions = c.decisions - before.decisions;
+  propagated = c.propagated - before.propagated;
+  restarts = c.restarts - before.restarts;
+  answers = c.answers - before.answers;
+  kept = c.kept;
+  dropped = c.dropped - before.dropped;
+  query = c.query;
+}
+
 -- what two searches did, the first one at its query
 abbrev pub joined : Counts → Counts → Counts
 joined c d = record {

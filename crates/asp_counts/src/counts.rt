@@ -1,6 +1,6 @@
 //! What a search did so far.
 ghost use Rattle.std.specs.Prelude.{◌≡◌};
-ghost use Rattle.asp_counts.specs.Counting.{counted, joined, keeping, nothing};
+ghost use Rattle.asp_counts.specs.Counting.{counted, joined, keeping, nothing, since};
 
 use asp_search_laws::step::Step;
 
@@ -63,6 +63,22 @@ impl Counts {
     {
         self.dropped = self.dropped.saturating_add(self.kept.saturating_sub(kept));
         self.kept = kept;
+    }
+
+    /// What was done since there were these counts. So many nogoods are kept as now.
+    pub fn since(&self, before: &Counts) -> Counts
+        ensures { result ≡ since self.now before.now }
+    {
+        Counts {
+            conflicts: self.conflicts.saturating_sub(before.conflicts),
+            decisions: self.decisions.saturating_sub(before.decisions),
+            propagated: self.propagated.saturating_sub(before.propagated),
+            restarts: self.restarts.saturating_sub(before.restarts),
+            answers: self.answers.saturating_sub(before.answers),
+            kept: self.kept,
+            dropped: self.dropped.saturating_sub(before.dropped),
+            query: self.query,
+        }
     }
 
     /// Adds what another search did. The query stays.
