@@ -1,7 +1,8 @@
 //! Which literals of long bodies hold, a bit for each: what a reason is gathered from without a walk over the row.
 //!
 //! They are hints. Nothing is proved of them: a literal that they name is looked up on the trail before it is used, and where those
-//! that they name don't reach the sum, the row is walked.
+//! that they name don't reach the sum, the row is walked. A literal's place names its bit, so one walk over a variable's places sets
+//! the bits and keeps the sums.
 ghost use Rattle.std.specs.Prelude.{◌≤◌, ◌<◌, IfSome};
 
 use crate::item::{Item, Place};
@@ -19,7 +20,7 @@ pub const NO_BIT: u32 = u32::MAX;
 /// The literals of long bodies that hold, and those whose complements hold.
 #[derive(Drop)]
 pub struct Held {
-    /// By weight body, the number of its first literal, if it is long. Empty where no body is.
+    /// By weight body, the bit of its first literal; `NO_BIT` if it is short. Empty where no body is long.
     starts: Vec<u32>,
     /// A bit for each literal: it holds.
     yes: Vec<u64>,
@@ -95,11 +96,6 @@ fn is_long(row: &[Item]) -> bool {
     row.len() > LONG
 }
 
-// How many bits a body has.
-fn bits_of(row: &[Item]) -> usize {
-    if is_long(row) { row.len() } else { 0 }
-}
-
 fn has_long(rows: &Table<Item>) -> bool {
     for body in 0..rows.len() {
         if is_long(rows.row(body)) {
@@ -129,8 +125,13 @@ impl Held {
         let mut starts = Vec::with_capacity(alloc, rows.len())?;
         let mut bits = 0;
         for body in 0..rows.len() {
-            starts.push(narrow(bits)?)?;
-            bits = bits.saturating_add(bits_of(rows.row(body)));
+            let row = rows.row(body);
+            if is_long(row) {
+                starts.push(narrow(bits)?)?;
+                bits = bits.saturating_add(row.len());
+            } else {
+                starts.push(NO_BIT)?;
+            }
         }
         let words = bits / 64 + 1;
         Ok(Held {
@@ -140,8 +141,8 @@ impl Held {
         })
     }
 
-    // The number of a body's first literal.
-    fn start(&self, body: usize) -> u32 {
+    /// The bit of a body's first literal; `NO_BIT` if the body is short.
+    pub fn first_bit(&self, body: usize) -> u32 {
         if body < self.starts.len() {
             self.starts[body]
         } else {
@@ -149,16 +150,7 @@ impl Held {
         }
     }
 
-    /// The bit of the first literal of a body with this row; `NO_BIT` if the body is short.
-    pub fn first_bit(&self, body: usize, row: &[Item]) -> u32 {
-        if is_long(row) {
-            self.start(body)
-        } else {
-            NO_BIT
-        }
-    }
-
-    /// The variable of a literal with this place got the value.
+    /// The variable of a literal with this place got the value. A place without a bit changes nothing.
     #[inline(always)]
     pub fn set(&mut self, place: &Place, truth: bool) {
         if place.truth == truth {
@@ -183,7 +175,7 @@ impl Held {
         Hints {
             places,
             body,
-            start: self.start(body) as usize,
+            start: self.first_bit(body) as usize,
             yes: self.yes.as_slice(),
             no: self.no.as_slice(),
         }

@@ -79,8 +79,8 @@ pub fn places_of(
     }
     let mut places = Buckets::new(alloc, vars as usize + 1)?;
     for body in 0..shapes.len() {
+        let first_bit = held.first_bit(body);
         let row = rows.row(body);
-        let first_bit = held.first_bit(body, row);
         add_body(&mut places, body as u32, &shapes[body], first_bit, row)?;
     }
     places.into_table(alloc)
