@@ -207,7 +207,7 @@ impl<'a> Hints<'a> {
         }
     }
 
-    /// The first place in the body's row, of so many literals, where one of the variable stands.
+    /// In a long body, the first place in its row, of so many literals, where one of the variable stands.
     pub fn place_of(&self, var: Var, len: usize) -> Option<usize>
         ensures { IfSome result (λ at. at < len) }
     {
