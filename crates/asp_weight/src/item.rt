@@ -28,7 +28,7 @@ pub struct Shape {
 #[derive(Clone, Copy)]
 pub struct Place {
     /// The literal's weight; 0 where the variable is the body's own.
-    pub weight: u32,
+    pub weight: u64,
     /// The weight body's number, counted from 0 among the weight bodies alone.
     pub body: u32,
     /// The literal's number among those of all long bodies; `NO_BIT` in a short body, and for the body's own variable.

@@ -6,7 +6,6 @@ ghost use Rattle.asp_weight.specs.Placed.{bare, put, put_row, own_of, ArePlaces,
 use crate::held::{Held, NO_BIT};
 use crate::item::{Item, Place, Shape};
 use asp_table::buckets::Buckets;
-use asp_table::narrow::narrow;
 use asp_table::table::Table;
 use std::alloc::{AllocError, Global};
 
@@ -22,11 +21,10 @@ fn add_row(
 {
     let mut bit = first_bit;
     for item in row {
-        let weight = narrow(item.weight as usize)?;
         places.push(
             item.lit.var() as usize,
             Place {
-                weight,
+                weight: item.weight,
                 body,
                 bit,
                 truth: item.lit.truth(),
@@ -63,7 +61,7 @@ fn add_body(
 
 /// The places of the variables from 0 to `vars`. Where there are no bodies, none are kept.
 ///
-/// Want of memory is the one error. Weights of 2^32 or more count as that.
+/// Want of memory is the one error.
 pub fn places_of(
     alloc: Global,
     vars: u32,

@@ -105,7 +105,7 @@ impl Tallies {
     {
         let body = place.body as usize;
         let tally = self.tallies[body];
-        self.tallies[body] = raised(&tally, place.truth == truth, place.weight as u64);
+        self.tallies[body] = raised(&tally, place.truth == truth, place.weight);
         if tally.queued {
             return;
         }
@@ -121,7 +121,7 @@ impl Tallies {
     {
         let body = place.body as usize;
         let tally = self.tallies[body];
-        self.tallies[body] = lowered(&tally, place.truth == truth, place.weight as u64);
+        self.tallies[body] = lowered(&tally, place.truth == truth, place.weight);
         if tally.queued {
             return;
         }

@@ -1,4 +1,4 @@
-use Rattle.std.proofs.Common.{ap, length, take, arith}
+use Rattle.std.proofs.Common.{ap, length, refl, take, arith}
 use Rattle.std.proofs.lemmas.List.{get_or_read}
 use Rattle.asp_vars.specs.Literals.{F}
 use Rattle.asp_weight.specs.declared.item.Item.{Item}
@@ -25,5 +25,5 @@ pub loop-item-preserved : goal.loop-item-preserved
 loop-item-preserved c =
     let i = c.loop-item.item-index in
     let is = get_or_read c.args.row.now i c.item-item.result c.loop-item-test.true c.item-item.is (record { weight = 0; lit = F 0 }) in
-    put_row_more c.args.body c.args.places.now c.loop-item.places c.push.new.self c.args.row.now i c.var.result c.in_ok-weight.weight c.loop-item.bit c.truth.result
-    c.item-item.result (record { weight = 0; lit = F 0 }) c.loop-item-test.true is c.loop-item.invariant c.var.ensures c.in_ok-weight.ensures c.truth.ensures c.in_ok-push.ensures
+    put_row_more c.args.body c.args.places.now c.loop-item.places c.push.new.self c.args.row.now i c.var.result c.item-item.result.weight c.loop-item.bit c.truth.result
+    c.item-item.result (record { weight = 0; lit = F 0 }) c.loop-item-test.true is c.loop-item.invariant c.var.ensures refl c.truth.ensures c.in_ok-push.ensures
