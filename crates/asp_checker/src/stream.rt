@@ -232,7 +232,7 @@ fn judge_lines<S: Source>(
     let kept = completed(alloc, compiled)?;
     let bound = bound_at_first(alloc, compiled, sought, answers)?;
     let assumptions = assumptions(alloc, compiled)?;
-    let mut watches = Watches::new(alloc, compiled, &bound)?;
+    let mut watches = Watches::new(alloc, compiled)?;
     let first = kept.as_slice();
     let values = first_root(alloc, compiled, listed, first, &bound, &mut watches)?;
     let rows = Rows {

@@ -6,7 +6,7 @@ ghost use Rattle.std.specs.Prelude.{◌≡◌, ◌+◌, ◌<◌, length};
 ghost use Rattle.asp_vars.specs.Numbering.{var_count};
 
 use crate::bounds::Bound;
-use crate::hints::{Hint, fails, hints_of_bound, holds, priced};
+use crate::hints::{Hint, fails, hints_of_bound, holds};
 use crate::named::Named;
 use crate::open::{another, another_from, first_open};
 use crate::scales::Scales;
@@ -15,7 +15,7 @@ use asp_model::interp::Interp;
 use asp_model::seq::Seq;
 use asp_vars::assign::Assign;
 use asp_vars::compiled::Compiled;
-use asp_vars::lit::{Lit, Var};
+use asp_vars::lit::Lit;
 use std::alloc::{AllocError, Global};
 
 // How many nogoods of lines watch before some are retired, and how many more after each time.
@@ -79,8 +79,6 @@ pub struct Watches {
     scales: Scales,
     // Where listed answers are sought.
     seeker: Seeker,
-    // The variables that cost something.
-    priced: Vec<Var>,
     // How many of the literals that came to hold are done with.
     done: usize,
     // How many of the nogoods that watch the next of them are done with.
@@ -212,15 +210,10 @@ fn lists<T: Drop>(alloc: Global, count: usize) -> Result<Vec<Vec<T>>, AllocError
 }
 
 impl Watches {
-    /// For a program and a bound, with no nogood yet. All weight bodies are to be looked at.
-    pub(crate) fn new(
-        alloc: Global,
-        compiled: &Compiled,
-        bound: &Option<Bound>,
-    ) -> Result<Watches, AllocError> {
+    /// For a program, with no nogood yet. All weight bodies are to be looked at.
+    pub(crate) fn new(alloc: Global, compiled: &Compiled) -> Result<Watches, AllocError> {
         let by_code = lists(alloc, 2 * (compiled.vars() as usize + 1))?;
         let scales = Scales::new(alloc, compiled)?;
-        let priced = priced(alloc, compiled, bound)?;
         Ok(Watches {
             by_code,
             entries: Vec::new(alloc),
@@ -235,7 +228,6 @@ impl Watches {
             named_at: 0,
             scales,
             seeker: Seeker::new(alloc),
-            priced,
             done: 0,
             within: 0,
             hints: Vec::new(alloc),
@@ -660,13 +652,7 @@ impl Watches {
         }
         self.priced_at = Some(held);
         match bound {
-            Some(bound) => hints_of_bound(
-                &mut self.hints,
-                compiled,
-                bound,
-                self.priced.as_slice(),
-                values,
-            ),
+            Some(bound) => hints_of_bound(&mut self.hints, compiled, bound, values),
             None => Ok(()),
         }
     }
