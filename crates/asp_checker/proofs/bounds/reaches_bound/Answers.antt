@@ -18,8 +18,8 @@ pub reaches-requires-clause-values : goal.reaches-requires-clause-values
 reaches-requires-clause-values c =
     let p : Program = c.args.compiled.now in
     let h = rw c.in-Some.is at c.requires.levels in
-    all_below c.args.values.now c.as_slice-2.result.now (var_count p) c.requires.size
-    (within p c.in-Some.b.levels c.as_slice-2.result.now c.in-Some.b.priced c.as_slice-2.ensures.value h.1.1)
+    all_below c.args.values.now c.as_slice-in-Some-2.result.now (var_count p) c.requires.size
+    (within p c.in-Some.b.levels c.as_slice-in-Some-2.result.now c.in-Some.b.priced c.as_slice-in-Some-2.ensures.value h.1.1)
 
 pub reaches-requires-clause-levels : goal.reaches-requires-clause-levels
 reaches-requires-clause-levels c =
@@ -30,8 +30,8 @@ pub reaches-requires-clause-weights : goal.reaches-requires-clause-weights
 reaches-requires-clause-weights c =
     let p : Program = c.args.compiled.now in
     let h = rw c.in-Some.is at c.requires.levels in
-    wide_all c.as_slice.result.now (var_count p) c.as_slice-2.result.now
-    (within p c.in-Some.b.levels c.as_slice-2.result.now c.in-Some.b.priced c.as_slice-2.ensures.value h.1.1)
+    wide_all c.as_slice.result.now (var_count p) c.as_slice-in-Some-2.result.now
+    (within p c.in-Some.b.levels c.as_slice-in-Some-2.result.now c.in-Some.b.priced c.as_slice-in-Some-2.ensures.value h.1.1)
     (subst (λ (ls : List (List ℤ)). AllByRecursion (λ (w : List ℤ). length w ≡ 2 * var_count p + 2) ls) (sym c.as_slice.ensures.value)
     (levels-long p (priorities p.minimize) c.in-Some.b.levels h.0))
 
@@ -39,7 +39,7 @@ pub reaches-requires-clause-few : goal.reaches-requires-clause-few
 reaches-requires-clause-few c =
     let p : Program = c.args.compiled.now in
     let h = rw c.in-Some.is at c.requires.levels in
-    let long = ap (λ (vs : List ℕ). length vs) (c.as_slice-2.ensures.value ∙ h.1.1) in
+    let long = ap (λ (vs : List ℕ). length vs) (c.as_slice-in-Some-2.ensures.value ∙ h.1.1) in
     omega (arith, long, priced-few c.in-Some.b.levels (var_count p), c.vars-vars.ensures.few)
 
 pub returns-in-Some : goal.returns-in-Some
@@ -47,7 +47,7 @@ returns-in-Some c =
     let h = rw c.in-Some.is at c.requires.levels in
     let x = c.args.values.now in
     c.reaches.ensures
-    ∙ ap (λ (vs : List ℕ). not (betters (map (λ w. sum_over x w vs) c.as_slice.result.now) c.as_slice-in-Some.result.now)) c.as_slice-2.ensures.value
+    ∙ ap (λ (vs : List ℕ). not (betters (map (λ w. sum_over x w vs) c.as_slice.result.now) c.as_slice-in-Some.result.now)) c.as_slice-in-Some-2.ensures.value
     ∙ ap (λ (ls : List (List ℤ)). not (betters (map (λ w. sum_over x w c.in-Some.b.priced) ls) c.as_slice-in-Some.result.now)) c.as_slice.ensures.value
     ∙ ap (λ (k : List ℤ). not (betters (map (λ w. sum_over x w c.in-Some.b.priced) c.in-Some.b.levels) k)) c.as_slice-in-Some.ensures.value
     ∙ reached-by c.args.compiled.now c.in-Some.b x h.0 h.1.1
