@@ -12,10 +12,10 @@ use crate::open::{another, another_from, first_open};
 use crate::scales::Scales;
 use crate::seek::Seeker;
 use asp_model::interp::Interp;
-use asp_model::seq::Seq;
 use asp_vars::assign::Assign;
 use asp_vars::compiled::Compiled;
 use asp_vars::lit::Lit;
+use asp_vars::nogood::Lits;
 use std::alloc::{AllocError, Global};
 
 // How many nogoods of lines watch before some are retired, and how many more after each time.
@@ -145,7 +145,7 @@ fn status_of(entry: &mut Entry, row: &[Lit], values: &Assign, vars: u32, held: L
 fn status_at(
     watch: Watch,
     entries: &mut [Entry],
-    rows: &[Seq<Lit>],
+    rows: &[Lits],
     values: &Assign,
     vars: u32,
     held: Lit,
@@ -172,7 +172,7 @@ fn status_at(
 fn scan(
     watches: &mut [Watch],
     entries: &mut [Entry],
-    rows: &[Seq<Lit>],
+    rows: &[Lits],
     values: &Assign,
     vars: u32,
     held: Lit,
@@ -321,7 +321,7 @@ impl Watches {
         &mut self,
         values: &Assign,
         vars: u32,
-        rows: &[Seq<Lit>],
+        rows: &[Lits],
     ) -> Result<(), AllocError>
         requires { length values.now ≡ vars + 1 }
     {
@@ -337,7 +337,7 @@ impl Watches {
         &mut self,
         values: &Assign,
         vars: u32,
-        rows: &[Seq<Lit>],
+        rows: &[Lits],
     ) -> Result<(), AllocError>
         requires { length values.now ≡ vars + 1 }
     {
@@ -425,7 +425,7 @@ impl Watches {
     }
 
     // Those that said something watch again.
-    fn revive(&mut self, values: &Assign, vars: u32, rows: &[Seq<Lit>]) -> Result<(), AllocError>
+    fn revive(&mut self, values: &Assign, vars: u32, rows: &[Lits]) -> Result<(), AllocError>
         requires { length values.now ≡ vars + 1 }
     {
         for _ in 0..u64::MAX {
@@ -445,7 +445,7 @@ impl Watches {
         &mut self,
         values: &Assign,
         vars: u32,
-        rows: &[Seq<Lit>],
+        rows: &[Lits],
     ) -> Result<(), AllocError>
         requires { length values.now ≡ vars + 1 }
     {
@@ -507,7 +507,7 @@ impl Watches {
     // The next nogood to look at among those that watch a literal that holds.
     fn next_of(
         &mut self,
-        rows: &[Seq<Lit>],
+        rows: &[Lits],
         values: &Assign,
         vars: u32,
         held: Lit,
@@ -544,7 +544,7 @@ impl Watches {
     }
 
     // Whether a nogood that doesn't watch says something. Else two of its literals show that it doesn't.
-    fn speaks(&mut self, rows: &[Seq<Lit>], values: &Assign, vars: u32, place: usize) -> bool
+    fn speaks(&mut self, rows: &[Lits], values: &Assign, vars: u32, place: usize) -> bool
         requires { length values.now ≡ vars + 1 }
     {
         let Some(entry) = self.entries.get_mut(place) else {
@@ -581,7 +581,7 @@ impl Watches {
     // The next nogood that doesn't watch and says something.
     fn next_of_retired(
         &mut self,
-        rows: &[Seq<Lit>],
+        rows: &[Lits],
         values: &Assign,
         vars: u32,
     ) -> Result<Option<usize>, AllocError>
@@ -616,7 +616,7 @@ impl Watches {
     fn next_nogood(
         &mut self,
         compiled: &Compiled,
-        rows: &[Seq<Lit>],
+        rows: &[Lits],
         values: &Assign,
         trail: &[Lit],
     ) -> Result<Option<usize>, AllocError>
@@ -679,8 +679,8 @@ impl Watches {
         &mut self,
         compiled: &Compiled,
         listed: &[Interp],
-        rows: &[Seq<Lit>],
-        placed: &[Seq<Lit>],
+        rows: &[Lits],
+        placed: &[Lits],
         bound: &Option<Bound>,
         values: &Assign,
         trail: &[Lit],
