@@ -52,9 +52,9 @@ _aspenum() {
             --quiet) given+=(--split --proof) ;;
             --output) given+=(--split --proof --make) ;;
             --make) given+=(--output --queries) ;;
-            --queries) given+=(--split --proof --opt-all --stream --make --models --stats) ;;
-            --models | --stats) given+=(--split --queries) ;;
-            --mode | --workers | --log | --budget | --names | --core-min | --progress) given+=(--split) ;;
+            --queries) given+=(--split --proof --opt-all --stream --make --models) ;;
+            --models) given+=(--split --queries) ;;
+            --mode | --workers | --log | --budget | --names | --core-min | --stats | --progress) given+=(--split) ;;
         esac
     done
     for option in --mode --format --models --opt-all --stream --workers --log --budget --output --quiet --names --proof --split --make --queries --core-min --stats --progress; do

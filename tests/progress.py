@@ -7,14 +7,15 @@ Programs of search.py, and an enumeration, run with the option and without it: s
 line stands beside the one before it: the conflicts or the answers have doubled, or in an optimisation a cheaper answer was
 found; and between the last line and the counts of --stats nothing that was due is missing. With two and with four workers there
 are lines too, where the run is long enough, whose conflicts and answers don't fall, and standard output is the same where it must
-be."""
+be. A line of a series names the query that is being answered, and no other line names one. With --stats a series tells the counts
+of each query, and their sums."""
 import re
 import subprocess
 import sys
 
 from search import cheapest_trust, random_sat
 
-LINE = re.compile(r"Progress: conflicts (\d+), decisions (\d+), restarts (\d+), nogoods (\d+), answers (\d+)(?:, best((?: -?\d+)+))?")
+LINE = re.compile(r"Progress: conflicts (\d+), decisions (\d+), restarts (\d+), nogoods (\d+), answers (\d+)(?:, best((?: -?\d+)+))?(?:, query (\d+))?")
 COUNT = re.compile(r"(\w+): (\d+)")
 FREE = f"asp 1 0 0\n1 1 12 {' '.join(map(str, range(1, 13)))} 0 0\n0\n".encode()
 
@@ -57,6 +58,8 @@ def faults(name, text, words, optimum, least, crew_least):
             yield f"no cheaper answer: {line[0]}"
         if not optimum and line[6] is not None:
             yield f"a cost without an optimisation: {line[0]}"
+        if line[7] is not None:
+            yield f"a query without a series: {line[0]}"
         last, cost = now, line[6] and [int(it) for it in line[6].split()]
     if stats.get("Conflicts", 0) >= max(2 * last[0], 1) or stats.get("Decisions", -1) < last[1] or stats.get("Restarts", -1) < last[2]:
         yield f"the counts don't follow on the last line: {stats}"
@@ -74,13 +77,51 @@ def crew_faults(lines, least):
             yield "a count fell"
 
 
+def series_faults():
+    """Three queries, the first and the last of which have half of the answers: each has enough of them for a line."""
+    text = FREE + b"6 1 1\n6 0\n6 1 -1\n0\n"
+    told = subprocess.run([sys.argv[1], "--progress", "--queries"], input=text, capture_output=True, timeout=120)
+    lines = [LINE.fullmatch(line) for line in told.stderr.decode().splitlines()]
+    if told.returncode != 30 or not all(lines):
+        yield f"status {told.returncode}, or another note"
+        return
+    if told.stdout != subprocess.run([sys.argv[1], "--queries"], input=text, capture_output=True, timeout=120).stdout:
+        yield "another output"
+    at = [(int(line[5]), int(line[7] or 0)) for line in lines]
+    # up to 2,048 answers are the first query's, up to 6,144 the second's
+    if [query for _, query in at] != [1 if answers <= 2048 else 2 if answers <= 6144 else 3 for answers, _ in at] or at[-1][1] < 2:
+        yield f"another query: {at}"
+
+
+def parts_faults():
+    """A series with --stats: the counts of each of its queries, and their sums."""
+    text = random_sat(60, 4.2, 1) + b"6 0\n6 1 1\n6 2 -1 2\n0\n"
+    told = subprocess.run([sys.argv[1], "--stats", "--queries"], input=text, capture_output=True, timeout=120)
+    parts = [dict(line.split(": ") for line in part.splitlines()) for part in re.split(r"(?=^Quer)", told.stderr.decode(), flags=re.M)[1:]]
+    counted = ["Conflicts", "Decisions", "Propagated", "Restarts", "Kept", "Dropped"]
+    if [list(part) for part in parts] != [["Query", *counted]] * 3 + [["Queries", *counted]]:
+        yield f"other parts: {told.stderr.decode()}"
+    elif [part.get("Query", part.get("Queries")) for part in parts] != ["1", "2", "3", "3"]:
+        yield "other numbers"
+    elif any(int(parts[-1][it]) != sum(int(part[it]) for part in parts[:-1]) for it in counted[:4]) or int(parts[0]["Decisions"]) == 0:
+        yield f"no sums: {parts}"
+    if told.stdout != subprocess.run([sys.argv[1], "--queries"], input=text, capture_output=True, timeout=120).stdout:
+        yield "another output"
+
+
 def main():
     failed = 0
+    for fault in parts_faults():
+        print(f"failed: counts of a series: {fault}")
+        failed += 1
+    for fault in series_faults():
+        print(f"failed: a series: {fault}")
+        failed += 1
     for row in ROWS:
         for fault in faults(*row):
             print(f"failed: {row[0]}: {fault}")
             failed += 1
-    print(f"progress: {len(ROWS)} programs, {failed} faults")
+    print(f"progress: {len(ROWS) + 2} programs, {failed} faults")
     sys.exit(1 if failed else 0)
 
 

@@ -44,11 +44,22 @@ pub enum Learned {
     InCube(Nogood),
 }
 
+// How many literals were met and not resolved.
+fn count_open(marks: &Marks) -> usize {
+    let mut count: usize = 0;
+    for lit in marks.lits() {
+        if marks.get(lit.var()).is_open() {
+            count = count.saturating_add(1);
+        }
+    }
+    count
+}
+
 // The literals that were met and not resolved.
 fn staying(alloc: Global, marks: &Marks) -> Result<Lits, AllocError>
     ensures { IfOk result (λ n. n ≡ filter (λ l. is_open (mark_of marks.now.marks l.var)) marks.now.lits) }
 {
-    let mut lits = Lits::new(alloc);
+    let mut lits = Lits::with_capacity(alloc, count_open(marks))?;
     let marked = marks.lits();
     for lit in marked {
         if marks.get(lit.var()).is_open() {

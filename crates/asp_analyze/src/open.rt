@@ -40,6 +40,9 @@ fn join(base: &mut Base, other: &Base) -> Result<(), AllocError>
     ensures ok { OnOk result (base.new ≡ joined base.old other.now) }
     ensures err { OnErr result (base.new ≡ base.old) }
 {
+    if let Base::Pure = other {
+        return Ok(());
+    }
     if let Some(both) = joined(base, other)? {
         *base = both;
     }

@@ -54,7 +54,7 @@ use Rattle.asp_bound.proofs.ReachLaws.{betters-reach, reached_now}
 use Rattle.asp_bound.proofs.SilentLaws.{reach_at-set}
 use Rattle.asp_bound.proofs.KeptLaws.{held-value, summed_from, sums-count, sums-at, kept-told}
 use Rattle.asp_bound.proofs.NeededLaws.{excluded_at, needed-among, beq-itself, itself}
-use Rattle.asp_bound.proofs.NogoodLaws.{excludes_below, raised-raises, raises-raising, raising_of, found-held, given_with_as}
+use Rattle.asp_bound.proofs.NogoodLaws.{excludes_below, raised-raises, raises-raising, raising_of, held_of, all-held, all-whole, given_with_as}
 use Rattle.asp_bound.proofs.RaiserLaws.{counts-none}
 
 abbrev is : ℕ → ℕ → Bool
@@ -123,6 +123,11 @@ pub found_now : (t : Trailed) (n : ℕ) (a : List (Option Bool)) (rows : List (L
 found_now t n a rows depth raisers found copied e shown moved is =
     subst (λ (z : List (Option Bool)). IsPermutation (raising_of z rows depth raisers) copied) (shown_before t n a e shown)
     (subst (IsPermutation (raising_of (before t n) rows depth raisers)) (sym is) moved)
+
+-- those that were gathered, the last first
+pub turned_round : (held start all round found : List Literal) → start ≡ [] → all ≡ start ++ held → IsPermutation all round → found ≡ round → IsPermutation held found
+turned_round held start all round found none gathered moved is =
+    subst (λ (n : List Literal). IsPermutation n found) (gathered ∙ ap (λ (n : List Literal). n ++ held) none) (subst (IsPermutation all) (sym is) moved)
 
 -- what was told has them
 pub told_before : (t : Trailed) (place : ℕ) (a : List (Option Bool)) (v : ℕ) (b : Bool) → IsOrdered t.vars t.entries → AreTold a place t.entries →
@@ -524,15 +529,16 @@ pub written : (p : Program) (t : Trailed) (place : ℕ) (rows : List (List Place
     (raisers : List ℕ) → IsOrdered t.vars t.entries → IsKept p (before t place) rows columns vars sums →
     HaveRaisers (before t place) rows raisers → (c : List ℤ) (l : Literal) (x : Implied) (n : Nogood) (found : List Literal) (left : List ℤ) →
     x.lit ≡ complement l → Reaches (before t place) rows sums c x → IsVar (var_count p) x.lit.var →
-    IsPermutation (raising_of (before t place) rows x.depth raisers) found →
+    IsPermutation (held_of (before t place) raisers) found →
     IsKept p (set (before t place) x.lit.var (Some x.lit.truth)) rows columns vars left →
     n ≡ record { lits = needed rows c x.depth left found ++ x.lit ∷ []; base = base.Below c } →
     IsTooDear p (Some c) n × IsReason t.entries place l n.lits
 written p t place rows columns vars sums raisers o kept are c l x n found left is_lit reaches var moved more e =
     let b : List (Option Bool) = before t place in
-    let given = given_with_as p b rows columns vars sums kept raisers are c sums c x n (needed rows c x.depth left found) found left refl refl reaches
-    (var.0, omega (arith, var.1, kept.sized)) moved more refl e in
-    let held = found-held p b rows columns vars sums raisers x.depth found kept are moved in (
+    let held = all-held p b rows columns vars sums raisers found kept are moved in
+    let whole = all-whole p b rows columns vars sums raisers x.depth found kept are moved in
+    let given = given_with_as p b rows columns vars sums kept c sums c x n (needed rows c x.depth left found) found left refl refl reaches
+    (var.0, omega (arith, var.1, kept.sized)) held whole more refl e in (
       record { cost = c; stands = refl; excluded = given.excluded; base = given.base; below = given.below },
       subst (λ (m : Nogood). IsReason t.entries place l m.lits) (sym e)
           (written_reason t place l x.lit (needed rows c x.depth left found) o is_lit

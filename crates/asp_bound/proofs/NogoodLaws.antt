@@ -27,7 +27,7 @@ use Rattle.asp_bound.specs.Optimism.{optimistic}
 use Rattle.asp_bound.specs.Definition.{ExcludesBelow}
 use Rattle.asp_bound.specs.Rises.{rise_at, rise_by, raised, row_at, nth_priority}
 use Rattle.asp_bound.specs.Needed.{total, needed, MayFall}
-use Rattle.asp_bound.specs.Reasons.{raises, raising_by, raising_at}
+use Rattle.asp_bound.specs.Reasons.{raises, literal_if, raising_at, held_at}
 use Rattle.asp_bound.specs.Late.{HaveRaisers}
 use Rattle.asp_bound.specs.Raisers.{is_raising, is_raising_by, is_raiser}
 use Rattle.asp_bound.specs.Reach.{reach, lifted}
@@ -86,33 +86,45 @@ one_has : (t : Bool) (v : ℕ) (b : Bool) → t ≡ true → has_literal (cond t
 one_has true v b e = or_left (literal_eq (record { var = v; truth = b }) (record { var = v; truth = b })) false (itself v b)
 one_has false v b e = absurd (false≢true e)
 
+-- those of the variables' literals that pass a test
+abbrev at_test : List (Option Bool) → (ℕ → Bool → Bool) → ℕ → List Literal
+at_test a q v = literal_if (q v) v (value_of a v)
+
+abbrev pub chosen : List (Option Bool) → (ℕ → Bool → Bool) → List ℕ → List Literal
+chosen a q vs = flat_map (at_test a q) vs
+
+-- the test that those pass that raise the first priorities
+abbrev pub raises_at : List (List Place) → ℕ → ℕ → Bool → Bool
+raises_at rows d v = raises (row_at rows v) d
+
 abbrev pub raising_of : List (Option Bool) → List (List Place) → ℕ → List ℕ → List Literal
 raising_of a rows d vs = flat_map (raising_at a rows d) vs
 
-raising_by-has : (row : List Place) (d v : ℕ) (b : Bool) (o : Option Bool) → o ≡ Some b → raises row d b ≡ true → has_literal (raising_by row d v o) (record { var = v; truth = b }) ≡ true
-raising_by-has row d v b o e up = subst (λ o. has_literal (raising_by row d v o) (record { var = v; truth = b }) ≡ true) (sym e) (one_has (raises row d b) v b up)
+literal_if-has : (q : Bool → Bool) (v : ℕ) (b : Bool) (o : Option Bool) → o ≡ Some b → q b ≡ true → has_literal (literal_if q v o) (record { var = v; truth = b }) ≡ true
+literal_if-has q v b o e pass = subst (λ o. has_literal (literal_if q v o) (record { var = v; truth = b }) ≡ true) (sym e) (one_has (q b) v b pass)
 
-raising-has : (a : List (Option Bool)) (rows : List (List Place)) (d : ℕ) (vs : List ℕ) (v : ℕ) (b : Bool) → list_any (λ x. eqb x v) vs ≡ true →
-    value_of a v ≡ Some b → raises (row_at rows v) d b ≡ true → has_literal (raising_of a rows d vs) (record { var = v; truth = b }) ≡ true
-raising-has a rows d vs v b among e up =
+chosen-has : (a : List (Option Bool)) (q : ℕ → Bool → Bool) (vs : List ℕ) (v : ℕ) (b : Bool) → list_any (λ x. eqb x v) vs ≡ true →
+    value_of a v ≡ Some b → q v b ≡ true → has_literal (chosen a q vs) (record { var = v; truth = b }) ≡ true
+chosen-has a q vs v b among e pass =
     let l : Literal = record { var = v; truth = b } in
-    list_any-flat_map (λ k. literal_eq k l) (raising_at a rows d) vs ∙ among-any vs v (λ x. has_literal (raising_at a rows d x) l) among (raising_by-has (row_at rows v) d v b (value_of a v) e up)
+    list_any-flat_map (λ k. literal_eq k l) (at_test a q) vs ∙ among-any vs v (λ x. has_literal (at_test a q x) l) among (literal_if-has (q v) v b (value_of a v) e pass)
 
--- all that raise the first priorities are among them
-pub raising-whole : (p : Program) (a : List (Option Bool)) (rows : List (List Place)) (columns : List (List Item)) (vars : List ℕ) (sums : List ℤ)
-    (vs : List ℕ) (d : ℕ) → IsKept p a rows columns vars sums → HaveRaisers a rows vs →
+-- all that raise the first priorities are among them, where these pass
+chosen-raising : (p : Program) (a : List (Option Bool)) (rows : List (List Place)) (columns : List (List Item)) (vars : List ℕ) (sums : List ℤ)
+    (vs : List ℕ) (d : ℕ) (q : ℕ → Bool → Bool) → IsKept p a rows columns vars sums → HaveRaisers a rows vs →
+    ((v : ℕ) (b : Bool) → raises_at rows d v b ≡ true → q v b ≡ true) →
     (j v : ℕ) (b : Bool) → j < d → j < length (priorities p.minimize) → 0 < v → v ≤ var_count p → value_of a v ≡ Some b →
-    0 < rise_at p (nth_priority p j) v b → has_literal (raising_of a rows d vs) (record { var = v; truth = b }) ≡ true
-raising-whole p a rows columns vars sums vs d kept are j v b lt low i k e up =
+    0 < rise_at p (nth_priority p j) v b → has_literal (chosen a q vs) (record { var = v; truth = b }) ≡ true
+chosen-raising p a rows columns vars sums vs d q kept are pass j v b lt low i k e up =
     let raise : 0 < raised (row_at rows v) j b = omega (arith, kept.rowed.sums j v b low i k) in
     let raises_it : raises (row_at rows v) d b ≡ true = raised-raises (row_at rows v) j d b lt raise in
     let raiser : is_raiser a rows v ≡ true = ap (is_raising_by (row_at rows v)) e ∙ raises-raising (row_at rows v) d b raises_it in
-    raising-has a rows d vs v b (are.whole v raiser) e raises_it
+    chosen-has a q vs v b (are.whole v raiser) e (pass v b raises_it)
 
 -- ---- they hold
-raising_by-hold : (a : List (Option Bool)) (row : List Place) (d v : ℕ) (o : Option Bool) → value_of a v ≡ o → list_all (holds_in a) (raising_by row d v o) ≡ true
-raising_by-hold a row d v None e = refl
-raising_by-hold a row d v (Some b) e = by_test (raises row d b)
+literal_if-hold : (a : List (Option Bool)) (q : Bool → Bool) (v : ℕ) (o : Option Bool) → value_of a v ≡ o → list_all (holds_in a) (literal_if q v o) ≡ true
+literal_if-hold a q v None e = refl
+literal_if-hold a q v (Some b) e = by_test (q b)
   where
     holds : holds_in a (record { var = v; truth = b }) ≡ true
     holds = ap (λ o. agrees o (record { var = v; truth = b })) e ∙ beq-itself b
@@ -121,12 +133,12 @@ raising_by-hold a row d v (Some b) e = by_test (raises row d b)
     by_test true = and_both (holds_in a (record { var = v; truth = b })) true holds refl
     by_test false = refl
 
-pub raising-hold : (a : List (Option Bool)) (rows : List (List Place)) (d : ℕ) (vs : List ℕ) → list_all (holds_in a) (raising_of a rows d vs) ≡ true
-raising-hold a rows d [] = refl
-raising-hold a rows d (v ∷ vs) =
-    list_all-append (holds_in a) (raising_at a rows d v) (raising_of a rows d vs)
-    ∙ and_both (list_all (holds_in a) (raising_at a rows d v)) (list_all (holds_in a) (raising_of a rows d vs))
-    (raising_by-hold a (row_at rows v) d v (value_of a v) refl) (raising-hold a rows d vs)
+chosen-hold : (a : List (Option Bool)) (q : ℕ → Bool → Bool) (vs : List ℕ) → list_all (holds_in a) (chosen a q vs) ≡ true
+chosen-hold a q [] = refl
+chosen-hold a q (v ∷ vs) =
+    list_all-append (holds_in a) (at_test a q v) (chosen a q vs)
+    ∙ and_both (list_all (holds_in a) (at_test a q v)) (list_all (holds_in a) (chosen a q vs))
+    (literal_if-hold a (q v) v (value_of a v) refl) (chosen-hold a q vs)
 
 -- ---- so they are violated, or unit with one more
 pub violated-loud : (a : List (Option Bool)) (n : List Literal) → list_all (holds_in a) n ≡ true → is_at_fixpoint a n ≡ false
@@ -158,57 +170,83 @@ unit-loud a n v b h none =
     and_right_false false y e = refl
 
 -- ---- their variables are the program's
-raising_by-within : (P : ℕ → Type 0) (row : List Place) (d v : ℕ) (o : Option Bool) → P v → All (λ (l : Literal). P l.var) (raising_by row d v o)
-raising_by-within P row d v None h = λ k e lt. absurd (omega arith)
-raising_by-within P row d v (Some b) h = by_test (raises row d b)
+literal_if-within : (P : ℕ → Type 0) (q : Bool → Bool) (v : ℕ) (o : Option Bool) → P v → All (λ (l : Literal). P l.var) (literal_if q v o)
+literal_if-within P q v None h = λ k e lt. absurd (omega arith)
+literal_if-within P q v (Some b) h = by_test (q b)
   where
     by_test : (t : Bool) → All (λ (l : Literal). P l.var) (cond t (record { var = v; truth = b } ∷ []) [])
     by_test true zero e lt = h
     by_test true (suc k) e lt = absurd (omega arith)
     by_test false k e lt = absurd (omega arith)
 
-raising-within : (P : ℕ → Type 0) (a : List (Option Bool)) (rows : List (List Place)) (d : ℕ) (vs : List ℕ) → All P vs → All (λ (l : Literal). P l.var) (raising_of a rows d vs)
-raising-within P a rows d [] h = λ k e lt. absurd (omega arith)
-raising-within P a rows d (v ∷ vs) h =
-    All-append (λ (l : Literal). P l.var) (raising_at a rows d v) (raising_of a rows d vs)
-    (raising_by-within P (row_at rows v) d v (value_of a v) (All-head P v vs h)) (raising-within P a rows d vs (All-tail P v vs h))
+chosen-within : (P : ℕ → Type 0) (a : List (Option Bool)) (q : ℕ → Bool → Bool) (vs : List ℕ) → All P vs → All (λ (l : Literal). P l.var) (chosen a q vs)
+chosen-within P a q [] h = λ k e lt. absurd (omega arith)
+chosen-within P a q (v ∷ vs) h =
+    All-append (λ (l : Literal). P l.var) (at_test a q v) (chosen a q vs)
+    (literal_if-within P (q v) v (value_of a v) (All-head P v vs h)) (chosen-within P a q vs (All-tail P v vs h))
 
 -- ---- each holds, and stands once
-times_by : (row : List Place) (d u v : ℕ) (o : Option Bool) → times v (raising_by row d u o) ≤ cond (eqb u v) 1 0
-times_by row d u v None = omega arith
-times_by row d u v (Some b) = by_test (raises row d b)
+times_if : (q : Bool → Bool) (u v : ℕ) (o : Option Bool) → times v (literal_if q u o) ≤ cond (eqb u v) 1 0
+times_if q u v None = omega arith
+times_if q u v (Some b) = by_test (q b)
   where
     by_test : (t : Bool) → times v (cond t (record { var = u; truth = b } ∷ []) []) ≤ cond (eqb u v) 1 0
     by_test true = omega (arith, sum_by-cons (λ (l : Literal). cond (eqb l.var v) 1 0) (record { var = u; truth = b }) [])
     by_test false = omega arith
 
-raising-times : (a : List (Option Bool)) (rows : List (List Place)) (d : ℕ) (vs : List ℕ) (v : ℕ) → times v (raising_of a rows d vs) ≤ count_by (λ x. eqb x v) vs
-raising-times a rows d [] v = omega arith
-raising-times a rows d (u ∷ vs) v =
-    let split : times v (raising_of a rows d (u ∷ vs)) ≡ times v (raising_at a rows d u) + times v (raising_of a rows d vs) =
-    sum_by-append (λ (l : Literal). cond (eqb l.var v) 1 0) (raising_at a rows d u) (raising_of a rows d vs) in
-    let first : times v (raising_at a rows d u) ≤ cond (eqb u v) 1 0 = times_by (row_at rows u) d u v (value_of a u) in
+chosen-times : (a : List (Option Bool)) (q : ℕ → Bool → Bool) (vs : List ℕ) (v : ℕ) → times v (chosen a q vs) ≤ count_by (λ x. eqb x v) vs
+chosen-times a q [] v = omega arith
+chosen-times a q (u ∷ vs) v =
+    let split : times v (chosen a q (u ∷ vs)) ≡ times v (at_test a q u) + times v (chosen a q vs) =
+    sum_by-append (λ (l : Literal). cond (eqb l.var v) 1 0) (at_test a q u) (chosen a q vs) in
+    let first : times v (at_test a q u) ≤ cond (eqb u v) 1 0 = times_if (q u) u v (value_of a u) in
     let counted : count_by (λ x. eqb x v) (u ∷ vs) ≡ cond (eqb u v) 1 0 + count_by (λ x. eqb x v) vs = sum_by-cons (λ (x : ℕ). cond (eqb x v) 1 0) u vs in
-    omega (arith, split, first, counted, raising-times a rows d vs v)
+    omega (arith, split, first, counted, chosen-times a q vs v)
 
+pub chosen-held : (p : Program) (a : List (Option Bool)) (rows : List (List Place)) (columns : List (List Item)) (vars : List ℕ) (sums : List ℤ)
+    (vs : List ℕ) (q : ℕ → Bool → Bool) (found : List Literal) → IsKept p a rows columns vars sums → HaveRaisers a rows vs →
+    IsPermutation (chosen a q vs) found → AreHeld p a found
+chosen-held p a rows columns vars sums vs q found kept are moved =
+    let lits : List Literal = chosen a q vs in
+    let within : All (IsVar (var_count p)) vs = All-weaker (λ v. (0 < v) × (v < length a)) (IsVar (var_count p)) (λ v h. (h.0, omega (arith, kept.sized, h.1))) vs are.within in
+    held-permuted p a lits found moved (record {
+      held = λ k g. held-value a k (passes-has (holds_in a) lits k (chosen-hold a q vs) g);
+      within = λ k g. of-has (λ (l : Literal). IsVar (var_count p) l.var) lits k (chosen-within (IsVar (var_count p)) a q vs within) g;
+      once = λ v. omega (arith, chosen-times a q vs v, are.once v);
+    })
+
+pub chosen-whole : (p : Program) (a : List (Option Bool)) (rows : List (List Place)) (columns : List (List Item)) (vars : List ℕ) (sums : List ℤ)
+    (vs : List ℕ) (d : ℕ) (q : ℕ → Bool → Bool) (found : List Literal) → IsKept p a rows columns vars sums → HaveRaisers a rows vs →
+    ((v : ℕ) (b : Bool) → raises_at rows d v b ≡ true → q v b ≡ true) → IsPermutation (chosen a q vs) found →
+    OfRaising p a d (λ v b. has_literal found (record { var = v; truth = b }) ≡ true)
+chosen-whole p a rows columns vars sums vs d q found kept are pass moved = λ j v b lt low i k e up.
+    sym (list_any-IsPermutation (λ (l : Literal). literal_eq l (record { var = v; truth = b })) (chosen a q vs) found moved)
+    ∙ chosen-raising p a rows columns vars sums vs d q kept are pass j v b lt low i k e up
+
+-- those that raise the first priorities
 pub found-held : (p : Program) (a : List (Option Bool)) (rows : List (List Place)) (columns : List (List Item)) (vars : List ℕ) (sums : List ℤ)
     (vs : List ℕ) (d : ℕ) (found : List Literal) → IsKept p a rows columns vars sums → HaveRaisers a rows vs →
     IsPermutation (raising_of a rows d vs) found → AreHeld p a found
-found-held p a rows columns vars sums vs d found kept are moved =
-    let lits : List Literal = raising_of a rows d vs in
-    let within : All (IsVar (var_count p)) vs = All-weaker (λ v. (0 < v) × (v < length a)) (IsVar (var_count p)) (λ v h. (h.0, omega (arith, kept.sized, h.1))) vs are.within in
-    held-permuted p a lits found moved (record {
-      held = λ k g. held-value a k (passes-has (holds_in a) lits k (raising-hold a rows d vs) g);
-      within = λ k g. of-has (λ (l : Literal). IsVar (var_count p) l.var) lits k (raising-within (IsVar (var_count p)) a rows d vs within) g;
-      once = λ v. omega (arith, raising-times a rows d vs v, are.once v);
-    })
+found-held p a rows columns vars sums vs d found kept are moved = chosen-held p a rows columns vars sums vs (raises_at rows d) found kept are moved
 
 found-whole : (p : Program) (a : List (Option Bool)) (rows : List (List Place)) (columns : List (List Item)) (vars : List ℕ) (sums : List ℤ)
     (vs : List ℕ) (d : ℕ) (found : List Literal) → IsKept p a rows columns vars sums → HaveRaisers a rows vs →
     IsPermutation (raising_of a rows d vs) found → OfRaising p a d (λ v b. has_literal found (record { var = v; truth = b }) ≡ true)
-found-whole p a rows columns vars sums vs d found kept are moved = λ j v b lt low i k e up.
-    sym (list_any-IsPermutation (λ (l : Literal). literal_eq l (record { var = v; truth = b })) (raising_of a rows d vs) found moved)
-    ∙ raising-whole p a rows columns vars sums vs d kept are j v b lt low i k e up
+found-whole p a rows columns vars sums vs d found kept are moved = chosen-whole p a rows columns vars sums vs d (raises_at rows d) found kept are (λ v b up. up) moved
+
+-- all of them
+abbrev pub held_of : List (Option Bool) → List ℕ → List Literal
+held_of a vs = flat_map (held_at a) vs
+
+pub all-held : (p : Program) (a : List (Option Bool)) (rows : List (List Place)) (columns : List (List Item)) (vars : List ℕ) (sums : List ℤ)
+    (vs : List ℕ) (found : List Literal) → IsKept p a rows columns vars sums → HaveRaisers a rows vs →
+    IsPermutation (held_of a vs) found → AreHeld p a found
+all-held p a rows columns vars sums vs found kept are moved = chosen-held p a rows columns vars sums vs (λ v b. true) found kept are moved
+
+pub all-whole : (p : Program) (a : List (Option Bool)) (rows : List (List Place)) (columns : List (List Item)) (vars : List ℕ) (sums : List ℤ)
+    (vs : List ℕ) (d : ℕ) (found : List Literal) → IsKept p a rows columns vars sums → HaveRaisers a rows vs →
+    IsPermutation (held_of a vs) found → OfRaising p a d (λ v b. has_literal found (record { var = v; truth = b }) ≡ true)
+all-whole p a rows columns vars sums vs d found kept are moved = chosen-whole p a rows columns vars sums vs d (λ v b. true) found kept are (λ v b up. refl) moved
 
 -- ---- what is given
 abbrev nogood_of : List ℤ → List Literal → Nogood
@@ -265,18 +303,16 @@ covers-told p a d n u t x inside hit whole = λ j v b lt low i k e up. elim (cas
 ]
 
 pub given-with : (p : Program) (a : List (Option Bool)) (rows : List (List Place)) (columns : List (List Item)) (vars : List ℕ) (sums : List ℤ) → IsKept p a rows columns vars sums →
-    (vs : List ℕ) → HaveRaisers a rows vs → (c : List ℤ) (x : Implied) (n : Nogood) (found : List Literal) (left : List ℤ) →
-    IsPermutation (raising_of a rows x.depth vs) found → IsKept p (set a x.lit.var (Some x.lit.truth)) rows columns vars left →
+    (c : List ℤ) (x : Implied) (n : Nogood) (found : List Literal) (left : List ℤ) → AreHeld p a found →
+    OfRaising p a x.depth (λ v b. has_literal found (record { var = v; truth = b }) ≡ true) → IsKept p (set a x.lit.var (Some x.lit.truth)) rows columns vars left →
     Reaches a rows sums c x → 0 < x.lit.var → x.lit.var ≤ var_count p →
     n ≡ record { lits = needed rows c x.depth left found ++ x.lit ∷ []; base = base.Below c } → IsGivenBy (record { program = p; values = a }) c n
-given-with p a rows columns vars sums kept vs are c x n found left moved more r i k e =
+given-with p a rows columns vars sums kept c x n found left held whole more r i k e =
     let d = x.depth in
     let one : List Literal = x.lit ∷ [] in
     let told : List (Option Bool) = set a x.lit.var (Some x.lit.truth) in
     let lits : List Literal = needed rows c d left found in
     let inside : x.lit.var < length a = omega (arith, kept.sized, k) in
-    let held = found-held p a rows columns vars sums vs d found kept are moved in
-    let whole = found-whole p a rows columns vars sums vs d found kept are moved in
     let reached : reach (optimistic p told) c ≡ Some d = sym (reach_at-set p a rows columns vars sums kept c x.lit.var x.lit.truth i k r.no_value) ∙ r.reached in
     let excluded : ExcludesBelow p c (lits ++ one) = record {
       excluded = λ y hit.
@@ -315,14 +351,14 @@ kept_raised p a rows columns vars sums kept v b row s left i k none er es long e
     omega (arith, ints, each j inside, ap (λ (z : List ℤ). get_or z j (pos 0)) es, ap (λ (r : List Place). raised r j b) er))
 
 pub given_with_as : (p : Program) (a : List (Option Bool)) (rows : List (List Place)) (columns : List (List Item)) (vars : List ℕ) (sums : List ℤ) → IsKept p a rows columns vars sums →
-    (vs : List ℕ) → HaveRaisers a rows vs → (c s limits : List ℤ) (x : Implied) (n : Nogood) (lits found : List Literal) (left : List ℤ) → s ≡ sums →
-    limits ≡ c → Reaches a rows s limits x → (0 < x.lit.var) × (x.lit.var < length a) → IsPermutation (raising_of a rows x.depth vs) found →
-    IsKept p (set a x.lit.var (Some x.lit.truth)) rows columns vars left → lits ≡ needed rows limits x.depth left found →
+    (c s limits : List ℤ) (x : Implied) (n : Nogood) (lits found : List Literal) (left : List ℤ) → s ≡ sums →
+    limits ≡ c → Reaches a rows s limits x → (0 < x.lit.var) × (x.lit.var < length a) → AreHeld p a found →
+    OfRaising p a x.depth (λ v b. has_literal found (record { var = v; truth = b }) ≡ true) → IsKept p (set a x.lit.var (Some x.lit.truth)) rows columns vars left → lits ≡ needed rows limits x.depth left found →
     n ≡ record { lits = lits ++ x.lit ∷ []; base = base.Below c } → IsGivenBy (record { program = p; values = a }) c n
-given_with_as p a rows columns vars sums kept vs are c s limits x n lits found left es el r within moved more elits e =
+given_with_as p a rows columns vars sums kept c s limits x n lits found left es el r within held whole more elits e =
     let reaches : Reaches a rows sums c x = subst (λ (l : List ℤ). Reaches a rows sums l x) el (subst (λ (z : List ℤ). Reaches a rows z limits x) es r) in
     let is : lits ≡ needed rows c x.depth left found = elits ∙ ap (λ (k : List ℤ). needed rows k x.depth left found) el in
-    given-with p a rows columns vars sums kept vs are c x n found left moved more reaches within.0 (omega (arith, kept.sized, within.1))
+    given-with p a rows columns vars sums kept c x n found left held whole more reaches within.0 (omega (arith, kept.sized, within.1))
     (e ∙ ap (λ (ls : List Literal). nogood_of c (ls ++ x.lit ∷ [])) is)
 
 -- ---- what the search for what is needed asks for

@@ -1,5 +1,5 @@
 -- The literals that raise the optimistic cost.
-use Rattle.std.specs.Prelude.{ℕ, nat_lt, Bool, ◌&&◌, if◌then◌else◌, List, [], ◌∷◌, take, Option, Some, None}
+use Rattle.std.specs.Prelude.{ℕ, nat_lt, Bool, true, ◌&&◌, if◌then◌else◌, List, [], ◌∷◌, take, Option, Some, None}
 use Rattle.std.specs.List.{list_any}
 use Rattle.asp_vars.specs.Literals.{Literal, value_of}
 use Rattle.asp_trail.specs.Entries.{assignment}
@@ -11,13 +11,18 @@ use Rattle.asp_bound.specs.Rises.{rise_by, row_at}
 abbrev pub raises : List Place → ℕ → Bool → Bool
 raises row depth b = list_any (λ o. nat_lt o.level depth && nat_lt 0 (rise_by b o)) row
 
--- the literal of the variable's value, if it adds something
-abbrev pub raising_by : List Place → ℕ → ℕ → Option Bool → List Literal
-raising_by row depth v None = []
-raising_by row depth v (Some b) = if raises row depth b then record { var = v; truth = b } ∷ [] else []
+-- the literal of the variable's value, if it has one that passes the test
+abbrev pub literal_if : (Bool → Bool) → ℕ → Option Bool → List Literal
+literal_if q v None = []
+literal_if q v (Some b) = if q b then record { var = v; truth = b } ∷ [] else []
 
+-- the literal of the variable's value, if it has one
+abbrev pub held_at : List (Option Bool) → ℕ → List Literal
+held_at a v = literal_if (λ b. true) v (value_of a v)
+
+-- the literal of the variable's value, if it adds something
 abbrev pub raising_at : List (Option Bool) → List (List Place) → ℕ → ℕ → List Literal
-raising_at a rows depth v = raising_by (row_at rows v) depth v (value_of a v)
+raising_at a rows depth v = literal_if (raises (row_at rows v) depth) v (value_of a v)
 
 -- the values before the entry at a place came
 abbrev pub before : Trailed → ℕ → List (Option Bool)

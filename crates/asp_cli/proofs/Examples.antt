@@ -472,10 +472,10 @@ queries_as_json = refl
 json_of_queries : words_give (codes "aspenum" ∷ codes "--output=json" ∷ codes "--queries" ∷ []) ≡ options (record standard { queries = true; form = Json })
 json_of_queries = refl
 
-counts_of_queries : words_give (codes "aspenum" ∷ codes "--queries" ∷ codes "--stats" ∷ []) ≡ misuse (rivals Queries Stats)
+counts_of_queries : words_give (codes "aspenum" ∷ codes "--queries" ∷ codes "--stats" ∷ []) ≡ options (record standard { queries = true; stats = true })
 counts_of_queries = refl
 
-queries_with_counts : words_give (codes "aspenum" ∷ codes "--stats" ∷ codes "--queries" ∷ []) ≡ misuse (rivals Stats Queries)
+queries_with_counts : words_give (codes "aspenum" ∷ codes "--stats" ∷ codes "--queries" ∷ []) ≡ options (record standard { queries = true; stats = true })
 queries_with_counts = refl
 
 stream_of_queries : words_give (codes "aspenum" ∷ codes "--queries" ∷ codes "--stream" ∷ []) ≡ misuse (rivals Queries Stream)

@@ -54,16 +54,15 @@ is_smodels (Some Smodels) = true
 
 -- ---- which options exclude each other
 -- The options that can't stand beside this one, whatever their values. A proof isn't written of parts, nor of several
--- queries, and it has the answers that `--quiet` leaves out. Proofs, parts and rings are written as text, and of queries no counts are
--- told; their answers are written as they come in any case. Where the program is divided nothing is solved: only `--make` and `--format` have a meaning there.
+-- queries, and it has the answers that `--quiet` leaves out. Proofs, parts and rings are written as text, and
+-- answers of queries as they come in any case. Where the program is divided nothing is solved: only `--make` and `--format` have a meaning there.
 abbrev pub rivals_of : Name → List Name
 rivals_of Proof = Split ∷ Quiet ∷ Output ∷ Queries ∷ []
 rivals_of OptAll = Split ∷ Queries ∷ []
 rivals_of Quiet = Proof ∷ Split ∷ []
 rivals_of Output = Make ∷ Proof ∷ Split ∷ []
 rivals_of Make = Output ∷ []
-rivals_of Queries = Proof ∷ OptAll ∷ Stats ∷ Stream ∷ []
-rivals_of Stats = Split ∷ Queries ∷ []
+rivals_of Queries = Proof ∷ OptAll ∷ Stream ∷ []
 rivals_of Stream = Split ∷ Queries ∷ []
 rivals_of Split = Mode ∷ Models ∷ OptAll ∷ Workers ∷ Log ∷ Budget ∷ Output ∷ Quiet ∷ Names ∷ Proof ∷ Queries ∷ CoreMin ∷ Stats ∷ Progress ∷ Stream ∷ []
 rivals_of Format = []
@@ -123,7 +122,8 @@ abbrev pub AreAsking : Found → Type 0
 AreAsking f = IsAlone f × (f.queries ≡ true → unasked f ≡ None)
 
 abbrev pub IsAsking : Options → Type 0
-IsAsking o = o.queries ≡ true → (o.proof ≡ false) × (o.all_optima ≡ false) × (o.stream ≡ false) × (o.make ≡ None) × (o.split ≡ None) × (o.models ≡ 0) × (o.format ≡ Aspif) × (seeks_consequences (Some o.mode) ≡ false)
+IsAsking o = o.queries ≡ true → (o.proof ≡ false) × (o.all_optima ≡ false) × (o.stream ≡ false) × (o.make ≡ None) × (o.split ≡ None) × (o.models ≡ 0) ×
+    (o.format ≡ Aspif) × (seeks_consequences (Some o.mode) ≡ false)
 
 -- what was found with an option's value; none where the option doesn't take it
 abbrev pub found_with : Found → Name → List ℕ → Option Found

@@ -176,8 +176,7 @@ fn rivals_of(name: Name) -> &'static [Name]
         Name::Quiet => &[Name::Proof, Name::Split],
         Name::Output => &[Name::Make, Name::Proof, Name::Split],
         Name::Make => &[Name::Output],
-        Name::Queries => &[Name::Proof, Name::OptAll, Name::Stats, Name::Stream],
-        Name::Stats => &[Name::Split, Name::Queries],
+        Name::Queries => &[Name::Proof, Name::OptAll, Name::Stream],
         Name::Stream => &[Name::Split, Name::Queries],
         Name::Split => &[
             Name::Mode,

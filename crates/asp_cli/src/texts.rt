@@ -54,11 +54,12 @@ name, after '=':\n\
 \x20 --make N          solve a ring of N nodes, 3 to 2000, and read no program\n\
 \x20 --queries         answer the queries after the program's end, one by one: lines\n\
 \x20                   '6 n l1 .. ln', up to a second line '0'; not beside --proof,\n\
-\x20                   --opt-all, --models, --stream, --stats, --make, --split,\n\
+\x20                   --opt-all, --models, --stream, --make, --split,\n\
 \x20                   smodels texts, brave or cautious\n\
 \x20 --core-min        leave out literals of a query's core as long as the others\n\
 \x20                   suffice\n\
-\x20 --stats           write counts of the run to standard error\n\
+\x20 --stats           write counts of the run, or of each query and of all\n\
+\x20                   together, to standard error\n\
 \x20 --progress        write a line to standard error when the conflicts or the\n\
 \x20                   answers have doubled, and for each cheaper answer\n\
 \x20 --stream          of all answers, write each as soon as none that stands before\n\

@@ -11,7 +11,7 @@ capped n = min n (2 ^ 64 - 1)
 
 -- what is counted before a run begins
 abbrev pub nothing : Counts
-nothing = record { conflicts = 0; decisions = 0; propagated = 0; restarts = 0; answers = 0; kept = 0; dropped = 0 }
+nothing = record { conflicts = 0; decisions = 0; propagated = 0; restarts = 0; answers = 0; kept = 0; dropped = 0; query = 0 }
 
 -- one more of what the step did
 abbrev pub one_more : Step → Counts → Counts
@@ -34,7 +34,20 @@ keeping n c = record c { kept = n; dropped = capped (c.dropped + (c.kept - n)) }
 abbrev pub counted : Step → ℕ → ℕ → Counts → Counts
 counted s implied kept c = keeping kept (implying implied (one_more s c))
 
--- what two searches did
+-- what was done since there were these counts; so many nogoods are kept as now
+abbrev pub since : Counts → Counts → Counts
+since c before = record {
+  conflicts = c.conflicts - before.conflicts;
+  decisions = c.decisions - before.decisions;
+  propagated = c.propagated - before.propagated;
+  restarts = c.restarts - before.restarts;
+  answers = c.answers - before.answers;
+  kept = c.kept;
+  dropped = c.dropped - before.dropped;
+  query = c.query;
+}
+
+-- what two searches did, the first one at its query
 abbrev pub joined : Counts → Counts → Counts
 joined c d = record {
   conflicts = capped (c.conflicts + d.conflicts);
@@ -44,9 +57,10 @@ joined c d = record {
   answers = capped (c.answers + d.answers);
   kept = capped (c.kept + d.kept);
   dropped = capped (c.dropped + d.dropped);
+  query = c.query;
 }
 
--- what all of them did: each field is the sum of theirs
+-- what all of them did: each field is the sum of theirs, and none is at a query
 abbrev pub together : {X : Type 0} → (X → Counts) → List X → Counts
 together f xs = record {
   conflicts = capped (sum_by (λ x. (f x).conflicts) xs);
@@ -56,4 +70,5 @@ together f xs = record {
   answers = capped (sum_by (λ x. (f x).answers) xs);
   kept = capped (sum_by (λ x. (f x).kept) xs);
   dropped = capped (sum_by (λ x. (f x).dropped) xs);
+  query = 0;
 }

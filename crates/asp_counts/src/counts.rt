@@ -1,6 +1,6 @@
 //! What a search did so far.
 ghost use Rattle.std.specs.Prelude.{◌≡◌};
-ghost use Rattle.asp_counts.specs.Counting.{counted, joined, keeping, nothing};
+ghost use Rattle.asp_counts.specs.Counting.{counted, joined, keeping, nothing, since};
 
 use asp_search_laws::step::Step;
 
@@ -21,6 +21,8 @@ pub struct Counts {
     pub kept: u64,
     /// Nogoods that were kept and are dropped, those of propagators too.
     pub dropped: u64,
+    /// The query of a series that is being answered, counted from 1; 0 where there is no series.
+    pub query: u64,
 }
 
 impl Counts {
@@ -36,6 +38,7 @@ impl Counts {
             answers: 0,
             kept: 0,
             dropped: 0,
+            query: 0,
         }
     }
 
@@ -62,7 +65,23 @@ impl Counts {
         self.kept = kept;
     }
 
-    /// Adds what another search did.
+    /// What was done since there were these counts. So many nogoods are kept as now.
+    pub fn since(&self, before: &Counts) -> Counts
+        ensures { result ≡ since self.now before.now }
+    {
+        Counts {
+            conflicts: self.conflicts.saturating_sub(before.conflicts),
+            decisions: self.decisions.saturating_sub(before.decisions),
+            propagated: self.propagated.saturating_sub(before.propagated),
+            restarts: self.restarts.saturating_sub(before.restarts),
+            answers: self.answers.saturating_sub(before.answers),
+            kept: self.kept,
+            dropped: self.dropped.saturating_sub(before.dropped),
+            query: self.query,
+        }
+    }
+
+    /// Adds what another search did. The query stays.
     pub fn add(&mut self, other: &Counts)
         ensures { self.new ≡ joined self.old other.now }
     {

@@ -12,6 +12,14 @@ pub trait Watch {
     fn tell(&mut self, counts: &Counts, best: Option<&Cost>)
         ensures { IsAfter self.old self.new };
 
+    /// Hears that the query which the counts name is over, and what the run did until then.
+    fn end_query(&mut self, counts: &Counts)
+        ensures { IsAfter self.old self.new };
+
+    /// Hears that no query is left.
+    fn end_series(&mut self)
+        ensures { IsAfter self.old self.new };
+
     /// Nothing need be told.
     ghost begins: { (w : Self) → IsAfter w w };
 
@@ -27,6 +35,10 @@ impl Watch for Unwatched {
     ghost IsAfter = { λ v w. Unit {0} };
 
     fn tell(&mut self, _counts: &Counts, _best: Option<&Cost>) {}
+
+    fn end_query(&mut self, _counts: &Counts) {}
+
+    fn end_series(&mut self) {}
 
     ghost begins = { λ w. tt };
 

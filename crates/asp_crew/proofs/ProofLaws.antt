@@ -38,7 +38,8 @@ played_with t r o is = record {
 }
 
 -- the same of two searches
-played_by : (p : Program) (ask : Ask) (units : ℕ) (r : Report) (o : Option Proof) (second : Option (List Event)) → IsPlayedBy second p ask units r → IsPlayedBy second p ask units (record r { proof = o })
+played_by : (p : Program) (ask : Ask) (units : ℕ) (r : Report) (o : Option Proof) (second : Option (List Event)) → IsPlayedBy second p ask units r →
+    IsPlayedBy second p ask units (record r { proof = o })
 played_by p ask units r o None is = played_with (task_of p ask units) r o is
 played_by p ask units r o (Some events) is = record {
   first = is.first;

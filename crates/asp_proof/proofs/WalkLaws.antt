@@ -148,7 +148,8 @@ front_answer sought answers S D e =
     ∙ sym (append_assoc head (lines answer_text (changes_of answers)) (line (answer_text D)))
     ∙ ap (λ (t : List ℕ). t ++ line (answer_text D)) (sym (append-nil (head ++ lines answer_text (changes_of answers))))
 
-front_line : (sought : Sought) (answers : List Atoms) (entries : List Line) (l : Line) → front_of (proof_of sought answers (entries ++ l ∷ [])) ≡ front_of (proof_of sought answers entries) ++ line (line_text l)
+front_line : (sought : Sought) (answers : List Atoms) (entries : List Line) (l : Line) → front_of (proof_of sought answers (entries ++ l ∷ [])) ≡ front_of
+    (proof_of sought answers entries) ++ line (line_text l)
 front_line sought answers entries l =
     let head = codes "proof 2\n" ++ mode_line sought ++ lines answer_text (changes_of answers) in
     ap (λ (t : List ℕ). head ++ t) (lines_more line_text entries l) ∙ sym (append_assoc head (lines line_text entries) (line (line_text l)))

@@ -5,7 +5,7 @@ ghost use Rattle.asp_scc.specs.Classes.{AreClasses, KeepsClasses, released};
 
 use crate::search::search;
 use asp_table::table::Table;
-use std::alloc::{AllocError, Global};
+use std::alloc::AllocError;
 
 // A node without a class, and one that a search has found.
 pub(crate) const FREE: u32 = 0;
@@ -30,13 +30,14 @@ fn release_all(states: &mut [u32], nodes: &[u32])
     }
 }
 
-// Gives a free node's class its number.
+// Gives a free node's class its number. The lists are room for what the searches find: their items before don't matter.
 pub(crate) fn settle_class(
-    alloc: Global,
     graph: &Table<u32>,
     reverse: &Table<u32>,
     states: &mut [u32],
     node: u32,
+    reached: &mut Vec<u32>,
+    members: &mut Vec<u32>,
 ) -> Result<(), AllocError>
     requires turned { AreTurned graph.now reverse.now }
     requires size { length states.old ≡ length graph.now }
@@ -47,8 +48,8 @@ pub(crate) fn settle_class(
     ensures kept { OnOk result (KeepsClasses states.old states.new) }
     ensures settled { OnOk result (slice_index states.new node ≢ 0) }
 {
-    let reached = search(alloc, graph, states, node, FREE, FOUND)?;
-    let _members = search(alloc, reverse, states, node, FOUND, node + 2)?;
+    search(graph, states, node, FREE, FOUND, reached)?;
+    search(reverse, states, node, FOUND, node + 2, members)?;
     release_all(states, reached.as_slice());
     Ok(())
 }

@@ -1,10 +1,10 @@
 //! Search through a graph.
-ghost use Rattle.std.specs.Prelude.{◌≡◌, ◌<◌, ◌≢◌, IfOk, OnOk, length, slice_index, All, fold};
+ghost use Rattle.std.specs.Prelude.{◌≡◌, ◌<◌, ◌≢◌, OnOk, length, slice_index, All, fold};
 ghost use Rattle.asp_scc.specs.Graphs.{IsGraph};
 ghost use Rattle.asp_scc.specs.Searches.{mark, Finds};
 
 use asp_table::table::Table;
-use std::alloc::{AllocError, Global};
+use std::alloc::AllocError;
 
 // Takes the node into the new state and the list, if it is in the old state.
 fn mark(
@@ -40,29 +40,30 @@ fn mark_all(
     Ok(())
 }
 
-/// The nodes to which nodes in the old state lead from one of them. They come into the new state, and no others do.
+/// Finds the nodes to which nodes in the old state lead from one of them. They come into the new state, and no others do. The
+/// list has them afterwards, and nothing that it had before.
 pub fn search(
-    alloc: Global,
     graph: &Table<u32>,
     states: &mut [u32],
     from: u32,
     old: u32,
     new: u32,
-) -> Result<Vec<u32>, AllocError>
+    found: &mut Vec<u32>,
+) -> Result<(), AllocError>
     requires graph { IsGraph graph.now }
     requires size { length states.old ≡ length graph.now }
     requires from { from < length graph.now }
     requires begins { slice_index states.old from ≡ old }
     requires differ { old ≢ new }
-    ensures { IfOk result (λ found. Finds graph.now old new from states.old states.new found.items) }
+    ensures { OnOk result (Finds graph.now old new from states.old states.new found.new.items) }
 {
-    let mut found = Vec::new(alloc);
-    mark(states, &mut found, from, old, new)?;
+    found.clear();
+    mark(states, found, from, old, new)?;
     let mut next = 0;
     while next < found.len() {
         let node = found[next];
-        mark_all(states, &mut found, graph.row(node as usize), old, new)?;
+        mark_all(states, found, graph.row(node as usize), old, new)?;
         next += 1;
     }
-    Ok(found)
+    Ok(())
 }

@@ -92,7 +92,13 @@ impl TwoWay {
     }
 
     // Gives a node's class its number, if it has none.
-    fn settle(&self, alloc: Global, states: &mut [u32], node: u32) -> Result<(), AllocError>
+    fn settle(
+        &self,
+        states: &mut [u32],
+        node: u32,
+        reached: &mut Vec<u32>,
+        members: &mut Vec<u32>,
+    ) -> Result<(), AllocError>
         requires size { length states.old ≡ length self.now }
         requires node { node < length self.now }
         requires classes { AreClasses self.now states.old }
@@ -101,7 +107,14 @@ impl TwoWay {
         ensures settled { OnOk result (slice_index states.new node ≢ 0) }
     {
         if states[node as usize] == FREE {
-            settle_class(alloc, &self.forward, &self.backward, states, node)?;
+            settle_class(
+                &self.forward,
+                &self.backward,
+                states,
+                node,
+                reached,
+                members,
+            )?;
         }
         Ok(())
     }
@@ -109,9 +122,10 @@ impl TwoWay {
     // The classes of these nodes, in this order.
     fn settle_listed(
         &self,
-        alloc: Global,
         states: &mut [u32],
         nodes: &[u32],
+        reached: &mut Vec<u32>,
+        members: &mut Vec<u32>,
     ) -> Result<(), AllocError>
         requires size { length states.old ≡ length self.now }
         requires classes { AreClasses self.now states.old }
@@ -119,21 +133,26 @@ impl TwoWay {
     {
         for node in nodes {
             if (*node as usize) < self.len() {
-                self.settle(alloc, states, *node)?;
+                self.settle(states, *node, reached, members)?;
             }
         }
         Ok(())
     }
 
     // The classes of all nodes.
-    fn settle_all(&self, alloc: Global, states: &mut [u32]) -> Result<(), AllocError>
+    fn settle_all(
+        &self,
+        states: &mut [u32],
+        reached: &mut Vec<u32>,
+        members: &mut Vec<u32>,
+    ) -> Result<(), AllocError>
         requires size { length states.old ≡ length self.now }
         requires classes { AreClasses self.now states.old }
         ensures classes { OnOk result (AreClasses self.now states.new) }
         ensures settled { OnOk result (All (λ n. n ≢ 0) states.new) }
     {
         for node in 0..self.len() {
-            self.settle(alloc, states, node as u32)?;
+            self.settle(states, node as u32, reached, members)?;
         }
         Ok(())
     }
@@ -147,8 +166,15 @@ impl TwoWay {
     {
         let order = finish_order(alloc, &self.backward)?;
         let mut states = vec![in alloc; FREE; self.len()]?;
-        self.settle_listed(alloc, states.as_mut_slice(), order.as_slice())?;
-        self.settle_all(alloc, states.as_mut_slice())?;
+        let mut reached = Vec::new(alloc);
+        let mut members = Vec::new(alloc);
+        self.settle_listed(
+            states.as_mut_slice(),
+            order.as_slice(),
+            &mut reached,
+            &mut members,
+        )?;
+        self.settle_all(states.as_mut_slice(), &mut reached, &mut members)?;
         Ok(states)
     }
 }

@@ -98,7 +98,6 @@ fn copy_lists<P: Propagator>(
 
 /// The conflict that a kept nogood shows, of which a literal has the greatest level.
 pub(crate) fn conflict<P: Propagator>(
-    alloc: Global,
     compiled: &Compiled,
     state: &SearchState<P>,
     mode: Mode,
@@ -113,7 +112,7 @@ pub(crate) fn conflict<P: Propagator>(
 {
     let top = state.trail().level_of(lit.var());
     let bound = copy_bound(bound)?;
-    let lists = copy_lists(alloc, state, top, id)?;
+    let lists = copy_lists(*known.allocator(), state, top, id)?;
     let Lists {
         cube,
         decisions,

@@ -183,7 +183,6 @@ impl<'a, P: Propagator> Search<'a, P> {
         ensures err { OnErr result (IsFailure (P.gives self.old.program self.old.bound) self.old self.new fuel.old fuel.new) }
     {
         let conflict = conflict(
-            self.alloc,
             self.compiled,
             &self.state,
             self.mode,

@@ -404,7 +404,8 @@ unopened given s held held' w w' closed front rose later = record {
   means = record {
     xs = [];
     some = record { left = given.budget; answered = nothing-answered given s.program s.queries given.budget };
-    text = front-more held held' _ _ (subst (AppendsFront held held') (ap (λ (t : List ℕ). opening_in given.form ++ t) (sym (nothing-said given s.program s.queries))) (front-more held held' _ [] front));
+    text = front-more held held' _ _ (subst (AppendsFront held held') (ap (λ (t : List ℕ). opening_in given.form ++ t) (sym
+        (nothing-said given s.program s.queries))) (front-more held held' _ [] front));
     cause = rose;
   };
   later = later;

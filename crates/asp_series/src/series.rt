@@ -247,10 +247,12 @@ fn step<K: Sink, W: Watch>(
     ensures closed { IfErr result (λ s. TellsClosed s (K.is_closed sink.new)) }
     ensures heard { W.IsAfter watch.old watch.new }
 {
+    counts.query = number;
     match answer(alloc, asking, counts, watch) {
         Ok(reply) => {
             let next = hand_over(alloc, asking, number, course, &reply, sink);
             mem::drop(reply);
+            watch.end_query(counts);
             next
         }
         Err(_) => Err(SeriesEnd::Memory),
@@ -389,12 +391,15 @@ fn ask_and_close<K: Sink, W: Watch>(
     ensures heard { W.IsAfter watch.old watch.new }
 {
     match ask_each(alloc, options, series, sink, counts, watch) {
-        Ok(course) => close(
-            options.form,
-            mode_of(options.mode, &series.program),
-            course,
-            sink,
-        ),
+        Ok(course) => {
+            watch.end_series();
+            close(
+                options.form,
+                mode_of(options.mode, &series.program),
+                course,
+                sink,
+            )
+        }
         Err(status) => status,
     }
 }

@@ -1,10 +1,10 @@
 -- Numbers with their names.
-use Rattle.std.specs.Prelude.{ℕ, List, [], ◌∷◌, ◌++◌, codes, decimal}
+use Rattle.std.specs.Prelude.{ℕ, Bool, if◌then◌else◌, List, [], ◌∷◌, ◌++◌, codes, decimal}
 use Rattle.asp_crew_laws.specs.declared.report.Report.{Report}
 use Rattle.asp_counts.specs.declared.counts.Counts.{Counts}
 use Rattle.asp_counts.specs.declared.tallies.WorkerCounts.{WorkerCounts}
 use Rattle.asp_top.specs.declared.counts.What.{What}
-use Rattle.asp_top.specs.declared.counts.What.TheVariants.{Spent, Leaves, Log, Decisions, Propagated, Restarts, Kept, Dropped, Worker, ItsConflicts, ItsDecisions, ItsPropagated, ItsRestarts, ItsAnswers, ItsKept, ItsDropped, Atoms, Bodies, Loops, SoFarConflicts, SoFarDecisions, SoFarRestarts, SoFarKept, SoFarAnswers}
+use Rattle.asp_top.specs.declared.counts.What.TheVariants.{Spent, Leaves, Log, Decisions, Propagated, Restarts, Kept, Dropped, Worker, ItsConflicts, ItsDecisions, ItsPropagated, ItsRestarts, ItsAnswers, ItsKept, ItsDropped, Atoms, Bodies, Loops, SoFarConflicts, SoFarDecisions, SoFarRestarts, SoFarKept, SoFarAnswers, Query, Queries, SeriesConflicts}
 use Rattle.asp_top.specs.declared.counts.Item.{Item}
 use Rattle.asp_top.specs.declared.counts.Tally.{Tally}
 
@@ -34,6 +34,9 @@ label_of SoFarDecisions = codes ", decisions "
 label_of SoFarRestarts = codes ", restarts "
 label_of SoFarKept = codes ", nogoods "
 label_of SoFarAnswers = codes ", answers "
+label_of Query = codes "Query: "
+label_of Queries = codes "Queries: "
+label_of SeriesConflicts = codes "\nConflicts: "
 
 abbrev pub item_text : Item → List ℕ
 item_text i = label_of i.what ++ decimal i.number
@@ -63,6 +66,10 @@ program_items t = count_of Atoms t.atoms ∷ count_of Bodies t.bodies ∷ []
 -- of its components with a loop
 abbrev pub loop_items : ℕ → List Item
 loop_items loops = count_of Loops loops ∷ []
+
+-- what stands before the other counts of a query, or of all queries together
+abbrev pub part_items : Bool → Counts → List Item
+part_items all c = count_of (if all then Queries else Query) c.query ∷ count_of SeriesConflicts c.conflicts ∷ []
 
 -- the counts of a run that goes on
 abbrev pub told_items : Counts → List Item

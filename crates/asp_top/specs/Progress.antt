@@ -1,10 +1,12 @@
 -- What the notes get while a run goes on.
-use Rattle.std.specs.Prelude.{◌≡◌, ℕ, ◌+◌, ◌<◌, ◌≤◌, Bool, false, List, [], ◌∷◌, ◌++◌, codes, ℤ, Option, None, Some}
-use Rattle.std.specs.List.{flat_map}
-use Rattle.std.specs.Fmt.{signed_decimal}
+use Rattle.std.specs.Prelude.{◌≡◌, ℕ, ◌+◌, ◌<◌, ◌≤◌, ◌⊎◌, inl, inr, ◌&&◌, if◌then◌else◌, Bool, true, List, [], ◌∷◌, ◌++◌, codes, ℤ, Option, None, Some, cond, nat_eq}
+use Rattle.std.specs.List.{AllByRecursion, flat_map}
+use Rattle.std.specs.Fmt.{decimal, signed_decimal}
 use Rattle.asp_counts.specs.declared.counts.Counts.{Counts}
 pub use Rattle.asp_counts.specs.Counting.{nothing}
-use Rattle.asp_top.specs.Counts.{item_text, told_items}
+use Rattle.asp_counts.specs.Counting.{since}
+use Rattle.asp_cli.specs.declared.Options.{Options}
+use Rattle.asp_top.specs.Counts.{item_text, part_items, search_items, told_items}
 use Rattle.asp_top.specs.Notes.{IsNoted}
 
 -- what a line tells: the counts, and in an optimisation the cost of the best answer so far
@@ -17,8 +19,37 @@ abbrev pub best_text : Option (List ℤ) → List ℕ
 best_text None = []
 best_text (Some c) = codes ", best" ++ flat_map (λ q. 32 ∷ signed_decimal q) c
 
+-- the end of a line: in a series it names the query that is being answered
+abbrev pub end_of : ℕ → List ℕ
+end_of query = cond (nat_eq query 0) (codes "\n") (codes ", query " ++ decimal query ++ codes "\n")
+
 abbrev pub line_of : Told → List ℕ
-line_of t = flat_map item_text (told_items t.counts) ++ best_text t.best ++ codes "\n"
+line_of t = flat_map item_text (told_items t.counts) ++ best_text t.best ++ end_of t.counts.query
+
+-- what was counted of a query, or of all queries together
+pub record Part : Type 0 where
+  pub all : Bool
+  pub counts : Counts
+
+abbrev pub part_text : Part → List ℕ
+part_text x = flat_map item_text (part_items x.all x.counts) ++ flat_map item_text (search_items x.counts) ++ codes "\n"
+
+-- a line of a run that goes on, or a part of a series
+abbrev pub Entry : Type 0
+Entry = Told ⊎ Part
+
+abbrev pub entry_text : Entry → List ℕ
+entry_text (inl t) = line_of t
+entry_text (inr x) = part_text x
+
+-- whether parts are told: of a series, where counts are asked for
+abbrev pub tells_parts : Options → Bool
+tells_parts given = given.stats && given.queries
+
+-- what is told is asked for
+abbrev pub IsAskedFor : Bool → Bool → Entry → Type 0
+IsAskedFor on parts (inl t) = on ≡ true
+IsAskedFor on parts (inr x) = parts ≡ true
 
 -- neither conflicts nor answers are fewer, and one of them are more
 pub record IsMore (c d : Counts) : Type 0 where
@@ -27,15 +58,28 @@ pub record IsMore (c d : Counts) : Type 0 where
   pub more : c.conflicts + c.answers < d.conflicts + d.answers
 
 -- the counts of these lines rise from the first to the last
-abbrev pub Rises : Counts → List Told → Counts → Type 0
+abbrev pub Rises : Counts → List Entry → Counts → Type 0
 Rises c [] d = c ≡ d
-Rises c (t ∷ told) d = IsMore c t.counts × Rises t.counts told d
+Rises c (inl t ∷ told) d = IsMore c t.counts × Rises t.counts told d
+Rises c (inr x ∷ told) d = Rises c told d
 
--- A front of the lines of a run that went on and of this text was written, and all of it where no fault was counted. Without the
--- option no line is told.
-pub record IsTold (on : Bool) (held held' : Option (List ℕ)) (faults faults' : ℕ) (text : List ℕ) : Type 0 where
-  pub told : List Told
-  pub silent : on ≡ false → told ≡ []
+-- A part of a query is what was done since the end of the query before, that of all queries what was done until the end of the last one.
+abbrev pub IsPartOf : Counts → Part → Counts → Type 0
+IsPartOf c x d = if x.all then (x.counts ≡ c) × (d ≡ c) else x.counts ≡ since d c
+
+-- one part begins where the one before it ends
+abbrev pub Adds : Counts → List Entry → Counts → Type 0
+Adds c [] d = c ≡ d
+Adds c (inl t ∷ told) d = Adds c told d
+Adds c (inr x ∷ told) d = (e : Counts) × IsPartOf c x e × Adds e told d
+
+-- A front of the lines of a run that went on, of the parts of a series, and of this text was written, and all of it where no fault was
+-- counted. What isn't asked for isn't told.
+pub record IsTold (on parts : Bool) (held held' : Option (List ℕ)) (faults faults' : ℕ) (text : List ℕ) : Type 0 where
+  pub told : List Entry
+  pub asked : AllByRecursion (IsAskedFor on parts) told
   pub last : Counts
   pub rises : Rises nothing told last
-  pub noted : IsNoted held held' faults faults' (flat_map line_of told ++ text)
+  pub before : Counts
+  pub adds : Adds nothing told before
+  pub noted : IsNoted held held' faults faults' (flat_map entry_text told ++ text)

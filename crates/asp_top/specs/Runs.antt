@@ -51,7 +51,7 @@ use Rattle.asp_stream.specs.declared.told.End.TheVariants as ends
 use Rattle.asp_stream.specs.declared.told.Told.{Told}
 use Rattle.asp_top.specs.Notes.{IsNoted, is_answered, is_streamed, is_written, note_of, notes_of}
 use Rattle.asp_top.specs.Parting.{AreParts, Divides}
-use Rattle.asp_top.specs.Progress.{IsTold}
+use Rattle.asp_top.specs.Progress.{IsTold, tells_parts}
 use Rattle.asp_top.specs.Usage.{misuse_note}
 
 -- the source and the sink before and after a run: the bytes that are left and held, where they are told, and the counts of faults
@@ -540,7 +540,7 @@ pub record IsCounted (workers : ℕ) (t : Tally) (r : Report) : Type 0 where
 pub record NotesRun (workers : ℕ) (given : Options) (held held' : Option (List ℕ)) (faults faults' : ℕ) (o : Outcome) : Type 0 where
   pub tally : Tally
   pub counted : IfSome o.report (IsCounted workers tally)
-  pub told : IsTold given.progress held held' faults faults' (notes_of given tally o)
+  pub told : IsTold given.progress (tells_parts given) held held' faults faults' (notes_of given tally o)
 
 -- what the notes get of a run whose words give this
 abbrev pub NotesOn : Given → Option (List ℕ) → Option (List ℕ) → ℕ → ℕ → Outcome → Type 0

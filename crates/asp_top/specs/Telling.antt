@@ -1,55 +1,59 @@
 -- Who writes to the notes how a run goes on, line by line.
-use Rattle.std.specs.Prelude.{◌≡◌, ℕ, Bool, true, List, [], ◌∷◌, ◌++◌, Option, Result, Ok, Err}
+use Rattle.std.specs.Prelude.{◌≡◌, inl, inr, ℕ, Bool, List, [], ◌∷◌, ◌++◌, Option, Result, Ok, Err}
 use Rattle.std.proofs.Common.{refl, sym, subst}
 use Rattle.asp_io.specs.declared.traits.Failed.{Failed}
 use Rattle.asp_counts.specs.declared.counts.Counts.{Counts}
 use Rattle.asp_top.specs.Notes.{IsNoted, Writes}
-use Rattle.asp_top.specs.Progress.{IsMore, Told, line_of}
+use Rattle.asp_top.specs.Progress.{Entry, IsAskedFor, IsMore, IsPartOf, entry_text}
 
--- the notes, whether they failed, and the counts of the last line
+-- the notes, whether they failed, and the counts of the last line and at the end of the last query
 pub record Point : Type 0 where
   pub held : Option (List ℕ)
   pub faults : ℕ
   pub state : Result (Unit {0}) Failed
   pub last : Counts
+  pub before : Counts
 
-abbrev pub point : Option (List ℕ) → ℕ → Result (Unit {0}) Failed → Counts → Point
-point held faults state last = record { held = held; faults = faults; state = state; last = last }
+abbrev pub point : Option (List ℕ) → ℕ → Result (Unit {0}) Failed → Counts → Counts → Point
+point held faults state last before = record { held = held; faults = faults; state = state; last = last; before = before }
 
--- One line was written, or a front of it where the notes failed; they hadn't failed before, lines are asked for, and there was more
--- to tell than before.
-pub record Step (on : Bool) (p : Point) (t : Told) (q : Point) : Type 0 where
-  pub asked : on ≡ true
+-- A line is told where there is more to tell than before; a part goes on from the one before it.
+abbrev pub IsNext : Point → Entry → Point → Type 0
+IsNext p (inl t) q = IsMore p.last t.counts × (q.last ≡ t.counts) × (q.before ≡ p.before)
+IsNext p (inr x) q = IsPartOf p.before x q.before × (q.last ≡ p.last)
+
+-- One was written, or a front of it where the notes failed; they hadn't failed before, and it is asked for.
+pub record Step (on parts : Bool) (p : Point) (e : Entry) (q : Point) : Type 0 where
+  pub asked : IsAskedFor on parts e
   pub fine : p.state ≡ Ok tt
-  pub more : IsMore p.last t.counts
-  pub last : q.last ≡ t.counts
-  pub writes : Writes p.held q.held p.faults q.faults q.state (line_of t)
+  pub next : IsNext p e q
+  pub writes : Writes p.held q.held p.faults q.faults q.state (entry_text e)
 
--- a line, and what stands after it
+-- what is told, and what stands after it
 pub record Line : Type 0 where
-  pub told : Told
+  pub told : Entry
   pub after : Point
 
-abbrev pub Chain : Bool → Point → List Line → Point → Type 0
-Chain on p [] q = p ≡ q
-Chain on p (l ∷ ls) q = Step on p l.told l.after × Chain on l.after ls q
+abbrev pub Chain : Bool → Bool → Point → List Line → Point → Type 0
+Chain on parts p [] q = p ≡ q
+Chain on parts p (l ∷ ls) q = Step on parts p l.told l.after × Chain on parts l.after ls q
 
--- some lines were told
-pub record Tells (on : Bool) (p q : Point) : Type 0 where
+-- some lines and parts were told
+pub record Tells (on parts : Bool) (p q : Point) : Type 0 where
   pub lines : List Line
-  pub chain : Chain on p lines q
+  pub chain : Chain on parts p lines q
 
 -- the last text of all, if the notes hadn't failed
 abbrev pub EndsWith : Result (Unit {0}) Failed → Option (List ℕ) → Option (List ℕ) → ℕ → ℕ → List ℕ → Type 0
 EndsWith (Ok v) held held' faults faults' text = IsNoted held held' faults faults' text
 EndsWith (Err e) held held' faults faults' text = (held' ≡ held) × (faults' ≡ faults)
 
-pub nothing_told : (on : Bool) (p : Point) → Tells on p p
-nothing_told on p = record { lines = []; chain = refl }
+pub nothing_told : (on parts : Bool) (p : Point) → Tells on parts p p
+nothing_told on parts p = record { lines = []; chain = refl }
 
-chain-then : (on : Bool) (p q r : Point) (x y : List Line) → Chain on p x q → Chain on q y r → Chain on p (x ++ y) r
-chain-then on p q r [] y c d = subst (λ (s : Point). Chain on s y r) (sym c) d
-chain-then on p q r (l ∷ x) y c d = (c.0, chain-then on l.after q r x y c.1 d)
+chain-then : (on parts : Bool) (p q r : Point) (x y : List Line) → Chain on parts p x q → Chain on parts q y r → Chain on parts p (x ++ y) r
+chain-then on parts p q r [] y c d = subst (λ (s : Point). Chain on parts s y r) (sym c) d
+chain-then on parts p q r (l ∷ x) y c d = (c.0, chain-then on parts l.after q r x y c.1 d)
 
-pub more_told : (on : Bool) (p q r : Point) → Tells on p q → Tells on q r → Tells on p r
-more_told on p q r a b = record { lines = a.lines ++ b.lines; chain = chain-then on p q r a.lines b.lines a.chain b.chain }
+pub more_told : (on parts : Bool) (p q r : Point) → Tells on parts p q → Tells on parts q r → Tells on parts p r
+more_told on parts p q r a b = record { lines = a.lines ++ b.lines; chain = chain-then on parts p q r a.lines b.lines a.chain b.chain }

@@ -87,16 +87,19 @@ TellsNone given p mode text = (answers p ≡ []) × InForm given.form (text ≡ 
 abbrev pub TellsAll : Options → Program → Mode → List ℕ → Type 0
 TellsAll given p Enum text = ¬ (answers p ≡ []) × InForm given.form (text ≡ listed given p (answers p) ++ closing (codes "SATISFIABLE") (decimal (length (answers p))))
     (text ≡ json_of given p Enum Finished (answers p) None None [])
-TellsAll given p Opt text = (S : Atoms) × Contains (optima p) S × InForm given.form (text ≡ listed given p (written_optima given p S) ++ cost_line (cost p S) ++ closing (codes "OPTIMUM FOUND") (decimal (length (written_optima given p S))))
+TellsAll given p Opt text = (S : Atoms) × Contains (optima p) S × InForm given.form (text ≡ listed given p (written_optima given p S) ++ cost_line (cost p S)
+    ++ closing (codes "OPTIMUM FOUND") (decimal (length (written_optima given p S))))
     (text ≡ json_of given p Opt Finished (listed_optima given p) (Some (S, cost p S)) None [])
 TellsAll given p (Consequences w) text = ¬ (answers p ≡ []) × InForm given.form (text ≡ told_line given.names w p ++ ended_line (codes "CONSEQUENCES FOUND"))
     (text ≡ json_of given p (Consequences w) Finished [] None (Some (consequences w p (answers p))) (told_texts w p))
 
 -- As many answers as `--models` asks for are written, with `--stream` in lines the first of all; or with `--opt-all` as many optima.
 abbrev pub TellsEnough : Options → Program → Mode → List ℕ → Type 0
-TellsEnough given p Enum text = (Ss : List Atoms) × InForm given.form (ArePickedBy given.stream given.models (answers p) Ss × (text ≡ listed given p Ss ++ closing (codes "LIMIT REACHED") (decimal given.models ++ codes "+")))
+TellsEnough given p Enum text = (Ss : List Atoms) × InForm given.form (ArePickedBy given.stream given.models (answers p) Ss × (text ≡ listed given p Ss
+    ++ closing (codes "LIMIT REACHED") (decimal given.models ++ codes "+")))
     (ArePicked given.models (answers p) Ss × (text ≡ json_of given p Enum Limited Ss None None []))
-TellsEnough given p Opt text = (S : Atoms) × (Ss : List Atoms) × Contains (optima p) S × ArePicked given.models (optima p) Ss × InForm given.form (text ≡ listed given p Ss ++ cost_line (cost p S) ++ closing (codes "LIMIT REACHED") (decimal given.models ++ codes "+"))
+TellsEnough given p Opt text = (S : Atoms) × (Ss : List Atoms) × Contains (optima p) S × ArePicked given.models (optima p) Ss × InForm given.form
+    (text ≡ listed given p Ss ++ cost_line (cost p S) ++ closing (codes "LIMIT REACHED") (decimal given.models ++ codes "+"))
     (text ≡ json_of given p Opt Limited Ss (Some (S, cost p S)) None [])
 TellsEnough given p (Consequences w) text = ⊥
 

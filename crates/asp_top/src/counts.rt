@@ -4,7 +4,7 @@ ghost use Rattle.std.specs.List.{flat_map};
 ghost use Rattle.asp_model.specs.Models.{atoms_of};
 ghost use Rattle.asp_vars.specs.Numbering.{bodies_of};
 ghost use Rattle.asp_buffer.specs.Out.{Puts, out};
-ghost use Rattle.asp_top.specs.Counts.{item_text, label_of, loop_items, program_items, report_items, search_items, told_items, worker_items};
+ghost use Rattle.asp_top.specs.Counts.{item_text, label_of, loop_items, part_items, program_items, report_items, search_items, told_items, worker_items};
 ghost use Rattle.asp_top.specs.Progress.{nothing};
 
 use asp_buffer::{Waiting, put, put_number};
@@ -17,7 +17,7 @@ use asp_vars::compiled::Compiled;
 use std::alloc::Global;
 
 /// What a number counts. The names with `SoFar` stand on the line of a run that goes on, those with `Its` on the line of a
-/// worker, the others on lines at the end.
+/// worker, the others on lines at the end of a run or of a query.
 #[derive(Clone, Copy)]
 pub enum What {
     Spent,
@@ -44,6 +44,9 @@ pub enum What {
     SoFarRestarts,
     SoFarKept,
     SoFarAnswers,
+    Query,
+    Queries,
+    SeriesConflicts,
 }
 
 /// A number, and what it counts.
@@ -146,6 +149,9 @@ fn label_of(what: What) -> &'static [u8]
         What::SoFarRestarts => b", restarts ",
         What::SoFarKept => b", nogoods ",
         What::SoFarAnswers => b", answers ",
+        What::Query => b"Query: ",
+        What::Queries => b"Queries: ",
+        What::SeriesConflicts => b"\nConflicts: ",
     }
 }
 
@@ -227,6 +233,17 @@ pub fn loop_items(loops: u64) -> [Item; 1]
     ensures { result ≡ loop_items loops }
 {
     [Item::of(What::Loops, loops)]
+}
+
+/// What stands before the other counts of a query, or with `all` of a series.
+pub fn part_items(all: bool, counts: &Counts) -> [Item; 2]
+    ensures { result ≡ part_items all counts.now }
+{
+    let what = if all { What::Queries } else { What::Query };
+    [
+        Item::of(what, counts.query),
+        Item::of(What::SeriesConflicts, counts.conflicts),
+    ]
 }
 
 /// What a line of a run that goes on tells, in its order.

@@ -3,13 +3,13 @@ ghost use Rattle.std.specs.Prelude.{◌≡◌, ◌<◌, IsTrue, true};
 ghost use Rattle.std.specs.Option.{option_copied};
 ghost use Rattle.asp_buffer.specs.Out.{Puts, out};
 ghost use Rattle.asp_top.specs.Notes.{Writes, notes_of};
-ghost use Rattle.asp_top.specs.Progress.{IsMore, best_text, line_of, nothing};
+ghost use Rattle.asp_top.specs.Progress.{IsMore, best_text, end_of, line_of, nothing, part_text, tells_parts};
 ghost use Rattle.asp_top.specs.Telling.{EndsWith};
 
-use crate::counts::{Tally, put_items, told_items};
+use crate::counts::{Tally, part_items, put_items, search_items, told_items};
 use crate::notes::note;
 use crate::status::Outcome;
-use asp_buffer::{Waiting, flush, put};
+use asp_buffer::{Waiting, flush, put, put_number};
 use asp_cli::Options;
 use asp_counts::counts::Counts;
 use asp_counts::watch::Watch;
@@ -40,6 +40,19 @@ fn put_best<N: Sink>(
     }
 }
 
+// The end of a line, which names the query of a series.
+fn put_end<N: Sink>(notes: &mut N, waiting: &mut Waiting, query: u64) -> Result<(), Failed>
+    ensures { Puts (out (N.held notes.old) (N.faults notes.old) waiting.old)
+        (out (N.held notes.new) (N.faults notes.new) waiting.new) result (end_of query) }
+{
+    if query == 0 {
+        return put(notes, waiting, b"\n");
+    }
+    put(notes, waiting, b", query ")?;
+    put_number(notes, waiting, query)?;
+    put(notes, waiting, b"\n")
+}
+
 fn put_line<N: Sink>(
     notes: &mut N,
     waiting: &mut Waiting,
@@ -53,7 +66,7 @@ fn put_line<N: Sink>(
     let items = told_items(counts);
     put_items(notes, waiting, &items)?;
     put_best(notes, waiting, best)?;
-    put(notes, waiting, b"\n")
+    put_end(notes, waiting, counts.query)
 }
 
 fn write_line<N: Sink>(notes: &mut N, counts: &Counts, best: Option<&Cost>) -> Result<(), Failed>
@@ -62,6 +75,31 @@ fn write_line<N: Sink>(notes: &mut N, counts: &Counts, best: Option<&Cost>) -> R
 {
     let mut waiting = Waiting::new();
     put_line(notes, &mut waiting, counts, best)?;
+    flush(notes, &mut waiting)
+}
+
+fn put_part<N: Sink>(
+    notes: &mut N,
+    waiting: &mut Waiting,
+    counts: &Counts,
+    all: bool,
+) -> Result<(), Failed>
+    ensures { Puts (out (N.held notes.old) (N.faults notes.old) waiting.old)
+        (out (N.held notes.new) (N.faults notes.new) waiting.new) result (part_text (record { all = all; counts = counts.now })) }
+{
+    let first = part_items(all, counts);
+    put_items(notes, waiting, &first)?;
+    let others = search_items(counts);
+    put_items(notes, waiting, &others)?;
+    put(notes, waiting, b"\n")
+}
+
+fn write_part<N: Sink>(notes: &mut N, counts: &Counts, all: bool) -> Result<(), Failed>
+    ensures { Writes (N.held notes.old) (N.held notes.new) (N.faults notes.old) (N.faults notes.new) result
+        (part_text (record { all = all; counts = counts.now })) }
+{
+    let mut waiting = Waiting::new();
+    put_part(notes, &mut waiting, counts, all)?;
     flush(notes, &mut waiting)
 }
 
@@ -97,22 +135,30 @@ pub struct Progress<'a, N: Sink> {
     pub state: Result<(), Failed>,
     /// The counts of the last line.
     pub last: Counts,
+    /// Whether the counts of each query are asked for, and those of all.
+    pub parts: bool,
+    /// The counts at the end of the last query.
+    pub before: Counts,
 }
 
 impl<'a, N: Sink> Progress<'a, N> {
     /// Nothing was written yet.
-    pub fn new(notes: &'a mut N, on: bool) -> Progress<'a, N>
+    pub fn new(notes: &'a mut N, options: &Options) -> Progress<'a, N>
         ensures same { result.notes.ghost_name ≡ notes.entry.ghost_name }
         ensures now { result.notes.now ≡ notes.old }
-        ensures on { result.on ≡ on }
+        ensures on { result.on ≡ options.now.progress }
         ensures state { result.state ≡ Ok tt }
         ensures last { result.last ≡ nothing }
+        ensures parts { result.parts ≡ tells_parts options.now }
+        ensures before { result.before ≡ nothing }
     {
         Progress {
             notes,
-            on,
+            on: options.progress,
             state: Ok(()),
             last: Counts::new(),
+            parts: options.stats && options.queries,
+            before: Counts::new(),
         }
     }
 
@@ -124,6 +170,17 @@ impl<'a, N: Sink> Progress<'a, N> {
     {
         match self.state {
             Ok(()) => self.on && is_more(&self.last, counts, cheaper),
+            Err(Failed) => false,
+        }
+    }
+
+    // Whether a part is to be written.
+    fn tells_parts(&self) -> bool
+        ensures asked { IsTrue result → self.now.parts ≡ true }
+        ensures state { IsTrue result → self.now.state ≡ Ok tt }
+    {
+        match self.state {
+            Ok(()) => self.parts,
             Err(Failed) => false,
         }
     }
@@ -151,8 +208,9 @@ impl<N: Sink> Watch for Progress<'_, N> {
     ghost use Rattle.std.specs.Prelude.{◌≡◌};
     ghost use Rattle.asp_top.specs.Telling.{Tells, more_told, nothing_told, point};
 
-    ghost IsAfter = { λ p q. (q.notes.ghost_name ≡ p.notes.ghost_name) × (q.on ≡ p.on)
-        × Tells p.on (point (N.held p.notes.now) (N.faults p.notes.now) p.state p.last) (point (N.held q.notes.now) (N.faults q.notes.now) q.state q.last) };
+    ghost IsAfter = { λ p q. (q.notes.ghost_name ≡ p.notes.ghost_name) × (q.on ≡ p.on) × (q.parts ≡ p.parts)
+        × Tells p.on p.parts (point (N.held p.notes.now) (N.faults p.notes.now) p.state p.last p.before)
+        (point (N.held q.notes.now) (N.faults q.notes.now) q.state q.last q.before) };
 
     fn tell(&mut self, counts: &Counts, best: Option<&Cost>) {
         if !self.is_due(counts, best.is_some()) {
@@ -162,11 +220,31 @@ impl<N: Sink> Watch for Progress<'_, N> {
         self.last = *counts;
     }
 
-    ghost begins = { λ w. (refl, refl, nothing_told w.on (point (N.held w.notes.now) (N.faults w.notes.now) w.state w.last)) };
+    fn end_query(&mut self, counts: &Counts) {
+        if !self.tells_parts() {
+            return;
+        }
+        self.state = write_part(self.notes, &counts.since(&self.before), false);
+        self.before = *counts;
+    }
+
+    fn end_series(&mut self) {
+        if !self.tells_parts() {
+            return;
+        }
+        self.state = write_part(self.notes, &self.before, true);
+    }
+
+    ghost begins = { λ w. (refl, refl, refl, nothing_told w.on w.parts (point (N.held w.notes.now) (N.faults w.notes.now) w.state w.last w.before)) };
 
     ghost goes_on = { λ u v w a b.
-        let p = point (N.held u.notes.now) (N.faults u.notes.now) u.state u.last in
-        let q = point (N.held v.notes.now) (N.faults v.notes.now) v.state v.last in
-        let r = point (N.held w.notes.now) (N.faults w.notes.now) w.state w.last in
-        (b.0 ∙ a.0, b.1 ∙ a.1, more_told u.on p q r a.2 (subst (λ (on : Bool). Tells on q r) a.1 b.2)) };
+        let p = point (N.held u.notes.now) (N.faults u.notes.now) u.state u.last u.before in
+        let q = point (N.held v.notes.now) (N.faults v.notes.now) v.state v.last v.before in
+        let r = point (N.held w.notes.now) (N.faults w.notes.now) w.state w.last w.before in (
+          b.0 ∙ a.0,
+          b.1 ∙ a.1,
+          b.2 ∙ a.2,
+          more_told u.on u.parts p q r a.3
+              (subst (λ (parts : Bool). Tells u.on parts q r) a.2 (subst (λ (on : Bool). Tells on v.parts q r) a.1 b.3)),
+        ) };
 }

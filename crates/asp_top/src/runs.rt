@@ -209,13 +209,15 @@ pub fn run_alone<S: Source, K: Sink, N: Sink>(
     ensures notes { NotesRun 0 options.now (N.held notes.old) (N.held notes.new) (N.faults notes.old) (N.faults notes.new) result }
 {
     let mut tally = Tally::new(alloc);
-    let mut progress = Progress::new(notes, options.progress);
+    let mut progress = Progress::new(notes, options);
     let outcome = outcome(alloc, options, source, sink, &mut tally, &mut progress);
     let Progress {
         notes,
         on: _,
         state,
         last: _,
+        parts: _,
+        before: _,
     } = progress;
     end(notes, state, options, &tally, &outcome);
     outcome
@@ -244,7 +246,7 @@ fn run_by_crew<R: Threads + Wait + Sync, S: Source, K: Sink, N: Sink, G: Gate + 
     ensures notes { NotesRun options.now.workers options.now (N.held notes.old) (N.held notes.new) (N.faults notes.old) (N.faults notes.new) result }
 {
     let mut tally = Tally::new(alloc);
-    let progress = Progress::new(notes, options.progress);
+    let progress = Progress::new(notes, options);
     let (outcome, progress) = outcome_by_crew(
         rt, alloc, options, source, sink, gate, &mut tally, progress,
     );
@@ -253,6 +255,8 @@ fn run_by_crew<R: Threads + Wait + Sync, S: Source, K: Sink, N: Sink, G: Gate + 
         on: _,
         state,
         last: _,
+        parts: _,
+        before: _,
     } = progress;
     end(notes, state, options, &tally, &outcome);
     outcome

@@ -1,20 +1,21 @@
 -- How the places of variables are gathered, and what a variable's places say.
-use Rattle.std.proofs.Common.{◌≡◌, ◌≢◌, ℕ, suc, zero, ◌+◌, ◌<◌, Bool, true, false, cond, ◌&&◌, ◌||◌, eqb, List, [], ◌∷◌, ◌++◌, length, take, replicate, get_or, refl, sym, ap, ◌∙◌, subst, arith, get_or-set_other, get_or-set_same}
+use Rattle.std.proofs.Common.{◌≡◌, ◌≢◌, ℕ, suc, zero, ◌+◌, ◌<◌, ◌≤◌, Bool, true, false, cond, ◌&&◌, ◌||◌, eqb, List, [], ◌∷◌, ◌++◌, length, take, replicate, get_or, set, map, refl, sym, ap, ◌∙◌, subst, arith, get_or-set_other, get_or-set_same}
 use Rattle.std.specs.List.{All}
 use Rattle.std.specs.Bool.{beq}
 use Rattle.std.proofs.lemmas.Bool.{eq-eqb, eqb-true}
 use Rattle.std.proofs.lemmas.Bool.Decides.{nat_tests}
-use Rattle.std.proofs.lemmas.List.{length-set, length_push, get_or_push, get_or_append_left, length-take-le, take_more}
+use Rattle.std.proofs.lemmas.List.{length-set, length-map, length_push, get_or_push, get_or_append_left, length-take-le, take_all, take_more, map-append, map-set}
+use Rattle.std.proofs.Math.ListN.{get_or-map}
 use Rattle.std.proofs.lemmas.List.Elements.{All-head, All-tail, All-push}
 use Rattle.std.proofs.lemmas.List.Folds.{list_any-append}
-use Rattle.std.proofs.lemmas.List.Sums.{sum_by-cons, sum_by_push}
+use Rattle.std.proofs.lemmas.List.Sums.{fold-append, sum_by-cons, sum_by_push}
 use Rattle.asp_vars.specs.Literals.{Literal}
 use Rattle.asp_weight.specs.declared.item.Item.{Item}
 use Rattle.asp_weight.specs.declared.item.Shape.{Shape}
 use Rattle.asp_weight.specs.declared.item.Place.{Place}
 use Rattle.asp_weight.specs.Rows.{row_at, shape_at}
 use Rattle.asp_weight.specs.Tallied.{sum_in, weight_in}
-use Rattle.asp_weight.specs.Placed.{places_at, weight_at, sum_at, touches, put, place_of, put_row, own_of, ArePlaces, HaveRoom}
+use Rattle.asp_weight.specs.Placed.{bare_place, bare, places_at, weight_at, sum_at, touches, put, place_of, put_row, own_of, ArePlaces, HaveRoom}
 
 pub length-put_row : (w : ℕ) (places : List (List Place)) (row : List Item) → length (put_row w places row) ≡ length places
 length-put_row w places [] = refl
@@ -23,7 +24,7 @@ length-put_row w places (i ∷ row) =
 
 -- ---- one more place
 none_there : Place
-none_there = record { weight = 0; body = 0; truth = false }
+none_there = record { weight = 0; body = 0; bit = 0; truth = false }
 
 places_at-put : (v : ℕ) (ps : List (List Place)) (o : Place) (u : ℕ) (b : Bool) → b ≡ eqb v u → v < length ps →
     places_at (put v ps o) u ≡ cond b (places_at ps u ++ o ∷ []) (places_at ps u)
@@ -168,6 +169,64 @@ placed_more shapes rows ps s row n a e f h v = record {
         ∙ (touches-put s.var (put_row n ps row) (own_of n) (shape_at shapes w).var w still
         ∙ ap (λ b. b || (eqb s.var (shape_at shapes w).var && eqb n w)) (touches-put_row n ps row (shape_at shapes w).var w h (a.own w lt)))
 
+-- ---- without the bits
+pub length-bare : (ps : List (List Place)) → length (bare ps) ≡ length ps
+length-bare ps = length-map ps (map bare_place)
+
+places_at-bare : (ps : List (List Place)) (v : ℕ) → places_at (bare ps) v ≡ map bare_place (places_at ps v)
+places_at-bare ps v = get_or-map (map bare_place) ps v []
+
+pub bare-put : (ps : List (List Place)) (v : ℕ) (o : Place) → bare (put v ps o) ≡ put v (bare ps) (bare_place o)
+bare-put ps v o =
+    map-set (map bare_place) ps v (places_at ps v ++ o ∷ [])
+    ∙ ap (λ xs. set (bare ps) v xs) (map-append bare_place (places_at ps v) (o ∷ []) ∙ ap (λ xs. xs ++ bare_place o ∷ []) (sym (places_at-bare ps v)))
+
+sum_in-bare : (w : ℕ) (truth : Bool) (os : List Place) → sum_in w truth (map bare_place os) ≡ sum_in w truth os
+sum_in-bare w truth [] = refl
+sum_in-bare w truth (o ∷ os) =
+    sum_by-cons (weight_in w truth) (bare_place o) (map bare_place os)
+    ∙ (ap (λ n. weight_in w truth o + n) (sum_in-bare w truth os) ∙ sym (sum_by-cons (weight_in w truth) o os))
+
+touches-bare : (w : ℕ) (os : List Place) → touches w (map bare_place os) ≡ touches w os
+touches-bare w [] = refl
+touches-bare w (o ∷ os) = ap (λ b. eqb o.body w || b) (touches-bare w os)
+
+within-bare : (n : ℕ) (os : List Place) → All (λ o. o.body < n) (map bare_place os) → All (λ o. o.body < n) os
+within-bare n os a k d h =
+    omega (arith, a k (bare_place d) (omega (arith, h, length-map os bare_place)), ap (λ (o : Place). o.body) (get_or-map bare_place os k d))
+
+-- The bits say nothing of sums and bodies.
+pub placed_bare : (shapes : List Shape) (rows : List (List Item)) (ps : List (List Place)) → ArePlaces shapes rows (bare ps) → ArePlaces shapes rows ps
+placed_bare shapes rows ps a = record {
+  sums = λ w v truth. sym (sum_in-bare w truth (places_at ps v)) ∙ (ap (sum_in w truth) (sym (places_at-bare ps v)) ∙ a.sums w v truth);
+  own = λ w l.
+      sym (touches-bare w (places_at ps (shape_at shapes w).var))
+      ∙ (ap (touches w) (sym (places_at-bare ps (shape_at shapes w).var)) ∙ a.own w l);
+  within = λ v. within-bare (length rows) (places_at ps v) (subst (λ (os : List Place). All (λ o. o.body < length rows) os) (places_at-bare ps v) (a.within v));
+}
+
+-- one more item of a row
+pub put_row_more : (w : ℕ) (ps qs rs : List (List Place)) (row : List Item) (k v n b : ℕ) (t : Bool) (i d : Item) → k < length row → i ≡ get_or row k d →
+    bare qs ≡ put_row w (bare ps) (take k row) → v ≡ i.lit.var → n ≡ i.weight → t ≡ i.lit.truth →
+    rs ≡ put v qs (record { weight = n; body = w; bit = b; truth = t }) → bare rs ≡ put_row w (bare ps) (take (k + 1) row)
+put_row_more w ps qs rs row k v n b t i d h is e at weighs says f =
+    ap bare f
+    ∙ (bare-put qs v (record { weight = n; body = w; bit = b; truth = t })
+    ∙ (ap (λ u. put u (bare qs) (record { weight = n; body = w; bit = 0; truth = t })) at
+    ∙ (ap (λ m. put i.lit.var (bare qs) (record { weight = m; body = w; bit = 0; truth = t })) weighs
+    ∙ (ap (λ c. put i.lit.var (bare qs) (record { weight = i.weight; body = w; bit = 0; truth = c })) says
+    ∙ (ap (λ xs. put i.lit.var xs (place_of w i)) e
+    ∙ (sym (fold-append (λ xs (x : Item). put x.lit.var xs (place_of w x)) (bare ps) (take k row) (i ∷ []))
+    ∙ ap (put_row w (bare ps)) (ap (λ (x : Item). take k row ++ x ∷ []) is ∙ sym (take_more row k d h))))))))
+
+-- the place of a body's own variable
+pub own_more : (w v : ℕ) (ps qs rs : List (List Place)) (b : ℕ) → qs ≡ put v ps (record { weight = 0; body = w; bit = b; truth = true }) → bare ps ≡ rs → bare qs ≡ put v rs (own_of w)
+own_more w v ps qs rs b e f = ap bare e ∙ (bare-put ps v (record { weight = 0; body = w; bit = b; truth = true }) ∙ ap (λ xs. put v xs (own_of w)) f)
+
+pub bare-none : (n : ℕ) → (let nothing : List Place = [] in bare (replicate n nothing)) ≡ replicate n []
+bare-none zero = refl
+bare-none (suc n) = ap (λ xs. [] ∷ xs) (bare-none n)
+
 nowhere : (n v : ℕ) → (let nothing : List Place = [] in get_or (replicate n nothing) v nothing) ≡ []
 nowhere zero v = refl
 nowhere (suc n) zero = refl
@@ -201,3 +260,11 @@ placed_next shapes rows ps qs vars n s row room l size a e f q = (
 
     next_rows : take (n + 1) rows ≡ take n rows ++ row ∷ []
     next_rows = take_more rows n [] l ∙ ap (λ x. take n rows ++ x ∷ []) (sym f)
+
+pub placed_whole : (shapes : List Shape) (rows : List (List Item)) (ps qs : List (List Place)) (n : ℕ) → length shapes ≡ length rows → length shapes ≤ n →
+    ArePlaces (take n shapes) (take n rows) (bare ps) → qs ≡ ps → ArePlaces shapes rows qs
+placed_whole shapes rows ps qs n e h a f =
+    subst (λ (xs : List (List Place)). ArePlaces shapes rows xs) (sym f)
+    (placed_bare shapes rows ps
+    (subst (λ (rs : List (List Item)). ArePlaces shapes rs (bare ps)) (take_all n rows (omega (arith, e, h)))
+    (subst (λ (ss : List Shape). ArePlaces ss (take n rows) (bare ps)) (take_all n shapes h) a)))

@@ -1,5 +1,5 @@
 -- The places of literals in weight bodies, by variable.
-use Rattle.std.specs.Prelude.{◌≡◌, ℕ, ◌<◌, ◌≤◌, ◌^◌, ◌==◌, true, Bool, if◌then◌else◌, List, [], ◌∷◌, ◌++◌, fold, length, sum_by, slice_index_or, slice_set}
+use Rattle.std.specs.Prelude.{◌≡◌, ℕ, ◌<◌, ◌≤◌, ◌^◌, ◌==◌, true, Bool, if◌then◌else◌, List, [], ◌∷◌, ◌++◌, map, fold, length, sum_by, slice_index_or, slice_set}
 use Rattle.std.specs.List.{All, list_any}
 use Rattle.asp_vars.specs.Literals.{Literal, literal_eq}
 use Rattle.asp_weight.specs.declared.item.Item.{Item}
@@ -22,11 +22,18 @@ abbrev pub touches : ℕ → List Place → Bool
 touches w places = list_any (λ o. o.body == w) places
 
 -- ---- how the places are gathered
+-- the places without their bits, which are hints
+abbrev pub bare_place : Place → Place
+bare_place o = record { weight = o.weight; body = o.body; bit = 0; truth = o.truth }
+
+abbrev pub bare : List (List Place) → List (List Place)
+bare places = map (map bare_place) places
+
 abbrev pub put : ℕ → List (List Place) → Place → List (List Place)
 put v places o = slice_set places v (places_at places v ++ o ∷ [])
 
 abbrev pub place_of : ℕ → Item → Place
-place_of w i = record { weight = i.weight; body = w; truth = i.lit.truth }
+place_of w i = record { weight = i.weight; body = w; bit = 0; truth = i.lit.truth }
 
 abbrev pub put_row : ℕ → List (List Place) → List Item → List (List Place)
 put_row w places row = fold (λ ps i. put i.lit.var ps (place_of w i)) places row
@@ -39,7 +46,7 @@ pub record ArePlaces (shapes : List Shape) (rows : List (List Item)) (places : L
 
 -- a body's place in its own variable
 abbrev pub own_of : ℕ → Place
-own_of w = record { weight = 0; body = w; truth = true }
+own_of w = record { weight = 0; body = w; bit = 0; truth = true }
 
 -- The variables are among those up to vars.
 pub record HaveRoom (vars : ℕ) (shapes : List Shape) (rows : List (List Item)) : Type 0 where

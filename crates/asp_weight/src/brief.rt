@@ -7,7 +7,7 @@ ghost use Rattle.asp_weight.specs.Explained.{before};
 ghost use Rattle.asp_weight.specs.Spoken.{item_at, IsReady};
 ghost use Rattle.asp_weight.specs.Brief.{IsEnough, IsBy, IsBrief};
 
-use crate::held::{Held, Marked};
+use crate::held::{Hints, Marked};
 use crate::item::{Item, Shape, on};
 use crate::look::need;
 use crate::speech::add;
@@ -112,8 +112,7 @@ fn is_by(
 // The literals of the reason.
 fn literals(
     alloc: Global,
-    held: &Held,
-    body: usize,
+    hints: &Hints<'_>,
     lit: Lit,
     trail: &Trail,
     place: usize,
@@ -133,10 +132,10 @@ fn literals(
             place,
             shape,
             row,
-            held.of(body, lit.truth()),
+            hints.marked(lit.truth()),
         );
     }
-    let Some(at) = held.place_of(body, lit.var(), row.len()) else {
+    let Some(at) = hints.place_of(lit.var(), row.len()) else {
         return Ok(None);
     };
     let side = trail.held_before(Lit::new(shape.var, false), place);
@@ -154,15 +153,14 @@ fn literals(
         need(shape, side),
         item.weight,
         row,
-        held.of(body, side),
+        hints.marked(side),
     )
 }
 
 /// The nogood by which the literal at a place followed from a body, if the marked literals give it.
 pub fn brief(
     alloc: Global,
-    held: &Held,
-    body: usize,
+    hints: &Hints<'_>,
     lit: Lit,
     trail: &Trail,
     place: usize,
@@ -175,7 +173,7 @@ pub fn brief(
     ensures lits { IfOk result (λ r. IfSome r (λ n. IsBrief (before trail.now place) shape.now row.now lit n.lits)) }
     ensures base { IfOk result (λ r. IfSome r (λ n. n.base ≡ base.Pure)) }
 {
-    let all = literals(alloc, held, body, lit, trail, place, shape, row)?;
+    let all = literals(alloc, hints, lit, trail, place, shape, row)?;
     match all {
         None => Ok(None),
         Some(all) => {

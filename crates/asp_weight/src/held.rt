@@ -1,33 +1,26 @@
 //! Which literals of long bodies hold, a bit for each: what a reason is gathered from without a walk over the row.
 //!
 //! They are hints. Nothing is proved of them: a literal that they name is looked up on the trail before it is used, and where those
-//! that they name don't reach the sum, the row is walked.
+//! that they name don't reach the sum, the row is walked. A literal's place names its bit, so one walk over a variable's places sets
+//! the bits and keeps the sums.
 ghost use Rattle.std.specs.Prelude.{◌≤◌, ◌<◌, IfSome};
 
-use crate::item::Item;
-use asp_table::buckets::Buckets;
+use crate::item::{Item, Place};
+use asp_table::narrow::narrow;
 use asp_table::table::Table;
-use asp_vars::lit::{Lit, Var};
+use asp_vars::lit::Var;
 use std::alloc::{AllocError, Global};
 
 /// The nogoods of bodies with more literals are written when they are asked for.
 pub const LONG: usize = 24;
 
-/// Where a literal of a variable stands.
-#[derive(Clone, Copy)]
-pub struct Spot {
-    /// The literal's number among the literals of all long bodies, row after row.
-    pub bit: u32,
-    /// Whether the literal is the variable itself, and not its complement.
-    pub truth: bool,
-}
+/// The bit of a place that has none.
+pub const NO_BIT: u32 = u32::MAX;
 
 /// The literals of long bodies that hold, and those whose complements hold.
 #[derive(Drop)]
 pub struct Held {
-    /// By variable, its literals in long bodies. No row where there is no long body.
-    spots: Table<Spot>,
-    /// By weight body, the number of its first literal, if it is long.
+    /// By weight body, the bit of its first literal; `NO_BIT` if it is short. Empty where no body is long.
     starts: Vec<u32>,
     /// A bit for each literal: it holds.
     yes: Vec<u64>,
@@ -98,47 +91,6 @@ fn unset(words: &mut [u64], bit: u32) {
     }
 }
 
-// A variable with these literals got the value.
-fn set_all(yes: &mut [u64], no: &mut [u64], spots: &[Spot], truth: bool) {
-    for spot in spots {
-        if spot.truth == truth {
-            set(yes, spot.bit);
-        } else {
-            set(no, spot.bit);
-        }
-    }
-}
-
-// It lost the value.
-fn unset_all(yes: &mut [u64], no: &mut [u64], spots: &[Spot], truth: bool) {
-    for spot in spots {
-        if spot.truth == truth {
-            unset(yes, spot.bit);
-        } else {
-            unset(no, spot.bit);
-        }
-    }
-}
-
-// Numbers the literals of a row from this number on.
-fn add_row(spots: &mut Buckets<Spot>, start: u32, row: &[Item]) -> Result<u32, AllocError> {
-    let mut bit = start;
-    for item in row {
-        let var = item.lit.var() as usize;
-        if var < spots.len() && bit < u32::MAX {
-            spots.push(
-                var,
-                Spot {
-                    bit,
-                    truth: item.lit.truth(),
-                },
-            )?;
-            bit += 1;
-        }
-    }
-    Ok(bit)
-}
-
 // Whether a body is long.
 fn is_long(row: &[Item]) -> bool {
     row.len() > LONG
@@ -155,102 +107,120 @@ fn has_long(rows: &Table<Item>) -> bool {
 
 impl Held {
     // Where no body is long.
-    fn none(alloc: Global) -> Result<Held, AllocError> {
-        Ok(Held {
-            spots: Table::new(alloc)?,
+    fn none(alloc: Global) -> Held {
+        Held {
             starts: Vec::new(alloc),
             yes: Vec::new(alloc),
             no: Vec::new(alloc),
-        })
+        }
     }
 
-    /// For variables up to `vars`, where none has a value.
-    pub fn new(alloc: Global, vars: Var, rows: &Table<Item>) -> Result<Held, AllocError> {
+    /// For the bodies with these rows, where no variable has a value.
+    ///
+    /// Want of memory is the one error.
+    pub fn new(alloc: Global, rows: &Table<Item>) -> Result<Held, AllocError> {
         if !has_long(rows) {
-            return Held::none(alloc);
+            return Ok(Held::none(alloc));
         }
-        let mut spots = Buckets::new(alloc, vars as usize + 1)?;
         let mut starts = Vec::with_capacity(alloc, rows.len())?;
-        let mut bit = 0;
+        let mut bits = 0;
         for body in 0..rows.len() {
             let row = rows.row(body);
-            starts.push(bit)?;
             if is_long(row) {
-                bit = add_row(&mut spots, bit, row)?;
+                starts.push(narrow(bits)?)?;
+                bits = bits.saturating_add(row.len());
+            } else {
+                starts.push(NO_BIT)?;
             }
         }
-        let words = bit as usize / 64 + 1;
+        let words = bits / 64 + 1;
         Ok(Held {
-            spots: spots.into_table(alloc)?,
             starts,
             yes: vec![in alloc; 0; words]?,
             no: vec![in alloc; 0; words]?,
         })
     }
 
-    /// The literal holds from now on.
-    pub fn assign(&mut self, lit: Lit) {
-        let var = lit.var() as usize;
-        if var < self.spots.len() {
-            set_all(
-                self.yes.as_mut_slice(),
-                self.no.as_mut_slice(),
-                self.spots.row(var),
-                lit.truth(),
-            );
-        }
-    }
-
-    /// The literal doesn't hold any more.
-    pub fn undo(&mut self, lit: Lit) {
-        let var = lit.var() as usize;
-        if var < self.spots.len() {
-            unset_all(
-                self.yes.as_mut_slice(),
-                self.no.as_mut_slice(),
-                self.spots.row(var),
-                lit.truth(),
-            );
-        }
-    }
-
-    // The number of a body's first literal.
-    fn start(&self, body: usize) -> usize {
+    /// The bit of a body's first literal; `NO_BIT` if the body is short.
+    pub fn first_bit(&self, body: usize) -> u32 {
         if body < self.starts.len() {
-            self.starts[body] as usize
+            self.starts[body]
         } else {
-            0
+            NO_BIT
         }
     }
 
-    /// The literals of a body that hold, or those whose complements hold.
-    pub fn of(&self, body: usize, side: bool) -> Marked<'_> {
-        let words = if side {
-            self.yes.as_slice()
+    /// The variable of a literal with this place got the value. A place without a bit changes nothing.
+    #[inline(always)]
+    pub fn set(&mut self, place: &Place, truth: bool) {
+        if place.truth == truth {
+            set(self.yes.as_mut_slice(), place.bit);
         } else {
-            self.no.as_slice()
-        };
+            set(self.no.as_mut_slice(), place.bit);
+        }
+    }
+
+    /// It lost the value.
+    #[inline(always)]
+    pub fn unset(&mut self, place: &Place, truth: bool) {
+        if place.truth == truth {
+            unset(self.yes.as_mut_slice(), place.bit);
+        } else {
+            unset(self.no.as_mut_slice(), place.bit);
+        }
+    }
+
+    /// What the bits say of a body, where literals have these places.
+    pub fn of<'a>(&'a self, places: &'a Table<Place>, body: usize) -> Hints<'a> {
+        Hints {
+            places,
+            body,
+            start: self.first_bit(body) as usize,
+            yes: self.yes.as_slice(),
+            no: self.no.as_slice(),
+        }
+    }
+}
+
+/// What the bits say of one body.
+#[derive(Clone, Copy)]
+pub struct Hints<'a> {
+    /// By variable, where it stands in weight bodies, body after body.
+    places: &'a Table<Place>,
+    /// The body's number.
+    body: usize,
+    /// The number of the body's first literal.
+    start: usize,
+    /// The bits of all bodies for literals that hold.
+    yes: &'a [u64],
+    /// The bits of all bodies for literals whose complements hold.
+    no: &'a [u64],
+}
+
+impl<'a> Hints<'a> {
+    /// The literals of the body that hold, or those whose complements hold.
+    pub fn marked(&self, side: bool) -> Marked<'a> {
+        let words = if side { self.yes } else { self.no };
         Marked {
             words,
-            start: self.start(body),
+            start: self.start,
         }
     }
 
-    /// The first place in the row of a body with so many literals where one of the variable stands.
-    pub fn place_of(&self, body: usize, var: Var, len: usize) -> Option<usize>
+    /// In a long body, the first place in its row, of so many literals, where one of the variable stands.
+    pub fn place_of(&self, var: Var, len: usize) -> Option<usize>
         ensures { IfSome result (λ at. at < len) }
     {
         let var = var as usize;
-        if var >= self.spots.len() {
+        if var >= self.places.len() {
             return None;
         }
-        let spots = self.spots.row(var);
-        let start = self.start(body);
-        let first = spots.partition_point(|spot| (spot.bit as usize) < start);
-        if first >= spots.len() {
+        let places = self.places.row(var);
+        let first = places.partition_point(|place| (place.body as usize) < self.body);
+        if first >= places.len() {
             return None;
         }
-        let at = (spots[first].bit as usize).saturating_sub(start);
+        let at = (places[first].bit as usize).saturating_sub(self.start);
         if at < len { Some(at) } else { None }
     }
 }

@@ -31,6 +31,8 @@ pub struct Place {
     pub weight: u64,
     /// The weight body's number, counted from 0 among the weight bodies alone.
     pub body: u32,
+    /// The literal's number among those of all long bodies; `NO_BIT` in a short body, and for the body's own variable.
+    pub bit: u32,
     /// Whether the literal is the variable itself, and not its complement.
     pub truth: bool,
 }

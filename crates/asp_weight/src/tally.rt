@@ -4,6 +4,7 @@ ghost use Rattle.std.specs.List.{All, range_with_len};
 ghost use Rattle.std.specs.Bool.{beq};
 ghost use Rattle.asp_weight.specs.Tallied.{fresh, tally_at, sum_for, raised, lowered, raise, lower, raise_all, lower_all, settled, begin, newest, CanRaise, CanLower};
 
+use crate::held::Held;
 use crate::item::Place;
 use std::alloc::{AllocError, Global};
 use std::marker::Model;
@@ -96,6 +97,7 @@ impl Tallies {
     }
 
     // Adds a literal's weight to its side, and queues the body.
+    #[inline(always)]
     fn raise_at(&mut self, place: &Place, truth: bool)
         requires body { place.now.body < length self.old.tallies }
         requires fits { sum_for (beq place.now.truth truth) (tally_at self.old.tallies place.now.body) + place.now.weight < 2 ^ 64 }
@@ -111,6 +113,7 @@ impl Tallies {
     }
 
     // Takes a literal's weight from its side, and queues the body.
+    #[inline(always)]
     fn lower_at(&mut self, place: &Place, truth: bool)
         requires body { place.now.body < length self.old.tallies }
         requires fits { place.now.weight ≤ sum_for (beq place.now.truth truth) (tally_at self.old.tallies place.now.body) }
@@ -125,23 +128,25 @@ impl Tallies {
         self.queue.push_reserved(place.body);
     }
 
-    /// A variable with these places got the value.
-    pub fn raise(&mut self, places: &[Place], truth: bool)
+    /// A variable with these places got the value: their bits are set too.
+    pub fn raise(&mut self, held: &mut Held, places: &[Place], truth: bool)
         requires { CanRaise truth self.old.tallies places.now }
         ensures { self.new.tallies ≡ raise_all truth self.old.tallies places.now }
     {
         for place in places {
             self.raise_at(place, truth);
+            held.set(place, truth);
         }
     }
 
-    /// A variable with these places lost the value.
-    pub fn lower(&mut self, places: &[Place], truth: bool)
+    /// A variable with these places lost the value, and they their bits.
+    pub fn lower(&mut self, held: &mut Held, places: &[Place], truth: bool)
         requires { CanLower truth self.old.tallies places.now }
         ensures { self.new.tallies ≡ lower_all truth self.old.tallies places.now }
     {
         for place in places {
             self.lower_at(place, truth);
+            held.unset(place, truth);
         }
     }
 }

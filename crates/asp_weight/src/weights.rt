@@ -85,9 +85,9 @@ impl Weights {
     {
         let Rows { shapes, rows } = Rows::of(alloc, compiled)?;
         let vars = compiled.vars();
-        let places = places_of(alloc, vars, shapes.as_slice(), &rows)?;
+        let held = Held::new(alloc, &rows)?;
+        let places = places_of(alloc, vars, shapes.as_slice(), &rows, &held)?;
         let tallies = Tallies::new(alloc, shapes.as_slice().len() as u32)?;
-        let held = Held::new(alloc, vars, &rows)?;
         let values = ToldValues::none(vars);
         Ok(Weights {
             alloc,
@@ -108,8 +108,7 @@ impl Weights {
         ensures { self.new ≡ told self.old lit }
     {
         self.values.set(lit);
-        self.held.assign(lit);
-        raise(&mut self.tallies, &self.places, lit);
+        raise(&mut self.tallies, &mut self.held, &self.places, lit);
     }
 
     /// The literal, which holds, doesn't hold any more, nor does its complement. It takes no memory.
@@ -119,8 +118,7 @@ impl Weights {
         ensures { self.new ≡ untold self.old lit }
     {
         self.values.unset(lit.var());
-        self.held.undo(lit);
-        lower(&mut self.tallies, &self.places, lit);
+        lower(&mut self.tallies, &mut self.held, &self.places, lit);
     }
 
     /// A nogood that is unit or violated and that the definition of one weight body entails, or a literal that follows
@@ -168,8 +166,7 @@ impl Weights {
         let lit = trail.lit(place);
         if let Some(nogood) = brief(
             self.alloc,
-            &self.held,
-            name as usize,
+            &self.held.of(&self.places, name as usize),
             lit,
             trail,
             place,
@@ -184,22 +181,22 @@ impl Weights {
 }
 
 // Where there are no weight bodies there are no places.
-fn raise(tallies: &mut Tallies, places: &Table<Place>, lit: Lit)
+fn raise(tallies: &mut Tallies, held: &mut Held, places: &Table<Place>, lit: Lit)
     requires { CanRaise lit.truth tallies.old.tallies (places_at places.now lit.var) }
     ensures { tallies.new.tallies ≡ raise_all lit.truth tallies.old.tallies (places_at places.now lit.var) }
 {
     let var = lit.var() as usize;
     if var < places.len() {
-        tallies.raise(places.row(var), lit.truth());
+        tallies.raise(held, places.row(var), lit.truth());
     }
 }
 
-fn lower(tallies: &mut Tallies, places: &Table<Place>, lit: Lit)
+fn lower(tallies: &mut Tallies, held: &mut Held, places: &Table<Place>, lit: Lit)
     requires { CanLower lit.truth tallies.old.tallies (places_at places.now lit.var) }
     ensures { tallies.new.tallies ≡ lower_all lit.truth tallies.old.tallies (places_at places.now lit.var) }
 {
     let var = lit.var() as usize;
     if var < places.len() {
-        tallies.lower(places.row(var), lit.truth());
+        tallies.lower(held, places.row(var), lit.truth());
     }
 }

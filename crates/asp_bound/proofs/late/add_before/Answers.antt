@@ -52,8 +52,8 @@ raise-requires-clause-room c = λ j lt.
           (omega (arith, high, c.requires.vars)) j lt,
     )
 
-pub returns-in-Some : goal.returns-in-Some
-returns-in-Some c =
+pub returns-in_ok-push-clause-kept : goal.returns-in_ok-push-clause-kept
+returns-in_ok-push-clause-kept c =
     let v : ℕ = get_or c.args.raisers.now c.args.i 0 in
     let var = c.requires.raisers.within c.args.i 0 c.requires.within in
     let high : v ≤ c.args.trail.now.vars = var.1 in
@@ -63,8 +63,8 @@ returns-in-Some c =
     var.0 (omega (arith, high, c.requires.vars)) (sym c.in-Some.ensures) c.requires.kept c.raise.auto.sums (λ j lt.
     omega (arith, ints, c.raise.ensures j lt, raised_as c.args.priced.now.rows v c.in-Some.truth c.row-row.result.now v c.in-Some.truth c.row-row.ensures refl refl j))
 
-pub returns-in_default : goal.returns-in_default
-returns-in_default c =
+pub returns-in_default-clause-kept : goal.returns-in_default-clause-kept
+returns-in_default-clause-kept c =
     kept_same c.args.priced.now.origin.value (before c.args.trail.now c.args.place) c.args.priced.now.rows c.args.priced.now.columns
     c.args.priced.now.vars.items c.args.sums.now c.args.raisers.now c.args.i (get_or c.args.raisers.now c.args.i 0) c.requires.within refl
     (sym c.in_default.ensures) c.requires.kept

@@ -1,5 +1,5 @@
-use Rattle.std.proofs.Common.{◌<◌, ◌≤◌, Bool, List, Option, Some, ℤ, length, set, refl, sym, ap, ◌∙◌, subst, arith}
-use Rattle.std.proofs.lemmas.List.Elements.{All-weaker}
+use Rattle.std.proofs.Common.{◌<◌, ◌≤◌, Bool, List, Option, Some, ℤ, length, set, drop, refl, sym, ap, ◌∙◌, subst, arith}
+use Rattle.std.proofs.lemmas.List.{take_at}
 use Rattle.std.proofs.lemmas.Result.{IfOk-weaker}
 use Rattle.std.specs.List.Sorted.{IsPermutation}
 use Rattle.asp_model.specs.declared.program.Program.{Program}
@@ -14,18 +14,18 @@ use Rattle.asp_bound.specs.Priced.{IsPriced}
 use Rattle.asp_bound.specs.Reach.{reach}
 use Rattle.asp_bound.specs.Reasons.{before}
 use Rattle.asp_bound.proofs.KeptLaws.{sums-room}
-use Rattle.asp_bound.proofs.NogoodLaws.{raising_of, held-told, found-held, may_fall}
+use Rattle.asp_bound.proofs.NogoodLaws.{held_of, held-told, all-held, may_fall}
 use Rattle.asp_bound.proofs.ReachLaws.{reached_now}
-use Rattle.asp_bound.proofs.LateLaws.{free, raisers_before, kept_at, reaches_by, written, follows_reached}
+use Rattle.asp_bound.proofs.LateLaws.{free, raisers_before, turned_round, kept_at, reaches_by, written, follows_reached}
 use Rattle.asp_bound.proofs.late.explained.Goals as goal
 
-pub sums_with-requires-clause-var : goal.sums_with-requires-clause-var
-sums_with-requires-clause-var c =
+pub all_with-requires-clause-var : goal.all_with-requires-clause-var
+all_with-requires-clause-var c =
     (free c.args.priced.now.origin.value c.args.trail.now c.args.place c.args.cost.now c.lit.result c.complement-lit.result c.requires.vars
     c.requires.explained c.lit.ensures.lit c.complement-lit.ensures).var
 
-pub sums_with-requires-clause-none : goal.sums_with-requires-clause-none
-sums_with-requires-clause-none c =
+pub all_with-requires-clause-none : goal.all_with-requires-clause-none
+all_with-requires-clause-none c =
     (free c.args.priced.now.origin.value c.args.trail.now c.args.place c.args.cost.now c.lit.result c.complement-lit.result c.requires.vars
     c.requires.explained c.lit.ensures.lit c.complement-lit.ensures).none
 
@@ -33,29 +33,18 @@ pub reach-requires-clause-room : goal.reach-requires-clause-room
 reach-requires-clause-room c =
     let q : Priced = c.args.priced.now in
     let x = c.complement-lit.result in
-    let more = subst (IsPriced q (set (before c.args.trail.now c.args.place) x.var (Some x.truth))) (sym c.as_mut_slice-left.ensures.value) c.in_ok-sums.ensures in
+    let more = subst (IsPriced q (set (before c.args.trail.now c.args.place) x.var (Some x.truth))) (sym c.as_mut_slice-left.ensures.value) c.in_ok-sums.ensures.kept in
     sums-room q.origin.value (set (before c.args.trail.now c.args.place) x.var (Some x.truth)) q.rows q.columns q.vars.items c.as_mut_slice-left.result.now more
 
 pub unreachable-requires : goal.unreachable-requires
 unreachable-requires c =
     let q : Priced = c.args.priced.now in
     let x = c.complement-lit.result in
-    let more = subst (IsPriced q (set (before c.args.trail.now c.args.place) x.var (Some x.truth))) (sym c.as_mut_slice-left.ensures.value) c.in_ok-sums.ensures in
+    let more = subst (IsPriced q (set (before c.args.trail.now c.args.place) x.var (Some x.truth))) (sym c.as_mut_slice-left.ensures.value) c.in_ok-sums.ensures.kept in
     let left = c.as_mut_slice-left.result.now in
     let here = free q.origin.value c.args.trail.now c.args.place c.args.cost.now c.lit.result x c.requires.vars c.requires.explained c.lit.ensures.lit c.complement-lit.ensures in
     follows_reached q.origin.value (before c.args.trail.now c.args.place) x c.args.cost.now here.dear
     (ap (λ (s : List ℤ). reach s c.args.cost.now) (sym more.summed) ∙ reached_now left c.args.cost.now left c.as_slice-limits.result.now _ refl c.as_slice-limits.ensures c.in_default.ensures)
-
-pub raising-requires-clause-few : goal.raising-requires-clause-few
-raising-requires-clause-few c = omega (arith, c.requires.tables.few, c.requires.vars)
-
-pub raising-requires-clause-rows : goal.raising-requires-clause-rows
-raising-requires-clause-rows c = omega (arith, c.requires.tables.rowed.count, c.requires.vars)
-
-pub raising-requires-clause-within : goal.raising-requires-clause-within
-raising-requires-clause-within c =
-    let told = c.requires.raisers in
-    All-weaker (λ v. (0 < v) × (v < length told.0)) (λ v. v ≤ c.args.trail.now.vars) (λ v h. omega (arith, h.1, told.2)) c.args.raisers.now told.1.within
 
 pub nogood_by-requires : goal.nogood_by-requires
 nogood_by-requires c =
@@ -64,15 +53,19 @@ nogood_by-requires c =
     let t : Trailed = c.args.trail.now in
     let b : List (Option Bool) = before t c.args.place in
     let x = c.complement-lit.result in
-    let more = subst (IsPriced q (set (before c.args.trail.now c.args.place) x.var (Some x.truth))) (sym c.as_mut_slice-left.ensures.value) c.in_ok-sums.ensures in
+    let more = subst (IsPriced q (set (before c.args.trail.now c.args.place) x.var (Some x.truth))) (sym c.as_mut_slice-left.ensures.value) c.in_ok-sums.ensures.kept in
     let left = c.as_mut_slice-left.result.now in
     let found = c.as_slice.result.now in
     let here = free p t c.args.place c.args.cost.now c.lit.result x c.requires.vars c.requires.explained c.lit.ensures.lit c.complement-lit.ensures in
     let kept = kept_at p (valueless p) t c.args.place q.rows q.columns q.vars.items q.least.items c.requires.vars c.requires.tables in
     let are = raisers_before t c.args.place q.rows c.args.raisers.now c.len-len.ensures.ordered c.requires.raisers in
-    let moved = subst (IsPermutation (raising_of b q.rows c.in-Some.depth c.args.raisers.now)) (sym c.as_slice.ensures.value) c.in_ok-found.ensures in
+    let moved : IsPermutation (held_of b c.args.raisers.now) found =
+    turned_round (held_of b c.args.raisers.now) c.in_ok-found.found.items c.as_mut_slice.result.now c.reverse.new.self found
+    c.in_ok-found.ensures.items (c.as_mut_slice.ensures.value ∙ c.in_ok-sums.ensures.lits) c.reverse.ensures.permutation
+    (c.as_slice.ensures.value ∙ take_at c.reverse.new.self (drop (length c.reverse.new.self) c.all_with.new.lits.items) c.all_with.new.lits.len
+    (c.reverse.auto.self ∙ c.as_mut_slice.ensures.len)) in
     may_fall p (set b x.var (Some x.truth)) q.rows q.columns q.vars.items left found more
-    (held-told p b found x.var x.truth here.none (found-held p b q.rows q.columns q.vars.items (optimistic p b) c.args.raisers.now c.in-Some.depth found kept are moved))
+    (held-told p b found x.var x.truth here.none (all-held p b q.rows q.columns q.vars.items (optimistic p b) c.args.raisers.now found kept are moved))
 
 pub returns : goal.returns
 returns c =
@@ -81,13 +74,17 @@ returns c =
     let t : Trailed = c.args.trail.now in
     let b : List (Option Bool) = before t c.args.place in
     let x = c.complement-lit.result in
-    let more = subst (IsPriced q (set (before c.args.trail.now c.args.place) x.var (Some x.truth))) (sym c.as_mut_slice-left.ensures.value) c.in_ok-sums.ensures in
+    let more = subst (IsPriced q (set (before c.args.trail.now c.args.place) x.var (Some x.truth))) (sym c.as_mut_slice-left.ensures.value) c.in_ok-sums.ensures.kept in
     let left = c.as_mut_slice-left.result.now in
     let found = c.as_slice.result.now in
     let here = free p t c.args.place c.args.cost.now c.lit.result x c.requires.vars c.requires.explained c.lit.ensures.lit c.complement-lit.ensures in
     let kept = kept_at p (valueless p) t c.args.place q.rows q.columns q.vars.items q.least.items c.requires.vars c.requires.tables in
     let are = raisers_before t c.args.place q.rows c.args.raisers.now c.len-len.ensures.ordered c.requires.raisers in
-    let moved = subst (IsPermutation (raising_of b q.rows c.in-Some.depth c.args.raisers.now)) (sym c.as_slice.ensures.value) c.in_ok-found.ensures in
+    let moved : IsPermutation (held_of b c.args.raisers.now) found =
+    turned_round (held_of b c.args.raisers.now) c.in_ok-found.found.items c.as_mut_slice.result.now c.reverse.new.self found
+    c.in_ok-found.ensures.items (c.as_mut_slice.ensures.value ∙ c.in_ok-sums.ensures.lits) c.reverse.ensures.permutation
+    (c.as_slice.ensures.value ∙ take_at c.reverse.new.self (drop (length c.reverse.new.self) c.all_with.new.lits.items) c.all_with.new.lits.len
+    (c.reverse.auto.self ∙ c.as_mut_slice.ensures.len)) in
     let i : Implied = record { lit = x; depth = c.in-Some.depth } in
     let reaches = reaches_by p b q.rows q.columns q.vars.items (optimistic p b) kept c.args.cost.now i left c.as_slice-limits.result.now more
     c.as_slice-limits.ensures here.var here.none c.in-Some.ensures in

@@ -6,7 +6,7 @@ use Rattle.asp_scc.proofs.search.search.Goals as goal
 pub loop-next-init : goal.loop-next-init
 loop-next-init c =
     first_round c.args.graph.now c.args.old c.args.new c.args.from c.args.states.now (c.mark.new.states, c.mark.new.found.items) c.requires.differ
-    (omega (arith, c.requires.size, c.requires.from)) c.requires.begins (c.in_ok-mark.ensures ∙ ap (λ xs. mark c.args.old c.args.new (c.args.states.now, xs) c.args.from) c.new-found.ensures.items)
+    (omega (arith, c.requires.size, c.requires.from)) c.requires.begins (c.in_ok-mark.ensures ∙ ap (λ xs. mark c.args.old c.args.new (c.args.states.now, xs) c.args.from) c.clear.ensures.items)
 
 pub loop-next-preserved : goal.loop-next-preserved
 loop-next-preserved c =

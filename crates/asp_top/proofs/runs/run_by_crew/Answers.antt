@@ -1,4 +1,5 @@
 use Rattle.std.proofs.Common.{refl, rules}
+use Rattle.asp_top.specs.Progress.{tells_parts}
 use Rattle.asp_top.specs.Telling.{point}
 use Rattle.asp_top.proofs.TellLaws.{moved, told_in_all}
 use Rattle.asp_top.proofs.runs.run_by_crew.Goals as goal
@@ -7,11 +8,12 @@ pub returns-clause-notes : goal.returns-clause-notes
 returns-clause-notes g c = record {
   tally = c.outcome_by_crew-outcome.new.tally;
   counted = c.outcome_by_crew-outcome.ensures.counted;
-  told = moved g.N.Sink.held g.N.Sink.faults _ _ _ _ c.end.new.notes _
+  told = moved g.N.Sink.held g.N.Sink.faults _ _ _ _ _ c.end.new.notes _
       (search (rules, c.outcome_by_crew-outcome.ensures.heard.0, c.new-progress.ensures.same))
-      (told_in_all c.args.options.now.progress c.new-progress.result.on (g.N.Sink.held c.args.notes.now) (g.N.Sink.faults c.args.notes.now)
-      (point (g.N.Sink.held c.new-progress.result.notes.now) (g.N.Sink.faults c.new-progress.result.notes.now) c.new-progress.result.state c.new-progress.result.last)
+      (told_in_all c.args.options.now.progress (tells_parts c.args.options.now) c.new-progress.result.on c.new-progress.result.parts (g.N.Sink.held c.args.notes.now) (g.N.Sink.faults c.args.notes.now)
+      (point (g.N.Sink.held c.new-progress.result.notes.now) (g.N.Sink.faults c.new-progress.result.notes.now) c.new-progress.result.state c.new-progress.result.last c.new-progress.result.before)
       (point (g.N.Sink.held c.outcome_by_crew-outcome.result.1.notes.now) (g.N.Sink.faults c.outcome_by_crew-outcome.result.1.notes.now)
-      c.outcome_by_crew-outcome.result.1.state c.outcome_by_crew-outcome.result.1.last)
-      _ _ _ c.new-progress.ensures.on (rw (c.new-progress.ensures.now, c.new-progress.ensures.state, c.new-progress.ensures.last) refl) c.outcome_by_crew-outcome.ensures.heard.2 c.end.ensures);
+      c.outcome_by_crew-outcome.result.1.state c.outcome_by_crew-outcome.result.1.last c.outcome_by_crew-outcome.result.1.before)
+      _ _ _ c.new-progress.ensures.on c.new-progress.ensures.parts
+      (rw (c.new-progress.ensures.now, c.new-progress.ensures.state, c.new-progress.ensures.last, c.new-progress.ensures.before) refl) c.outcome_by_crew-outcome.ensures.heard.3 c.end.ensures);
 }

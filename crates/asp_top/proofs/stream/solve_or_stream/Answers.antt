@@ -4,12 +4,14 @@ use Rattle.asp_top.proofs.stream.solve_or_stream.Goals as goal
 
 pub returns-then-is_streamed-clause-solves : goal.returns-then-is_streamed-clause-solves
 returns-then-is_streamed-clause-solves g c = λ p is.
-    let on = streamed-as c.args.options.now p c.args.prepared.now c.program.result.now c.ask_of-ask.result c.is_streamed.result is c.program.ensures.program c.ask_of-ask.ensures c.is_streamed.ensures in
+    let on = streamed-as c.args.options.now p c.args.prepared.now c.program.result.now c.ask_of-ask.result c.is_streamed.result is c.program.ensures.program
+    c.ask_of-ask.ensures c.is_streamed.ensures in
     solves-streamed c.args.options.now p c.args.prepared.now _ _ _ _ c.stream.result is (on ∙ c.if-is_streamed.true) c.stream.ensures.streams
 
 pub returns-else-is_streamed-clause-solves : goal.returns-else-is_streamed-clause-solves
 returns-else-is_streamed-clause-solves g c = λ p is.
-    let off = streamed-as c.args.options.now p c.args.prepared.now c.program.result.now c.ask_of-ask.result c.is_streamed.result is c.program.ensures.program c.ask_of-ask.ensures c.is_streamed.ensures in
+    let off = streamed-as c.args.options.now p c.args.prepared.now c.program.result.now c.ask_of-ask.result c.is_streamed.result is c.program.ensures.program
+    c.ask_of-ask.ensures c.is_streamed.ensures in
     solves-at-once c.args.options.now p _ _ _ _ c.solve.result (off ∙ c.if-is_streamed.false) (c.solve.ensures.solves p is)
 
 pub returns-then-is_streamed-clause-flushed : goal.returns-then-is_streamed-clause-flushed

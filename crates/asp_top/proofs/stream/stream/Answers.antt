@@ -15,7 +15,8 @@ returns-clause-streams g c =
     let ended = c.end_run-outcome in
     let told = c.stream_alone-told.ensures in
     let none = ap (λ (l : Heard). l.sets) c.new-outlet.ensures.heard in
-    let after = from-start g.K.Sink.held g.K.Sink.faults c.args.sink.now begun.outlet.sink.now reader.outlet.sink.now begun.outlet.listing reader.outlet.listing begun.outlet.failed reader.outlet.failed
+    let after = from-start g.K.Sink.held g.K.Sink.faults c.args.sink.now begun.outlet.sink.now reader.outlet.sink.now begun.outlet.listing reader.outlet.listing
+    begun.outlet.failed reader.outlet.failed
     c.new-outlet.ensures.now none c.new-outlet.ensures.failed told.after.1 told.after.3 in
     let limited = told.after.4 (limited-start begun.models begun.outlet.listing.sets begun.left begun.short none c.new-outlet.ensures.left) in
     let models : reader.models ≡ c.args.options.now.models = told.after.2 ∙ c.new-outlet.ensures.models in
@@ -37,7 +38,8 @@ returns-clause-counted g c =
     let ended = c.end_run-outcome in
     let told = c.stream_alone-told.ensures in
     let none = ap (λ (l : Heard). l.sets) c.new-outlet.ensures.heard in
-    let after = from-start g.K.Sink.held g.K.Sink.faults c.args.sink.now begun.outlet.sink.now reader.outlet.sink.now begun.outlet.listing reader.outlet.listing begun.outlet.failed reader.outlet.failed
+    let after = from-start g.K.Sink.held g.K.Sink.faults c.args.sink.now begun.outlet.sink.now reader.outlet.sink.now begun.outlet.listing reader.outlet.listing
+    begun.outlet.failed reader.outlet.failed
     c.new-outlet.ensures.now none c.new-outlet.ensures.failed told.after.1 told.after.3 in
     let limited = told.after.4 (limited-start begun.models begun.outlet.listing.sets begun.left begun.short none c.new-outlet.ensures.left) in
     counted-stream p c.args.options.now.budget reader.models h (g.K.Sink.held ended.new.outlet.outlet.sink.now) w (g.K.Sink.faults ended.new.outlet.outlet.sink.now) ended.result c.of.result

@@ -8,10 +8,10 @@ raise_at-requires-clause-body c =
       arith,
       ap length c.loop-place.invariant,
       length-raise_all c.args.truth c.args.self.now.tallies (take c.loop-place.place-index c.args.places.now),
-      c.requires.within c.loop-place.place-index (record { weight = 0; body = 0; truth = false }) c.loop-place-test.true,
+      c.requires.within c.loop-place.place-index (record { weight = 0; body = 0; bit = 0; truth = false }) c.loop-place-test.true,
     )
 
 pub raise_at-requires-clause-fits : goal.raise_at-requires-clause-fits
 raise_at-requires-clause-fits c =
     rw c.loop-place.invariant
-    (raise_fits c.args.truth c.args.self.now.tallies c.args.places.now c.loop-place.place-index (record { weight = 0; body = 0; truth = false }) c.requires c.loop-place-test.true)
+    (raise_fits c.args.truth c.args.self.now.tallies c.args.places.now c.loop-place.place-index (record { weight = 0; body = 0; bit = 0; truth = false }) c.requires c.loop-place-test.true)

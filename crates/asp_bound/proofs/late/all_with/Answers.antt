@@ -10,13 +10,13 @@ use Rattle.asp_bound.specs.Rises.{row_at}
 use Rattle.asp_bound.proofs.KeptLaws.{raised_as, raised-small, raise-room, kept_as}
 use Rattle.asp_bound.proofs.NogoodLaws.{left-within, kept_raised}
 use Rattle.asp_bound.proofs.LateLaws.{copied_before}
-use Rattle.asp_bound.proofs.late.sums_with.Goals as goal
+use Rattle.asp_bound.proofs.late.all_with.Goals as goal
 
 pub row-row-requires : goal.row-row-requires
 row-row-requires c = omega (arith, c.var.ensures, c.requires.var.1, c.requires.tables.rowed.count)
 
-pub sums_before-requires-clause-raisers : goal.sums_before-requires-clause-raisers
-sums_before-requires-clause-raisers c =
+pub all_before-requires-clause-raisers : goal.all_before-requires-clause-raisers
+all_before-requires-clause-raisers c =
     let told = c.requires.raisers in
     record {
       within = All-weaker (λ v. (0 < v) × (v < length told.0)) (λ v. (0 < v) × (v ≤ c.args.trail.now.vars)) (λ v h. (h.0, omega (arith, h.1, told.2))) c.args.raisers.now told.1.within;
@@ -28,7 +28,7 @@ raise-requires-clause-within c =
     let q : Priced = c.args.priced.now in
     let kept =
     copied_before q c.args.trail.now c.args.place c.in_ok-sums.sums.items c.as_mut_slice.result.now c.args.raisers.now c.requires.vars
-    c.len-len.ensures.ordered c.requires.raisers c.in_ok-sums.ensures c.as_mut_slice.ensures.value in
+    c.len-len.ensures.ordered c.requires.raisers c.in_ok-sums.ensures.kept c.as_mut_slice.ensures.value in
     subst (λ (o : List Place). All (λ (k : Place). k.level < length c.as_mut_slice.result.now) o) (sym (c.row-row.ensures ∙ ap (row_at q.rows) c.var.ensures))
     (left-within q.origin.value (before c.args.trail.now c.args.place) q.rows q.columns q.vars.items c.as_mut_slice.result.now kept c.args.lit.var)
 
@@ -37,7 +37,7 @@ raise-requires-clause-small c = λ j lt.
     let q : Priced = c.args.priced.now in
     let kept =
     copied_before q c.args.trail.now c.args.place c.in_ok-sums.sums.items c.as_mut_slice.result.now c.args.raisers.now c.requires.vars
-    c.len-len.ensures.ordered c.requires.raisers c.in_ok-sums.ensures c.as_mut_slice.ensures.value in
+    c.len-len.ensures.ordered c.requires.raisers c.in_ok-sums.ensures.kept c.as_mut_slice.ensures.value in
     let x = c.args.lit in
     omega (
       arith,
@@ -50,7 +50,7 @@ raise-requires-clause-room c = λ j lt.
     let q : Priced = c.args.priced.now in
     let kept =
     copied_before q c.args.trail.now c.args.place c.in_ok-sums.sums.items c.as_mut_slice.result.now c.args.raisers.now c.requires.vars
-    c.len-len.ensures.ordered c.requires.raisers c.in_ok-sums.ensures c.as_mut_slice.ensures.value in
+    c.len-len.ensures.ordered c.requires.raisers c.in_ok-sums.ensures.kept c.as_mut_slice.ensures.value in
     let x = c.args.lit in
     omega (
       arith,
@@ -59,12 +59,12 @@ raise-requires-clause-room c = λ j lt.
       raise-room q.origin.value (before c.args.trail.now c.args.place) q.rows q.columns q.vars.items c.as_mut_slice.result.now kept x.var x.truth c.requires.var.0 c.requires.var.1 j lt,
     )
 
-pub returns : goal.returns
-returns c =
+pub returns-clause-kept : goal.returns-clause-kept
+returns-clause-kept c =
     let q : Priced = c.args.priced.now in
     let kept =
     copied_before q c.args.trail.now c.args.place c.in_ok-sums.sums.items c.as_mut_slice.result.now c.args.raisers.now c.requires.vars
-    c.len-len.ensures.ordered c.requires.raisers c.in_ok-sums.ensures c.as_mut_slice.ensures.value in
+    c.len-len.ensures.ordered c.requires.raisers c.in_ok-sums.ensures.kept c.as_mut_slice.ensures.value in
     let x = c.args.lit in
     let left = c.as_mut_slice.result.now in
     let more = kept_raised q.origin.value (before c.args.trail.now c.args.place) q.rows q.columns q.vars.items left kept x.var x.truth

@@ -1,0 +1,12 @@
+use Rattle.std.proofs.Common.{refl, rules, false}
+use Rattle.asp_top.proofs.TellLaws.{part_told}
+use Rattle.asp_top.proofs.progress.ProgressWatch.end_query.Goals as goal
+
+pub returns : goal.returns
+returns g c = (
+  refl,
+  refl,
+  refl,
+  part_told c.args.self.now.on c.args.self.now.parts _ _ (record { all = false; counts = c.since.result })
+      (search rules) (search rules) (search rules) refl c.write_part-self.ensures,
+)

@@ -1,0 +1,12 @@
+use Rattle.std.proofs.Common.{refl, rules, true}
+use Rattle.asp_top.proofs.TellLaws.{part_told}
+use Rattle.asp_top.proofs.progress.ProgressWatch.end_series.Goals as goal
+
+pub returns : goal.returns
+returns g c = (
+  refl,
+  refl,
+  refl,
+  part_told c.args.self.now.on c.args.self.now.parts _ _ (record { all = true; counts = c.args.self.now.before })
+      (search rules) (search rules) (search rules) refl c.write_part-self.ensures,
+)
