@@ -1,5 +1,5 @@
 //! All nogoods, each looked at once.
-ghost use Rattle.std.specs.Prelude.{◌≡◌, ◌<◌, length};
+ghost use Rattle.std.specs.Prelude.{◌≡◌, length};
 ghost use Rattle.asp_checker.specs.Sweeps.{AreInRange, IsSwept, later};
 
 use crate::nogoods::{Visit, visit_one};

@@ -12,7 +12,7 @@ pub returns-in_err-put : goal.returns-in_err-put
 returns-in_err-put g c =
     let p = c.args.proof.now in
     puts_fails _ _ _ _ _ (codes "proof 2\n") (mode_line p.sought ++ lines answer_text (changes_of p.answers) ++ lines line_text p.lines ++ line
-        (last_word p.part)) c.in_err-put.ensures c.from_residual.ensures.1
+    (last_word p.part)) c.in_err-put.ensures c.from_residual.ensures.1
 
 pub returns-in_err-put-2 : goal.returns-in_err-put-2
 returns-in_err-put-2 g c =

@@ -24,5 +24,5 @@ returns-clause-levels c =
     let is : c.from_vec-2.result ≡ c.args.cost.now = c.from_vec-2.ensures ∙ c.in_ok-from_slice.ensures.items ∙ c.as_slice-2.ensures in
     let long = ap (λ (sums : List ℤ). length sums) is ∙ c.requires ∙ sym (levels-count p (priorities p.minimize) c.from_vec.result are) in
     let list = c.from_vec-3.ensures ∙ c.in_ok-priced.ensures ∙ ap (λ (ls : List (List ℤ)). priced_to ls c.vars.result) (c.as_slice.ensures.value ∙ sym same)
-        ∙ ap (λ (n : ℕ). priced_to c.from_vec.result n) c.vars.ensures.count in
+    ∙ ap (λ (n : ℕ). priced_to c.from_vec.result n) c.vars.ensures.count in
     (are, (long, list))
