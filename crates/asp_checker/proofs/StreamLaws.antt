@@ -292,7 +292,8 @@ so_far_wrong p sought answers k known whole at number source left first w l reas
 pub so_far_refused : (p : Program) (sought : Sought) (answers : List Atoms) (k known : Stock) (whole : Bool) (at number : ℕ)
     (source left : Option (List ℕ)) (first : List ℕ) (w : Window) → AreRightAnswers p sought answers → k ≡ first_stock p (proof_of sought answers []) →
     IsSoFar p sought answers k known whole at source left first w
-    → ((part : Bool) → w.line ≡ last_word part → ⊥) → IsNone IsLine line_text w.line → number ≡ length answers + at + 3 → Comes source first (λ text. Judges p text (Err (error.Proof (proof.Refused number))))
+    → ((part : Bool) → w.line ≡ last_word part → ⊥) → IsNone IsLine line_text w.line → number ≡ length answers + at + 3 → Comes source first
+    (λ text. Judges p text (Err (error.Proof (proof.Refused number))))
 so_far_refused p sought answers k known whole at number source left first w right at_first h last none e =
     let q = proof_of sought answers h.entries in
     comes_back source left first _ _ h.moved (comes_any left _ _ (λ rest. subst (λ (t : List ℕ). IsFaultAt p t number) (held_more (front_of q) w.line w.behind rest) (record {

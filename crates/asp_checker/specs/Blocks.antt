@@ -1,6 +1,7 @@
 -- What weight bodies and a bound say under values.
-use Rattle.std.specs.Prelude.{◌≡◌, ℕ, ◌+◌, ◌*◌, ◌<◌, ◌≤◌, Bool, true, false, not, ◌||◌, List, [], ◌∷◌, ◌++◌, map, length, Option, Some, None, ℤ, pos, slice_index_or, slice_set}
+use Rattle.std.specs.Prelude.{◌≡◌, ℕ, zero, suc, ◌+◌, ◌*◌, ◌<◌, ◌≤◌, Bool, true, false, not, ◌||◌, if◌then◌else◌, List, [], ◌∷◌, ◌++◌, map, length, Option, Some, None, ℤ, pos, ◌+ℤ◌, slice_index_or, slice_set}
 use Rattle.std.specs.List.{list_any}
+use Rattle.std.specs.Ordering.{int_eq}
 use Rattle.asp_model.specs.declared.program.Program.{Program}
 use Rattle.asp_model.specs.Costs.{priorities}
 use Rattle.asp_model.specs.Sets.{Atoms}
@@ -25,16 +26,34 @@ is_blocked p bound x = list_any (is_broken p x) (bodies_of p) || reaches_bound p
 abbrev pub level_sum : List (Option Bool) → ℕ → List ℤ → ℤ
 level_sum x n weights = sum_to (λ v. least (value_of x v) (slice_index_or weights (2 * v) (pos 0)) (slice_index_or weights (2 * v + 1) (pos 0))) n
 
+-- a literal of the variable weighs something, by the weights of all
+abbrev pub weighs : List ℤ → ℕ → Bool
+weighs weights v = not (int_eq (slice_index_or weights (2 * v) (pos 0)) (pos 0)) || not (int_eq (slice_index_or weights (2 * v + 1) (pos 0)) (pos 0))
+
+-- at one of the priorities
+abbrev pub is_priced : List (List ℤ) → ℕ → Bool
+is_priced levels v = list_any (λ w. weighs w v) levels
+
+-- the variables from 1 to n that weigh something at one of the priorities
+abbrev pub priced_to : List (List ℤ) → ℕ → List ℕ
+priced_to levels zero = []
+priced_to levels (suc n) = if is_priced levels (suc n) then priced_to levels n ++ suc n ∷ [] else priced_to levels n
+
+-- the sum at a priority over these variables
+abbrev pub sum_over : List (Option Bool) → List ℤ → List ℕ → ℤ
+sum_over x weights [] = pos 0
+sum_over x weights (v ∷ vars) = least (value_of x v) (slice_index_or weights (2 * v) (pos 0)) (slice_index_or weights (2 * v + 1) (pos 0)) +ℤ sum_over x weights vars
+
 -- the weights of all literals, priority by priority
 abbrev pub AreLevels : Program → List ℤ → List (List ℤ) → Type 0
 AreLevels p [] levels = levels ≡ []
 AreLevels p (q ∷ qs) [] = ⊥
 AreLevels p (q ∷ qs) (weights ∷ levels) = AreWeights p (items_at p.minimize q) weights × AreLevels p qs levels
 
--- The bound's weights are the program's.
+-- The bound's weights are the program's, and its variables those that weigh something.
 abbrev pub HasLevels : Program → Option Bound → Type 0
 HasLevels p None = Unit {0}
-HasLevels p (Some b) = AreLevels p (priorities p.minimize) b.levels × (length b.cost ≡ length b.levels)
+HasLevels p (Some b) = AreLevels p (priorities p.minimize) b.levels × ((length b.cost ≡ length b.levels) × (b.priced ≡ priced_to b.levels (var_count p)))
 
 abbrev pub cost_of_bound : Option Bound → Option (List ℤ)
 cost_of_bound None = None

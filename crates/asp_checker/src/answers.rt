@@ -10,10 +10,10 @@ use crate::nogoods::{Look, Visit, with};
 use crate::sweep::{later, sweep};
 use asp_member::merge::{skip, stands_at};
 use asp_model::interp::Interp;
-use asp_model::seq::Seq;
 use asp_vars::assign::Assign;
 use asp_vars::compiled::Compiled;
 use asp_vars::lit::Lit;
+use asp_vars::nogood::Lits;
 
 /// What the nogood by which an answer differs from all other sets says under the values.
 pub(crate) fn look_at_answer(compiled: &Compiled, answer: &Interp, values: &Assign) -> Look
@@ -70,7 +70,7 @@ pub(crate) fn sweep_answers(compiled: &Compiled, listed: &[Interp], values: &mut
 pub(crate) fn sweep_all(
     compiled: &Compiled,
     listed: &[Interp],
-    rows: &[Seq<Lit>],
+    rows: &[Lits],
     values: &mut Assign,
 ) -> Visit
     requires of { AllByRecursion (AreOf compiled.now) rows.now }
@@ -88,8 +88,8 @@ pub(crate) fn sweep_all(
 pub(crate) fn sweep_known(
     compiled: &Compiled,
     listed: &[Interp],
-    rows: &[Seq<Lit>],
-    placed: &[Seq<Lit>],
+    rows: &[Lits],
+    placed: &[Lits],
     values: &mut Assign,
 ) -> Visit
     requires of { AllByRecursion (AreOf compiled.now) rows.now }

@@ -17,10 +17,10 @@ use crate::nogoods::{Look, look_at};
 use crate::watches::Watches;
 use crate::weights::is_broken;
 use asp_model::interp::Interp;
-use asp_model::seq::Seq;
 use asp_vars::assign::Assign;
 use asp_vars::compiled::Compiled;
 use asp_vars::lit::Lit;
+use asp_vars::nogood::Lits;
 use std::alloc::AllocError;
 
 /// What a look came to.
@@ -52,7 +52,7 @@ fn set_implied(compiled: &Compiled, look: Look, values: &mut Assign) -> Found
 }
 
 // Looks at the nogood at a place, if there is one, and sets the value that it implies.
-fn look(compiled: &Compiled, rows: &[Seq<Lit>], place: usize, values: &mut Assign) -> Found
+fn look(compiled: &Compiled, rows: &[Lits], place: usize, values: &mut Assign) -> Found
     requires of { AllByRecursion (AreOf compiled.now) rows.now }
     requires size { length values.old ≡ var_count compiled.now + 1 }
     ensures { (k : Known) → AreNogoodsOf compiled.now k rows.now → IsFoundBy compiled.now k values.old values.new result }
@@ -204,8 +204,8 @@ fn conflict_by(
 fn follow(
     compiled: &Compiled,
     listed: &[Interp],
-    rows: &[Seq<Lit>],
-    placed: &[Seq<Lit>],
+    rows: &[Lits],
+    placed: &[Lits],
     bound: &Option<Bound>,
     values: &mut Assign,
     hint: &Hint,
@@ -244,8 +244,8 @@ fn add(trail: &mut Vec<Lit>, found: Found) -> Result<(), AllocError>
 pub(crate) fn chase(
     compiled: &Compiled,
     listed: &[Interp],
-    rows: &[Seq<Lit>],
-    placed: &[Seq<Lit>],
+    rows: &[Lits],
+    placed: &[Lits],
     bound: &Option<Bound>,
     watches: &mut Watches,
     values: &mut Assign,

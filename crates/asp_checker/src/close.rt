@@ -12,10 +12,9 @@ use crate::blocks::{implied, is_blocked};
 use crate::bounds::Bound;
 use crate::nogoods::Visit;
 use asp_model::interp::Interp;
-use asp_model::seq::Seq;
 use asp_vars::assign::Assign;
 use asp_vars::compiled::Compiled;
-use asp_vars::lit::Lit;
+use asp_vars::nogood::Lits;
 
 // What the weight bodies and the bound say. It sets a value that they imply.
 fn look_further(compiled: &Compiled, bound: &Option<Bound>, values: &mut Assign) -> Visit
@@ -40,8 +39,8 @@ fn look_further(compiled: &Compiled, bound: &Option<Bound>, values: &mut Assign)
 fn step(
     compiled: &Compiled,
     listed: &[Interp],
-    rows: &[Seq<Lit>],
-    placed: &[Seq<Lit>],
+    rows: &[Lits],
+    placed: &[Lits],
     bound: &Option<Bound>,
     values: &mut Assign,
 ) -> Visit
@@ -62,8 +61,8 @@ fn step(
 pub fn close(
     compiled: &Compiled,
     listed: &[Interp],
-    rows: &[Seq<Lit>],
-    placed: &[Seq<Lit>],
+    rows: &[Lits],
+    placed: &[Lits],
     bound: &Option<Bound>,
     values: &mut Assign,
 ) -> bool

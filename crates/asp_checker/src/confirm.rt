@@ -17,10 +17,10 @@ use crate::root::{copied, undo};
 use crate::rows::Before;
 use crate::watches::Watches;
 use asp_model::interp::Interp;
-use asp_model::seq::Seq;
 use asp_vars::assign::Assign;
 use asp_vars::compiled::Compiled;
 use asp_vars::lit::Lit;
+use asp_vars::nogood::Lits;
 use std::alloc::{AllocError, Global};
 
 // Makes a literal hold, unless it fails.
@@ -62,8 +62,8 @@ fn confirms_plainly(
     alloc: Global,
     compiled: &Compiled,
     listed: &[Interp],
-    rows: &[Seq<Lit>],
-    placed: &[Seq<Lit>],
+    rows: &[Lits],
+    placed: &[Lits],
     bound: &Option<Bound>,
     known: &Assign,
     lits: &[Lit],

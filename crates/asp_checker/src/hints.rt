@@ -6,7 +6,7 @@ use crate::bounds::Bound;
 use asp_vars::assign::Assign;
 use asp_vars::compiled::Compiled;
 use asp_vars::lit::{Lit, Var};
-use std::alloc::{AllocError, Global};
+use std::alloc::AllocError;
 
 /// What is to be looked at.
 #[derive(Clone, Copy)]
@@ -115,12 +115,12 @@ fn spent(compiled: &Compiled, weights: &[i64], priced: &[Var], values: &Assign) 
 fn room(
     compiled: &Compiled,
     bound: &Bound,
-    priced: &[Var],
     values: &Assign,
     left: &mut Vec<i64>,
 ) -> Result<(), AllocError>
     requires { length values.now ≡ var_count compiled.now + 1 }
 {
+    let priced = bound.priced.as_slice();
     for (weights, cost) in bound.levels.as_slice().iter().zip(bound.cost.as_slice()) {
         let sum = spent(compiled, weights.as_slice(), priced, values);
         left.push((*cost).saturating_sub(sum))?;
@@ -186,18 +186,17 @@ pub(crate) fn hints_of_bound(
     hints: &mut Vec<Hint>,
     compiled: &Compiled,
     bound: &Bound,
-    priced: &[Var],
     values: &Assign,
 ) -> Result<(), AllocError>
     requires { length values.now ≡ var_count compiled.now + 1 }
 {
     let mut left = Vec::new(*hints.allocator());
-    room(compiled, bound, priced, values, &mut left)?;
+    room(compiled, bound, values, &mut left)?;
     if is_reached(left.as_slice()) {
         hints.push(Hint::Bound(failing(compiled, values)))?;
         return Ok(());
     }
-    for var in priced {
+    for var in bound.priced.as_slice() {
         add_dear(hints, compiled, bound, values, left.as_slice(), *var)?;
     }
     Ok(())
@@ -224,34 +223,4 @@ fn add_dear(
         hints.push(Hint::Bound(held))?;
     }
     Ok(())
-}
-
-// Whether the variable has a weight at some priority.
-fn is_priced(bound: &Bound, var: Var) -> bool {
-    let place = (var as usize).saturating_mul(2);
-    for weights in bound.levels.as_slice() {
-        let weights = weights.as_slice();
-        if weight_at(weights, place) != 0 || weight_at(weights, place.saturating_add(1)) != 0 {
-            return true;
-        }
-    }
-    false
-}
-
-/// The variables that cost something.
-pub(crate) fn priced(
-    alloc: Global,
-    compiled: &Compiled,
-    bound: &Option<Bound>,
-) -> Result<Vec<Var>, AllocError> {
-    let mut priced = Vec::new(alloc);
-    let Some(bound) = bound else {
-        return Ok(priced);
-    };
-    for at in 0..compiled.vars() {
-        if is_priced(bound, at + 1) {
-            priced.push(at + 1)?;
-        }
-    }
-    Ok(priced)
 }

@@ -37,7 +37,7 @@ use asp_proof::proof::{Line, Sought};
 use asp_vars::assign::Assign;
 use asp_vars::compiled::Compiled;
 use asp_vars::lit::Lit;
-use asp_vars::nogood::Nogood;
+use asp_vars::nogood::{Lits, Nogood};
 use std::alloc::{AllocError, Global};
 use std::cmp::Ordering;
 
@@ -258,19 +258,19 @@ pub(crate) fn read_answer(
 // ---- what is known at first
 
 // The literals of nogoods.
-fn copied(alloc: Global, nogoods: &[Nogood]) -> Result<Vec<Seq<Lit>>, AllocError>
+fn copied(alloc: Global, nogoods: &[Nogood]) -> Result<Vec<Lits>, AllocError>
     ensures { IfOk result (λ rows. rows.items ≡ map (λ n. n.lits) nogoods.now) }
 {
     let mut rows = Vec::with_capacity(alloc, nogoods.len())?;
     for nogood in nogoods {
-        let lits = Vec::from_slice(alloc, nogood.lits.as_slice())?;
-        rows.push(Seq::from_vec(lits))?;
+        let lits = nogood.lits.copy()?;
+        rows.push(lits)?;
     }
     Ok(rows)
 }
 
 // The completion.
-pub(crate) fn completed(alloc: Global, compiled: &Compiled) -> Result<Vec<Seq<Lit>>, AllocError>
+pub(crate) fn completed(alloc: Global, compiled: &Compiled) -> Result<Vec<Lits>, AllocError>
     ensures { IfOk result (λ rows. rows.items ≡ completion compiled.now) }
 {
     let nogoods = completion(alloc, compiled)?;
@@ -483,7 +483,7 @@ enum Step {
     // What is wrong with it.
     Wrong(Why),
     // It is right; its literals.
-    Known(Seq<Lit>),
+    Known(Lits),
 }
 
 // Judges a line whose literals are these.
@@ -508,7 +508,10 @@ fn judge_literals(
     let fault = fault_of_line(compiled, known, watches, values, line, own)?;
     match fault {
         Some(why) => Ok(Step::Wrong(why)),
-        None => Ok(Step::Known(Seq::from_vec(lits))),
+        None => {
+            let kept = Lits::from_slice(watches.allocator(), own)?;
+            Ok(Step::Known(kept))
+        }
     }
 }
 
@@ -560,7 +563,7 @@ fn place_of(line: &Line) -> u32
 }
 
 // Puts a nogood into a place; behind the last one, where there is no such place yet.
-fn put(placed: &mut Vec<Seq<Lit>>, at: usize, lits: Seq<Lit>) -> Result<(), AllocError>
+fn put(placed: &mut Vec<Lits>, at: usize, lits: Lits) -> Result<(), AllocError>
     ensures { OnOk result (placed.new.items ≡ put placed.old.items at lits) }
 {
     if at < placed.len() {
@@ -580,7 +583,7 @@ fn keep(
     watches: &mut Watches,
     values: &mut Assign,
     place: u32,
-    lits: Seq<Lit>,
+    lits: Lits,
 ) -> Result<(), AllocError>
     requires kept { AllByRecursion (AreOf compiled.now) rows.old.kept.items }
     requires placed { AllByRecursion (AreOf compiled.now) rows.old.placed.items }

@@ -4,26 +4,22 @@
 //! in asp_member. But the bodies are looked at in an order that served for the sets before, a body is looked at only
 //! where one of its heads has no value, and a rule's body only where its head isn't as it must be. Where the order
 //! leaves an atom without a value, asp_member decides.
-ghost use Rattle.std.specs.Prelude.{◌≡◌, ◌+◌, ◌^◌, ◌<◌, true, false, is_none, Some, All, IfOk, OnOk, if◌then◌else◌, slice_set, length};
+ghost use Rattle.std.specs.Prelude.{◌≡◌, ◌+◌, ◌<◌, true, IfOk, OnOk, length};
 ghost use Rattle.std.specs.List.{list_all};
 ghost use Rattle.asp_model.specs.Sets.{has};
 ghost use Rattle.asp_model.specs.Views.{head_seen};
 ghost use Rattle.asp_model.specs.Models.{atoms_of, is_stable, rules_in_force};
-ghost use Rattle.asp_vars.specs.Literals.{holds_in, value_of};
-ghost use Rattle.asp_vars.specs.Numbering.{bodies_of, nth_body, nth_rule, var_count};
-ghost use Rattle.asp_vars.specs.Tabled.{bound_of};
+ghost use Rattle.asp_vars.specs.Numbering.{nth_rule, var_count};
 ghost use Rattle.asp_found.specs.Verdicts.{is_kept};
-ghost use Rattle.asp_member.specs.Founding.{passes, AreFounded, Derives, Founds, AreWhole, keeps};
+ghost use Rattle.asp_member.specs.Founding.{AreFounded, Founds, keeps};
 
-use asp_member::merge::{skip, stands_at};
-use asp_member::stable::is_stable;
-use asp_member::weighing::reaches;
+use asp_member::stable::{derive_all, have_values, holds, is_stable, is_whole, outside};
 use asp_model::interp::Interp;
 use asp_model::program::Atom;
 use asp_model::view::HeadView;
 use asp_vars::assign::Assign;
 use asp_vars::compiled::Compiled;
-use asp_vars::lit::{Lit, Var};
+use asp_vars::lit::Lit;
 use std::alloc::{AllocError, Global};
 
 // How often the bodies are looked at, at most.
@@ -72,108 +68,7 @@ impl Order {
     }
 }
 
-// ---- the values
-
-// Makes the variable false, unless its atom is in the set.
-fn exclude(values: &mut Assign, var: Var, is_inside: bool)
-    requires var { var < 2 ^ 31 }
-    requires within { var < length values.old }
-    ensures { values.new ≡ (if is_inside then values.old else slice_set values.old var (Some false)) }
-{
-    if !is_inside {
-        values.set(Lit::new(var, false));
-    }
-}
-
-// The values by which the atoms outside of the set are false, and no other.
-fn outside(alloc: Global, compiled: &Compiled, set: &Interp) -> Result<Assign, AllocError>
-    ensures size { IfOk result (λ x. length x ≡ var_count compiled.now + 1) }
-    ensures founded { IfOk result (λ x. AreFounded compiled.now set.now x) }
-{
-    let mut values = Assign::new(alloc, compiled.vars())?;
-    let atoms = compiled.atoms().as_slice();
-    let inside = set.as_slice();
-    let mut place = 0;
-    for i in 0..compiled.atom_count() {
-        place = skip(inside, place, atoms[i]);
-        exclude(
-            &mut values,
-            i as u32 + 1,
-            stands_at(inside, place, atoms[i]),
-        );
-    }
-    Ok(values)
-}
-
-// Makes an atom true that has no value.
-fn derive(values: &mut Assign, var: Var)
-    requires var { var < 2 ^ 31 }
-    requires within { var < length values.old }
-    ensures { values.new ≡ (if is_none (value_of values.old var) then slice_set values.old var (Some true) else values.old) }
-{
-    if values.value(var).is_none() {
-        values.set(Lit::new(var, true));
-    }
-}
-
-fn derive_all(values: &mut Assign, heads: &[Var])
-    requires { All (λ v. (v < 2 ^ 31) × (v < length values.old)) heads.now }
-    ensures { Derives heads.now values.old values.new }
-{
-    for var in heads {
-        derive(values, *var);
-    }
-}
-
-// ---- bodies
-
-fn all_hold(values: &Assign, lits: &[Lit]) -> bool
-    requires { All (λ l. l.var < length values.now) lits.now }
-    ensures { result ≡ list_all (holds_in values.now) lits.now }
-{
-    for lit in lits {
-        if !values.holds(*lit) {
-            return false;
-        }
-    }
-    true
-}
-
-fn is_reached(compiled: &Compiled, values: &Assign, body: usize, bound: i32) -> bool
-    requires body { body < length (bodies_of compiled.now) }
-    requires size { length values.now ≡ var_count compiled.now + 1 }
-    requires weighted { bound_of (nth_body compiled.now body) ≡ Some bound }
-    ensures { result ≡ passes compiled.now (holds_in values.now) (nth_body compiled.now body) }
-{
-    let _program = compiled.program();
-    let lits = compiled.literals(body);
-    let weights = compiled.weights(body);
-    reaches(values, false, lits, weights, bound)
-}
-
-// Whether the body holds by the values.
-fn holds(compiled: &Compiled, values: &Assign, body: usize) -> bool
-    requires body { body < length (bodies_of compiled.now) }
-    requires size { length values.now ≡ var_count compiled.now + 1 }
-    ensures { result ≡ passes compiled.now (holds_in values.now) (nth_body compiled.now body) }
-{
-    match compiled.bound(body) {
-        Some(bound) => is_reached(compiled, values, body, bound),
-        None => all_hold(values, compiled.literals(body)),
-    }
-}
-
-// Whether one of the heads has no value.
-fn is_one_open(values: &Assign, heads: &[Var]) -> bool
-    requires { All (λ v. v < length values.now) heads.now }
-{
-    for var in heads {
-        if values.value(*var).is_none() {
-            return true;
-        }
-    }
-    false
-}
+// ---- looks
 
 // Derives the heads of a body, if it holds. Says whether one of them had no value.
 fn look(compiled: &Compiled, values: &mut Assign, body: usize) -> bool
@@ -184,7 +79,7 @@ fn look(compiled: &Compiled, values: &mut Assign, body: usize) -> bool
     if body >= compiled.body_count() {
         return false;
     }
-    if !is_one_open(values, compiled.heads(body)) {
+    if have_values(values, compiled.heads(body)) {
         return false;
     }
     let held = holds(compiled, values, body);
@@ -240,19 +135,6 @@ fn derive_by(
 }
 
 // ---- the end
-
-// Whether all atoms have values.
-fn is_whole(compiled: &Compiled, values: &Assign) -> bool
-    requires { length values.now ≡ var_count compiled.now + 1 }
-    ensures { result ≡ true → AreWhole values.now (length (atoms_of compiled.now)) }
-{
-    for i in 0..compiled.atom_count() {
-        if values.value(i as u32 + 1).is_none() {
-            return false;
-        }
-    }
-    true
-}
 
 // Whether the atom is in the set. Mostly an atom's variable has its number; then its value says that.
 fn is_in(compiled: &Compiled, set: &Interp, values: &Assign, atom: Atom) -> bool

@@ -2,9 +2,9 @@
 ghost use Rattle.std.specs.Prelude.{◌≡◌, ◌+◌, length};
 
 use crate::hints::{fails, holds};
-use asp_model::seq::Seq;
 use asp_vars::assign::Assign;
 use asp_vars::lit::Lit;
+use asp_vars::nogood::Lits;
 use std::alloc::{AllocError, Global};
 
 /// The places that a line names.
@@ -47,7 +47,7 @@ fn says(values: &Assign, vars: u32, lits: &[Lit]) -> Say
 }
 
 // The same of a place's nogood, if it has one.
-fn say_at(placed: &[Seq<Lit>], values: &Assign, vars: u32, place: usize) -> Say
+fn say_at(placed: &[Lits], values: &Assign, vars: u32, place: usize) -> Say
     requires { length values.now ≡ vars + 1 }
 {
     match placed.get(place) {
@@ -96,7 +96,7 @@ impl Named {
     // The next of those ahead that says something.
     fn next_ahead(
         &mut self,
-        placed: &[Seq<Lit>],
+        placed: &[Lits],
         values: &Assign,
         vars: u32,
     ) -> Result<Option<usize>, AllocError>
@@ -119,7 +119,7 @@ impl Named {
     /// The next of them that says something, where so many literals hold.
     pub(crate) fn next(
         &mut self,
-        placed: &[Seq<Lit>],
+        placed: &[Lits],
         values: &Assign,
         vars: u32,
         held: usize,

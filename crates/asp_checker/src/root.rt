@@ -12,10 +12,10 @@ use crate::bounds::Bound;
 use crate::chase::chase;
 use crate::watches::Watches;
 use asp_model::interp::Interp;
-use asp_model::seq::Seq;
 use asp_vars::assign::Assign;
 use asp_vars::compiled::Compiled;
 use asp_vars::lit::{Lit, Var};
+use asp_vars::nogood::Lits;
 use std::alloc::{AllocError, Global};
 
 // Adds the values to which the hints lead. They are kept, and so is a conflict.
@@ -23,7 +23,7 @@ fn settle(
     alloc: Global,
     compiled: &Compiled,
     listed: &[Interp],
-    rows: &[Seq<Lit>],
+    rows: &[Lits],
     bound: &Option<Bound>,
     watches: &mut Watches,
     values: &mut Assign,
@@ -53,7 +53,7 @@ pub(crate) fn first_root(
     alloc: Global,
     compiled: &Compiled,
     listed: &[Interp],
-    rows: &[Seq<Lit>],
+    rows: &[Lits],
     bound: &Option<Bound>,
     watches: &mut Watches,
 ) -> Result<Assign, AllocError>
@@ -72,7 +72,7 @@ pub(crate) fn learn(
     alloc: Global,
     compiled: &Compiled,
     listed: &[Interp],
-    rows: &[Seq<Lit>],
+    rows: &[Lits],
     bound: &Option<Bound>,
     watches: &mut Watches,
     values: &mut Assign,

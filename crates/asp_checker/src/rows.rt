@@ -2,16 +2,15 @@
 
 use crate::bounds::Bound;
 use asp_model::interp::Interp;
-use asp_model::seq::Seq;
-use asp_vars::lit::Lit;
+use asp_vars::nogood::Lits;
 
 /// The nogoods of the completion and of the lines.
 #[derive(Drop)]
 pub struct Rows {
     /// Those that are known for good.
-    pub kept: Vec<Seq<Lit>>,
+    pub kept: Vec<Lits>,
     /// Those in places: each is known until another line takes its place.
-    pub placed: Vec<Seq<Lit>>,
+    pub placed: Vec<Lits>,
 }
 
 /// All that is known before a line.
@@ -20,9 +19,9 @@ pub struct Before<'a> {
     /// The listed answers, where each of them is avoided.
     pub listed: &'a [Interp],
     /// The nogoods that are known for good.
-    pub kept: &'a [Seq<Lit>],
+    pub kept: &'a [Lits],
     /// The nogoods in places.
-    pub placed: &'a [Seq<Lit>],
+    pub placed: &'a [Lits],
     /// The cost that is to be bettered.
     pub bound: &'a Option<Bound>,
 }

@@ -142,16 +142,25 @@ fn judge_last<S: Source>(
     }
 }
 
+// What unit propagation works on.
+#[derive(Drop)]
+struct Propagator {
+    // The nogoods that are known.
+    rows: Rows,
+    // Where they are watched.
+    watches: Watches,
+    // The values that follow from what is known for good.
+    values: Assign,
+}
+
 // Judges the lines one after another, from the one that the reader is at. Each that is right is known to the later ones.
 fn judge_each<S: Source>(
     compiled: &Compiled,
     sought: Sought,
     answers: &[Interp],
-    rows: &mut Rows,
+    propagator: &mut Propagator,
     bound: &Option<Bound>,
     assumed: &[Lit],
-    watches: &mut Watches,
-    values: &mut Assign,
     reader: &mut LineReader,
     source: &mut S,
 ) -> Result<Judgement, CheckError>
@@ -160,12 +169,12 @@ fn judge_each<S: Source>(
     requires begun { IsBegun (length answers.now + 2) (proof_of sought answers.now []) }
     requires unbroken { IsUnbroken reader.old.line }
     requires no_answer { IsNone IsSet answer_text reader.old.line }
-    requires kept { AllByRecursion (AreOf compiled.now) rows.old.kept.items }
-    requires placed { rows.old.placed.items ≡ [] }
+    requires kept { AllByRecursion (AreOf compiled.now) propagator.old.rows.kept.items }
+    requires placed { propagator.old.rows.placed.items ≡ [] }
     requires levels { HasLevels compiled.now bound.now }
     requires assumed { assumed.now ≡ map (literal_of compiled.now) compiled.now.assumptions }
-    requires root { IsRoot compiled.now (known_with compiled.now (avoided sought answers.now) rows.old.kept.items bound.now) values.old }
-    requires known { known_with compiled.now (avoided sought answers.now) rows.old.kept.items bound.now ≡ known_at_first compiled.now (proof_of sought answers.now []) }
+    requires root { IsRoot compiled.now (known_with compiled.now (avoided sought answers.now) propagator.old.rows.kept.items bound.now) propagator.old.values }
+    requires known { known_with compiled.now (avoided sought answers.now) propagator.old.rows.kept.items bound.now ≡ known_at_first compiled.now (proof_of sought answers.now []) }
     ensures says { Comes (S.left source.old) (front_of (proof_of sought answers.now []) ++ held reader.old) (λ text. Judges compiled.now text result) }
     ensures cause { IsErrOf result read_fault → Rose (S.faults source.old) (S.faults source.new) }
     ensures quiet { ¬ IsErrOf result read_fault → S.faults source.new ≡ S.faults source.old }
@@ -176,7 +185,14 @@ fn judge_each<S: Source>(
         let number = answers.len() + at + 3;
         let bytes = reader.line();
         let came_to = read_line(
-            compiled, listed, rows, bound, assumed, watches, values, bytes,
+            compiled,
+            listed,
+            &mut propagator.rows,
+            bound,
+            assumed,
+            &mut propagator.watches,
+            &mut propagator.values,
+            bytes,
         )?;
         match came_to {
             Read::Last(part) => {
@@ -216,27 +232,30 @@ fn judge_lines<S: Source>(
     let kept = completed(alloc, compiled)?;
     let bound = bound_at_first(alloc, compiled, sought, answers)?;
     let assumptions = assumptions(alloc, compiled)?;
-    let mut watches = Watches::new(alloc, compiled, &bound)?;
+    let mut watches = Watches::new(alloc, compiled)?;
     let first = kept.as_slice();
-    let mut values = first_root(alloc, compiled, listed, first, &bound, &mut watches)?;
-    let mut rows = Rows {
+    let values = first_root(alloc, compiled, listed, first, &bound, &mut watches)?;
+    let rows = Rows {
         kept,
         placed: Vec::new(alloc),
+    };
+    let mut propagator = Propagator {
+        rows,
+        watches,
+        values,
     };
     let assumed = assumptions.as_slice();
     let judged = judge_each(
         compiled,
         sought,
         answers,
-        &mut rows,
+        &mut propagator,
         &bound,
         assumed,
-        &mut watches,
-        &mut values,
         reader,
         source,
     );
-    mem::drop(watches);
+    mem::drop(propagator);
     judged
 }
 

@@ -1,11 +1,10 @@
 //! All nogoods, each looked at once.
-ghost use Rattle.std.specs.Prelude.{◌≡◌, ◌<◌, length};
+ghost use Rattle.std.specs.Prelude.{◌≡◌, length};
 ghost use Rattle.asp_checker.specs.Sweeps.{AreInRange, IsSwept, later};
 
 use crate::nogoods::{Visit, visit_one};
-use asp_model::seq::Seq;
 use asp_vars::assign::Assign;
-use asp_vars::lit::Lit;
+use asp_vars::nogood::Lits;
 
 // What two looks came to, where neither was a conflict.
 pub(crate) fn later(before: Visit, now: Visit) -> Visit
@@ -19,7 +18,7 @@ pub(crate) fn later(before: Visit, now: Visit) -> Visit
 }
 
 /// Looks at each nogood once, and sets the values that they imply, one after another.
-pub fn sweep(rows: &[Seq<Lit>], values: &mut Assign) -> Visit
+pub fn sweep(rows: &[Lits], values: &mut Assign) -> Visit
     requires { AreInRange (length values.old) rows.now }
     ensures { IsSwept values.old values.new rows.now result }
 {

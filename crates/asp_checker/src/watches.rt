@@ -6,16 +6,16 @@ ghost use Rattle.std.specs.Prelude.{◌≡◌, ◌+◌, ◌<◌, length};
 ghost use Rattle.asp_vars.specs.Numbering.{var_count};
 
 use crate::bounds::Bound;
-use crate::hints::{Hint, fails, hints_of_bound, holds, priced};
+use crate::hints::{Hint, fails, hints_of_bound, holds};
 use crate::named::Named;
 use crate::open::{another, another_from, first_open};
 use crate::scales::Scales;
 use crate::seek::Seeker;
 use asp_model::interp::Interp;
-use asp_model::seq::Seq;
 use asp_vars::assign::Assign;
 use asp_vars::compiled::Compiled;
-use asp_vars::lit::{Lit, Var};
+use asp_vars::lit::Lit;
+use asp_vars::nogood::Lits;
 use std::alloc::{AllocError, Global};
 
 // How many nogoods of lines watch before some are retired, and how many more after each time.
@@ -79,8 +79,6 @@ pub struct Watches {
     scales: Scales,
     // Where listed answers are sought.
     seeker: Seeker,
-    // The variables that cost something.
-    priced: Vec<Var>,
     // How many of the literals that came to hold are done with.
     done: usize,
     // How many of the nogoods that watch the next of them are done with.
@@ -147,7 +145,7 @@ fn status_of(entry: &mut Entry, row: &[Lit], values: &Assign, vars: u32, held: L
 fn status_at(
     watch: Watch,
     entries: &mut [Entry],
-    rows: &[Seq<Lit>],
+    rows: &[Lits],
     values: &Assign,
     vars: u32,
     held: Lit,
@@ -174,7 +172,7 @@ fn status_at(
 fn scan(
     watches: &mut [Watch],
     entries: &mut [Entry],
-    rows: &[Seq<Lit>],
+    rows: &[Lits],
     values: &Assign,
     vars: u32,
     held: Lit,
@@ -212,15 +210,10 @@ fn lists<T: Drop>(alloc: Global, count: usize) -> Result<Vec<Vec<T>>, AllocError
 }
 
 impl Watches {
-    /// For a program and a bound, with no nogood yet. All weight bodies are to be looked at.
-    pub(crate) fn new(
-        alloc: Global,
-        compiled: &Compiled,
-        bound: &Option<Bound>,
-    ) -> Result<Watches, AllocError> {
+    /// For a program, with no nogood yet. All weight bodies are to be looked at.
+    pub(crate) fn new(alloc: Global, compiled: &Compiled) -> Result<Watches, AllocError> {
         let by_code = lists(alloc, 2 * (compiled.vars() as usize + 1))?;
         let scales = Scales::new(alloc, compiled)?;
-        let priced = priced(alloc, compiled, bound)?;
         Ok(Watches {
             by_code,
             entries: Vec::new(alloc),
@@ -235,7 +228,6 @@ impl Watches {
             named_at: 0,
             scales,
             seeker: Seeker::new(alloc),
-            priced,
             done: 0,
             within: 0,
             hints: Vec::new(alloc),
@@ -329,7 +321,7 @@ impl Watches {
         &mut self,
         values: &Assign,
         vars: u32,
-        rows: &[Seq<Lit>],
+        rows: &[Lits],
     ) -> Result<(), AllocError>
         requires { length values.now ≡ vars + 1 }
     {
@@ -345,7 +337,7 @@ impl Watches {
         &mut self,
         values: &Assign,
         vars: u32,
-        rows: &[Seq<Lit>],
+        rows: &[Lits],
     ) -> Result<(), AllocError>
         requires { length values.now ≡ vars + 1 }
     {
@@ -433,7 +425,7 @@ impl Watches {
     }
 
     // Those that said something watch again.
-    fn revive(&mut self, values: &Assign, vars: u32, rows: &[Seq<Lit>]) -> Result<(), AllocError>
+    fn revive(&mut self, values: &Assign, vars: u32, rows: &[Lits]) -> Result<(), AllocError>
         requires { length values.now ≡ vars + 1 }
     {
         for _ in 0..u64::MAX {
@@ -453,7 +445,7 @@ impl Watches {
         &mut self,
         values: &Assign,
         vars: u32,
-        rows: &[Seq<Lit>],
+        rows: &[Lits],
     ) -> Result<(), AllocError>
         requires { length values.now ≡ vars + 1 }
     {
@@ -515,7 +507,7 @@ impl Watches {
     // The next nogood to look at among those that watch a literal that holds.
     fn next_of(
         &mut self,
-        rows: &[Seq<Lit>],
+        rows: &[Lits],
         values: &Assign,
         vars: u32,
         held: Lit,
@@ -552,7 +544,7 @@ impl Watches {
     }
 
     // Whether a nogood that doesn't watch says something. Else two of its literals show that it doesn't.
-    fn speaks(&mut self, rows: &[Seq<Lit>], values: &Assign, vars: u32, place: usize) -> bool
+    fn speaks(&mut self, rows: &[Lits], values: &Assign, vars: u32, place: usize) -> bool
         requires { length values.now ≡ vars + 1 }
     {
         let Some(entry) = self.entries.get_mut(place) else {
@@ -589,7 +581,7 @@ impl Watches {
     // The next nogood that doesn't watch and says something.
     fn next_of_retired(
         &mut self,
-        rows: &[Seq<Lit>],
+        rows: &[Lits],
         values: &Assign,
         vars: u32,
     ) -> Result<Option<usize>, AllocError>
@@ -624,7 +616,7 @@ impl Watches {
     fn next_nogood(
         &mut self,
         compiled: &Compiled,
-        rows: &[Seq<Lit>],
+        rows: &[Lits],
         values: &Assign,
         trail: &[Lit],
     ) -> Result<Option<usize>, AllocError>
@@ -660,13 +652,7 @@ impl Watches {
         }
         self.priced_at = Some(held);
         match bound {
-            Some(bound) => hints_of_bound(
-                &mut self.hints,
-                compiled,
-                bound,
-                self.priced.as_slice(),
-                values,
-            ),
+            Some(bound) => hints_of_bound(&mut self.hints, compiled, bound, values),
             None => Ok(()),
         }
     }
@@ -693,8 +679,8 @@ impl Watches {
         &mut self,
         compiled: &Compiled,
         listed: &[Interp],
-        rows: &[Seq<Lit>],
-        placed: &[Seq<Lit>],
+        rows: &[Lits],
+        placed: &[Lits],
         bound: &Option<Bound>,
         values: &Assign,
         trail: &[Lit],

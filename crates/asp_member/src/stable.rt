@@ -39,8 +39,8 @@ fn exclude(values: &mut Assign, var: Var, is_inside: bool)
     }
 }
 
-// The values by which the atoms outside of the set are false, and no other.
-fn outside(alloc: Global, compiled: &Compiled, set: &Interp) -> Result<Assign, AllocError>
+/// The values by which the atoms outside of the set are false, and no other. Fails only where memory ends.
+pub fn outside(alloc: Global, compiled: &Compiled, set: &Interp) -> Result<Assign, AllocError>
     ensures size { IfOk result (λ x. length x ≡ var_count compiled.now + 1) }
     ensures founded { IfOk result (λ x. AreFounded compiled.now set.now x) }
 {
@@ -70,7 +70,8 @@ fn derive(values: &mut Assign, var: Var)
     }
 }
 
-fn derive_all(values: &mut Assign, heads: &[Var])
+/// Makes the variables true that have no value, one after another.
+pub fn derive_all(values: &mut Assign, heads: &[Var])
     requires { All (λ v. (v < 2 ^ 31) × (v < length values.old)) heads.now }
     ensures { Derives heads.now values.old values.new }
 {
@@ -105,8 +106,8 @@ fn is_reached(compiled: &Compiled, values: &Assign, body: usize, bound: i32) -> 
     reaches(values, false, lits, weights, bound)
 }
 
-// Whether the body holds by the values.
-fn holds(compiled: &Compiled, values: &Assign, body: usize) -> bool
+/// Whether the body holds by the values.
+pub fn holds(compiled: &Compiled, values: &Assign, body: usize) -> bool
     requires body { body < length (bodies_of compiled.now) }
     requires size { length values.now ≡ var_count compiled.now + 1 }
     ensures { result ≡ passes compiled.now (holds_in values.now) (nth_body compiled.now body) }
@@ -144,8 +145,8 @@ fn look_at_all(compiled: &Compiled, values: &mut Assign, bodies: &[usize])
 
 // ---- the end
 
-// Whether all atoms have values.
-fn is_whole(compiled: &Compiled, values: &Assign) -> bool
+/// Whether all atoms have values.
+pub fn is_whole(compiled: &Compiled, values: &Assign) -> bool
     requires { length values.now ≡ var_count compiled.now + 1 }
     ensures yes { result ≡ true → AreWhole values.now (length (atoms_of compiled.now)) }
     ensures no { result ≡ false → AreWhole values.now (length (atoms_of compiled.now)) → ⊥ }
@@ -158,7 +159,8 @@ fn is_whole(compiled: &Compiled, values: &Assign) -> bool
     true
 }
 
-fn have_values(values: &Assign, heads: &[Var]) -> bool
+/// Whether each of the variables has a value.
+pub fn have_values(values: &Assign, heads: &[Var]) -> bool
     requires { All (λ v. v < length values.now) heads.now }
     ensures { result ≡ list_all (λ v. not (is_none (value_of values.now v))) heads.now }
 {

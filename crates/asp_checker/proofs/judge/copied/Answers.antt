@@ -7,9 +7,8 @@ use Rattle.asp_checker.proofs.judge.copied.Goals as goal
 pub loop-nogood-preserved : goal.loop-nogood-preserved
 loop-nogood-preserved c =
     let f : Nogood → List Literal = λ n. n.lits in
-    map_more f c.args.nogoods.now c.loop-nogood.nogood-index c.nogood-item.result c.from_vec.result c.loop-nogood.rows.items c.push.new.self.items
-    c.loop-nogood-test.true c.loop-nogood.invariant c.in_ok-push.ensures.items
-    (c.from_vec.ensures ∙ c.in_ok-lits.ensures.items ∙ c.as_slice.ensures.value ∙ ap f c.nogood-item.is)
+    map_more f c.args.nogoods.now c.loop-nogood.nogood-index c.nogood-item.result c.in_ok-lits.lits c.loop-nogood.rows.items c.push.new.self.items
+    c.loop-nogood-test.true c.loop-nogood.invariant c.in_ok-push.ensures.items (c.in_ok-lits.ensures ∙ ap f c.nogood-item.is)
 
 pub returns : goal.returns
 returns c =

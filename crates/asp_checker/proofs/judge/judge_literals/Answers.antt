@@ -8,4 +8,4 @@ pub returns-in-Some-clause-judged : goal.returns-in-Some-clause-judged
 returns-in-Some-clause-judged c = rw c.in-Some.is at c.in_ok-fault.ensures.judged
 
 pub returns-in-None-clause-judged : goal.returns-in-None-clause-judged
-returns-in-None-clause-judged c = (c.from_vec.ensures ∙ c.requires.lits, c.requires.has, rw c.in-None.is at c.in_ok-fault.ensures.judged)
+returns-in-None-clause-judged c = (c.in_ok-kept.ensures ∙ c.as_slice-own.ensures.value ∙ c.requires.lits, c.requires.has, rw c.in-None.is at c.in_ok-fault.ensures.judged)

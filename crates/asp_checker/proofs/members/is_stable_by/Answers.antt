@@ -10,4 +10,4 @@ returns-then-is_whole c =
     let S : Atoms = c.args.set.now in
     c.are_kept.ensures
     ∙ whole_decides p S c.derive_by.new.values c.program-program.ensures.sound (subst IsAscending c.as_slice-atoms.ensures.value c.as_slice-atoms.ensures.ascending) (all_within p S c.requires)
-    (c.in_ok-derive_by.ensures.founded S c.in_ok-values.ensures.founded) (c.if-is_whole.ensures refl)
+    (c.in_ok-derive_by.ensures.founded S c.in_ok-values.ensures.founded) (c.if-is_whole.ensures.yes refl)

@@ -2,8 +2,8 @@ use Rattle.std.proofs.Common.{sym, ◌∙◌, arith}
 use Rattle.asp_member.proofs.FoundingLaws.{founds_itself, founds_more}
 use Rattle.asp_checker.proofs.members.look.Goals as goal
 
-pub returns-then-not-is_one_open : goal.returns-then-not-is_one_open
-returns-then-not-is_one_open c = founds_itself c.args.compiled.now c.args.values.now
+pub returns-then-have_values : goal.returns-then-have_values
+returns-then-have_values c = founds_itself c.args.compiled.now c.args.values.now
 
 pub returns-then-not-held : goal.returns-then-not-held
 returns-then-not-held c = founds_itself c.args.compiled.now c.args.values.now

@@ -15,11 +15,11 @@ use Rattle.asp_checker.proofs.stream.judge_each.Goals as goal
 pub lines-init : goal.lines-init
 lines-init g c =
     let p = c.args.compiled.now in
-    let k = stock (known_with p c.avoided-listed.result.now c.args.rows.now.kept.items c.args.bound.now) c.args.rows.now.placed.items in
+    let k = stock (known_with p c.avoided-listed.result.now c.args.propagator.now.rows.kept.items c.args.bound.now) c.args.propagator.now.rows.placed.items in
     record {
       of = c.requires.kept;
       of_placed = rw c.requires.placed tt;
-      root = subst (λ (Ss : List Atoms). IsRoot p (known_with p Ss c.args.rows.now.kept.items c.args.bound.now) c.args.values.now) (sym c.avoided-listed.ensures) c.requires.root;
+      root = subst (λ (Ss : List Atoms). IsRoot p (known_with p Ss c.args.propagator.now.rows.kept.items c.args.bound.now) c.args.propagator.now.values) (sym c.avoided-listed.ensures) c.requires.root;
       so_far = so_far_first p c.args.sought c.args.answers.now k (g.S.Source.left c.args.source.now) c.args.reader.now c.requires.begun c.requires.unbroken c.requires.no_answer;
       quiet = refl;
     }
@@ -35,11 +35,11 @@ judge_last-requires-clause-last g c = rw (c.in-Last.is, c.line-bytes.ensures) at
 pub returns-in-Last-clause-says : goal.returns-in-Last-clause-says
 returns-in-Last-clause-says g c =
     let p = c.args.compiled.now in
-    let k = stock (known_with p c.avoided-listed.result.now c.args.rows.now.kept.items c.args.bound.now) c.args.rows.now.placed.items in
-    let known = stock (known_with p c.avoided-listed.result.now c.lines.rows.kept.items c.args.bound.now) c.lines.rows.placed.items in
+    let k = stock (known_with p c.avoided-listed.result.now c.args.propagator.now.rows.kept.items c.args.bound.now) c.args.propagator.now.rows.placed.items in
+    let known = stock (known_with p c.avoided-listed.result.now c.lines.propagator.rows.kept.items c.args.bound.now) c.lines.propagator.rows.placed.items in
     let at_first =
-    stock_from (known_with p c.avoided-listed.result.now c.args.rows.now.kept.items c.args.bound.now) _ c.args.rows.now.placed.items
-    (ap (λ (Ss : List Atoms). known_with p Ss c.args.rows.now.kept.items c.args.bound.now) c.avoided-listed.ensures ∙ c.requires.known)
+    stock_from (known_with p c.avoided-listed.result.now c.args.propagator.now.rows.kept.items c.args.bound.now) _ c.args.propagator.now.rows.placed.items
+    (ap (λ (Ss : List Atoms). known_with p Ss c.args.propagator.now.rows.kept.items c.args.bound.now) c.avoided-listed.ensures ∙ c.requires.known)
     c.requires.placed in
     let number = length c.args.answers.now + c.lines.at + 3 in
     so_far_last p c.args.sought c.args.answers.now k known c.lines.whole c.lines.at number (g.S.Source.left c.args.source.now)
@@ -49,11 +49,11 @@ returns-in-Last-clause-says g c =
 pub returns-in-Refused-clause-says : goal.returns-in-Refused-clause-says
 returns-in-Refused-clause-says g c =
     let p = c.args.compiled.now in
-    let k = stock (known_with p c.avoided-listed.result.now c.args.rows.now.kept.items c.args.bound.now) c.args.rows.now.placed.items in
-    let known = stock (known_with p c.avoided-listed.result.now c.lines.rows.kept.items c.args.bound.now) c.lines.rows.placed.items in
+    let k = stock (known_with p c.avoided-listed.result.now c.args.propagator.now.rows.kept.items c.args.bound.now) c.args.propagator.now.rows.placed.items in
+    let known = stock (known_with p c.avoided-listed.result.now c.lines.propagator.rows.kept.items c.args.bound.now) c.lines.propagator.rows.placed.items in
     let at_first =
-    stock_from (known_with p c.avoided-listed.result.now c.args.rows.now.kept.items c.args.bound.now) _ c.args.rows.now.placed.items
-    (ap (λ (Ss : List Atoms). known_with p Ss c.args.rows.now.kept.items c.args.bound.now) c.avoided-listed.ensures ∙ c.requires.known)
+    stock_from (known_with p c.avoided-listed.result.now c.args.propagator.now.rows.kept.items c.args.bound.now) _ c.args.propagator.now.rows.placed.items
+    (ap (λ (Ss : List Atoms). known_with p Ss c.args.propagator.now.rows.kept.items c.args.bound.now) c.avoided-listed.ensures ∙ c.requires.known)
     c.requires.placed in
     let number = length c.args.answers.now + c.lines.at + 3 in
     let h = rw (c.in-Refused.is, c.line-bytes.ensures) at c.in_ok-came_to.ensures in
@@ -63,11 +63,11 @@ returns-in-Refused-clause-says g c =
 pub returns-in-Wrong-clause-says : goal.returns-in-Wrong-clause-says
 returns-in-Wrong-clause-says g c =
     let p = c.args.compiled.now in
-    let k = stock (known_with p c.avoided-listed.result.now c.args.rows.now.kept.items c.args.bound.now) c.args.rows.now.placed.items in
-    let known = stock (known_with p c.avoided-listed.result.now c.lines.rows.kept.items c.args.bound.now) c.lines.rows.placed.items in
+    let k = stock (known_with p c.avoided-listed.result.now c.args.propagator.now.rows.kept.items c.args.bound.now) c.args.propagator.now.rows.placed.items in
+    let known = stock (known_with p c.avoided-listed.result.now c.lines.propagator.rows.kept.items c.args.bound.now) c.lines.propagator.rows.placed.items in
     let at_first =
-    stock_from (known_with p c.avoided-listed.result.now c.args.rows.now.kept.items c.args.bound.now) _ c.args.rows.now.placed.items
-    (ap (λ (Ss : List Atoms). known_with p Ss c.args.rows.now.kept.items c.args.bound.now) c.avoided-listed.ensures ∙ c.requires.known)
+    stock_from (known_with p c.avoided-listed.result.now c.args.propagator.now.rows.kept.items c.args.bound.now) _ c.args.propagator.now.rows.placed.items
+    (ap (λ (Ss : List Atoms). known_with p Ss c.args.propagator.now.rows.kept.items c.args.bound.now) c.avoided-listed.ensures ∙ c.requires.known)
     c.requires.placed in
     let number = length c.args.answers.now + c.lines.at + 3 in
     let h = rw (c.in-Wrong.is, c.line-bytes.ensures) at c.in_ok-came_to.ensures in
@@ -77,8 +77,8 @@ returns-in-Wrong-clause-says g c =
 pub returns-in_err-next-clause-says : goal.returns-in_err-next-clause-says
 returns-in_err-next-clause-says g c =
     let p = c.args.compiled.now in
-    let k = stock (known_with p c.avoided-listed.result.now c.args.rows.now.kept.items c.args.bound.now) c.args.rows.now.placed.items in
-    let known = stock (known_with p c.avoided-listed.result.now c.lines.rows.kept.items c.args.bound.now) c.lines.rows.placed.items in
+    let k = stock (known_with p c.avoided-listed.result.now c.args.propagator.now.rows.kept.items c.args.bound.now) c.args.propagator.now.rows.placed.items in
+    let known = stock (known_with p c.avoided-listed.result.now c.lines.propagator.rows.kept.items c.args.bound.now) c.lines.propagator.rows.placed.items in
     let h = rw (c.in-Right.is, c.line-bytes.ensures) at c.in_ok-came_to.ensures in
     let e = err_from_is_err_and c.from_residual-in_err-next.result c.from_residual-in_err-next.ensures.1 in
     rw (e.1, e.2) (so_far_failed p c.args.sought c.args.answers.now k known c.lines.whole c.lines.at (g.S.Source.left c.args.source.now)
@@ -95,11 +95,11 @@ returns-in_err-next-clause-quiet g c =
 pub returns-then-not-next-clause-says : goal.returns-then-not-next-clause-says
 returns-then-not-next-clause-says g c =
     let p = c.args.compiled.now in
-    let k = stock (known_with p c.avoided-listed.result.now c.args.rows.now.kept.items c.args.bound.now) c.args.rows.now.placed.items in
-    let known = stock (known_with p c.avoided-listed.result.now c.lines.rows.kept.items c.args.bound.now) c.lines.rows.placed.items in
+    let k = stock (known_with p c.avoided-listed.result.now c.args.propagator.now.rows.kept.items c.args.bound.now) c.args.propagator.now.rows.placed.items in
+    let known = stock (known_with p c.avoided-listed.result.now c.lines.propagator.rows.kept.items c.args.bound.now) c.lines.propagator.rows.placed.items in
     let at_first =
-    stock_from (known_with p c.avoided-listed.result.now c.args.rows.now.kept.items c.args.bound.now) _ c.args.rows.now.placed.items
-    (ap (λ (Ss : List Atoms). known_with p Ss c.args.rows.now.kept.items c.args.bound.now) c.avoided-listed.ensures ∙ c.requires.known)
+    stock_from (known_with p c.avoided-listed.result.now c.args.propagator.now.rows.kept.items c.args.bound.now) _ c.args.propagator.now.rows.placed.items
+    (ap (λ (Ss : List Atoms). known_with p Ss c.args.propagator.now.rows.kept.items c.args.bound.now) c.avoided-listed.ensures ∙ c.requires.known)
     c.requires.placed in
     let number = length c.args.answers.now + c.lines.at + 3 in
     let h = rw (c.in-Right.is, c.line-bytes.ensures) at c.in_ok-came_to.ensures in
@@ -111,8 +111,8 @@ returns-then-not-next-clause-says g c =
 pub lines-preserved : goal.lines-preserved
 lines-preserved g c =
     let p = c.args.compiled.now in
-    let k = stock (known_with p c.avoided-listed.result.now c.args.rows.now.kept.items c.args.bound.now) c.args.rows.now.placed.items in
-    let known = stock (known_with p c.avoided-listed.result.now c.lines.rows.kept.items c.args.bound.now) c.lines.rows.placed.items in
+    let k = stock (known_with p c.avoided-listed.result.now c.args.propagator.now.rows.kept.items c.args.bound.now) c.args.propagator.now.rows.placed.items in
+    let known = stock (known_with p c.avoided-listed.result.now c.lines.propagator.rows.kept.items c.args.bound.now) c.lines.propagator.rows.placed.items in
     let h = rw (c.in-Right.is, c.line-bytes.ensures) at c.in_ok-came_to.ensures in
     let now = stock (known_with p c.avoided-listed.result.now c.read_line.new.rows.kept.items c.args.bound.now) c.read_line.new.rows.placed.items in
     record {
