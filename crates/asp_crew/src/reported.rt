@@ -31,13 +31,7 @@ fn end_by(enough: bool, closed: bool) -> End
 
 /// What one search has to say whose journal is the book's: the answers that were delivered in order, each once, and the best.
 /// So many nogoods were shared, and `short` says whether a worker ended for want of memory.
-pub fn told(
-    mode: Mode,
-    book: Book,
-    unpaid: Option<Conflict>,
-    log: u32,
-    short: bool,
-) -> Report
+pub fn told(mode: Mode, book: Book, unpaid: Option<Conflict>, log: u32, short: bool) -> Report
     requires idle { IsIdle (board book) }
     requires over { IsWorkedOff (board book) unpaid }
     ensures told { IsToldBy (board book) result }

@@ -99,7 +99,7 @@ module _ {A : Type 0} where
       is : (drop (length written) all) ≡ (take n (drop (length written) all) ++ rows) ++ front.0
       is = ap (drop (length written)) (sym front.1)
           ∙ ap (drop (length written)) (ap (λ (t : List A). t ++ front.0) (append_assoc written (take n (drop (length written) all)) rows)
-              ∙ append_assoc written (take n (drop (length written) all) ++ rows) front.0)
+          ∙ append_assoc written (take n (drop (length written) all) ++ rows) front.0)
           ∙ drop-at written ((take n (drop (length written) all) ++ rows) ++ front.0)
 
       by : (b : Bool) → nat_le n (length (drop (length written) all)) ≡ b → n + (length rows - k) < most

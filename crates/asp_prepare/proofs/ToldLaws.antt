@@ -401,7 +401,7 @@ entry-told : (p : Program) (F : Aside) (r : Found) (mode : Mode) (number : ℕ) 
     ≡ entry_start number ++ cond brief [] (separator 44 (is_listed mode (told F r)) ++ recorded_text p mode (told F r))
     ++ (known_text mode (told F r) (known_texts p (option_map (restored F) r.known)) ++ result_text r (found_count mode (told F r))
     ++ (codes ",\"Models\":{\"Number\":" ++ decimal (found_count mode (told F r)) ++ codes ",\"More\":\"" ++ more r.end ++ codes "\"" ++ best_text mode
-        (told F r) (found_count mode (told F r)) ++ codes "}"))
+    (told F r) (found_count mode (told F r)) ++ codes "}"))
 entry-told p F r Enum number brief listed = refl
 entry-told p F r Opt number brief listed = refl
 entry-told p F r (Consequences w) number brief listed = absurd (let no : Some w ≡ None = listed in let f : ⊥ = cc in f)

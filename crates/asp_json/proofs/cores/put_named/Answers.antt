@@ -14,7 +14,7 @@ returns-in_err-put_escaped_name g c =
     let plain = to_z-of_z w32 c.args.literal (search rules) in
     puts_fails _ _ _ _ _ (codes "\"" ++ flat_map escaped (denial c.args.literal ++ c.args.name.now)) (codes "\"")
     (puts_then _ _ _ _ _ (codes "\"") (flat_map escaped (denial c.args.literal ++ c.args.name.now)) c.in_ok-put.ensures
-        (rw plain at c.in_err-put_escaped_name.ensures)) c.from_residual-in_err-put_escaped_name.ensures.1
+    (rw plain at c.in_err-put_escaped_name.ensures)) c.from_residual-in_err-put_escaped_name.ensures.1
 
 pub returns : goal.returns
 returns g c =

@@ -8,11 +8,11 @@ use Rattle.asp_json.proofs.entries.put_entry_results.Goals as goal
 pub returns-in_err-put_entry_start : goal.returns-in_err-put_entry_start
 returns-in_err-put_entry_start g c =
     puts_fails _ _ _ _ _ (entry_start c.args.number ++ entry_answers c.args.program.now c.args.results.now c.args.brief) (summary_text c.args.results.now
-        (known_texts c.args.program.now c.args.results.now.known)
-        (found_count c.args.results.now.mode c.args.results.now)) c.in_err-put_entry_start.ensures c.from_residual.ensures.1
+    (known_texts c.args.program.now c.args.results.now.known)
+    (found_count c.args.results.now.mode c.args.results.now)) c.in_err-put_entry_start.ensures c.from_residual.ensures.1
 
 pub returns : goal.returns
 returns g c =
     puts_then _ _ _ _ _ (entry_start c.args.number ++ entry_answers c.args.program.now c.args.results.now c.args.brief) (summary_text c.args.results.now
-        (known_texts c.args.program.now c.args.results.now.known) (found_count c.args.results.now.mode c.args.results.now)) c.in_ok-put_entry_start.ensures
-        (rw c.found_count.ensures at c.put_summary.ensures)
+    (known_texts c.args.program.now c.args.results.now.known) (found_count c.args.results.now.mode c.args.results.now)) c.in_ok-put_entry_start.ensures
+    (rw c.found_count.ensures at c.put_summary.ensures)

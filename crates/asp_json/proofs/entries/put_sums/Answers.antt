@@ -6,8 +6,8 @@ use Rattle.asp_json.proofs.entries.put_sums.Goals as goal
 pub returns-in_err-put_sums_result : goal.returns-in_err-put_sums_result
 returns-in_err-put_sums_result g c =
     puts_same _ _ _ _ _ (puts_fails _ _ _ _ _ (sums_result c.args.sums.now) (sums_models c.args.sums.now
-        ++ sums_calls c.args.sums.now) c.in_err-put_sums_result.ensures c.from_residual.ensures.1) (sym (append_assoc (sums_result c.args.sums.now)
-        (sums_models c.args.sums.now) (sums_calls c.args.sums.now)))
+    ++ sums_calls c.args.sums.now) c.in_err-put_sums_result.ensures c.from_residual.ensures.1) (sym (append_assoc (sums_result c.args.sums.now)
+    (sums_models c.args.sums.now) (sums_calls c.args.sums.now)))
 
 pub returns-in_err-put_more : goal.returns-in_err-put_more
 returns-in_err-put_more g c =

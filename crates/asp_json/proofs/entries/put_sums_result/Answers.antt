@@ -11,10 +11,10 @@ pub returns-in_err-put-2 : goal.returns-in_err-put-2
 returns-in_err-put-2 g c =
     puts_fails _ _ _ _ _ (codes "\n],\"Result\":\"" ++ result_word c.args.sums.now.end c.args.sums.now.mode c.args.sums.now.models) (codes "\"")
     (puts_then _ _ _ _ _ (codes "\n],\"Result\":\"") (result_word c.args.sums.now.end c.args.sums.now.mode c.args.sums.now.models) c.in_ok-put.ensures
-        (rw c.result_word.ensures at c.in_err-put-2.ensures)) c.from_residual-in_err-put-2.ensures.1
+    (rw c.result_word.ensures at c.in_err-put-2.ensures)) c.from_residual-in_err-put-2.ensures.1
 
 pub returns : goal.returns
 returns g c =
     puts_then _ _ _ _ _ (codes "\n],\"Result\":\"" ++ result_word c.args.sums.now.end c.args.sums.now.mode c.args.sums.now.models) (codes "\"")
     (puts_then _ _ _ _ _ (codes "\n],\"Result\":\"") (result_word c.args.sums.now.end c.args.sums.now.mode c.args.sums.now.models) c.in_ok-put.ensures
-        (rw c.result_word.ensures at c.in_ok-put-2.ensures)) c.put-3.ensures
+    (rw c.result_word.ensures at c.in_ok-put-2.ensures)) c.put-3.ensures

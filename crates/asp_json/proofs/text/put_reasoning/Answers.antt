@@ -13,11 +13,11 @@ returns-in_err-put-2 g c =
     puts_fails _ _ _ _ _ (reasoning_key c.args.reasoning ++ proven c.args.end)
     (codes
     "\"") (puts_then _ _ _ _ _ (reasoning_key c.args.reasoning) (proven c.args.end) (rw c.reasoning_key.ensures at c.in_ok-put.ensures)
-        (rw c.proven.ensures at c.in_err-put-2.ensures)) c.from_residual-in_err-put-2.ensures.1
+    (rw c.proven.ensures at c.in_err-put-2.ensures)) c.from_residual-in_err-put-2.ensures.1
 
 pub returns : goal.returns
 returns g c =
     puts_then _ _ _ _ _ (reasoning_key c.args.reasoning ++ proven c.args.end)
     (codes
     "\"") (puts_then _ _ _ _ _ (reasoning_key c.args.reasoning) (proven c.args.end) (rw c.reasoning_key.ensures at c.in_ok-put.ensures)
-        (rw c.proven.ensures at c.in_ok-put-2.ensures)) (c.put-3.ensures)
+    (rw c.proven.ensures at c.in_ok-put-2.ensures)) (c.put-3.ensures)

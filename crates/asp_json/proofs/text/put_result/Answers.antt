@@ -14,7 +14,7 @@ returns-in_err-put-2 g c =
     (puts_then _ _ _ _ _
     (codes
     ",\"Result\":\"") (result_word c.args.results.now.end c.args.results.now.mode c.args.count) (c.in_ok-put.ensures)
-        (rw c.result_word.ensures at c.in_err-put-2.ensures)) c.from_residual-in_err-put-2.ensures.1
+    (rw c.result_word.ensures at c.in_err-put-2.ensures)) c.from_residual-in_err-put-2.ensures.1
 
 pub returns : goal.returns
 returns g c =

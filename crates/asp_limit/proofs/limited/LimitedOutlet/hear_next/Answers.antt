@@ -7,7 +7,7 @@ overflow_add-self g c =
     let old = c.args.self.now in
     let small : old.left < 2 ^ 64 = search (rules, arith) in
     let fits = fits-more old.outlet.listing.program old.outlet.listing.sets c.args.rows.now.sets old.left c.write_some-written.result c.len.result
-        c.requires.front c.requires.room small c.len.ensures in
+    c.requires.front c.requires.room small c.len.ensures in
     search (rules, arith, fits)
 
 pub returns-clause-heard : goal.returns-clause-heard
