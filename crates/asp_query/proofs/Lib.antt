@@ -1,0 +1,4 @@
+mod KeptLaws
+pub mod TurnLaws
+pub mod CloseLaws
+pub mod ReportLaws

@@ -1,0 +1,98 @@
+//! What is found of a query.
+ghost use Rattle.std.specs.Prelude.{◌≡◌, true, [], IfOk, IfSome};
+ghost use Rattle.asp_core.specs.Boards.{wanted};
+ghost use Rattle.asp_book.specs.Books.{board};
+ghost use Rattle.asp_crew.specs.Running.{IsAlone};
+ghost use Rattle.asp_query.specs.Kept.{IsBegun, IsFresh, IsOver, IsQueryReport};
+ghost use Rattle.asp_query.specs.Turns.{ClosesAll, IsAsking};
+
+use crate::leaf::work_off;
+use asp_book::book::Book;
+use asp_counts::counts::Counts;
+use asp_counts::watch::Watch;
+use asp_crew::report::Report;
+use asp_crew::reported::told;
+use asp_model::results::Mode;
+use asp_propagate::propagator::Propagator;
+use asp_search::search::Search;
+use asp_vars::fuel::Fuel;
+use std::alloc::AllocError;
+use std::mem;
+
+// Works on one leaf after another. All are closed where the reply is true; else nothing can be said of the query by this search.
+fn work_off_all<P: Propagator, W: Watch>(
+    book: &mut Book,
+    literals: &[i32],
+    search: &mut Search<'_, P>,
+    fuel: &mut Fuel,
+    counts: &mut Counts,
+    watch: &mut W,
+) -> Result<bool, AllocError>
+    requires asking { IsAsking book.old search.old fuel.old }
+    requires wanted { literals.now ≡ wanted book.old.task }
+    requires alone { IsAlone (board book.old) }
+    ensures leaves { IfOk result (λ done. done ≡ true → ClosesAll book.old book.new search.new fuel.new) }
+    ensures heard { W.IsAfter watch.old watch.new }
+{
+    'leaves: loop {
+        match book.take(0)? {
+            None => return Ok(true),
+            Some(leaf) => {
+                if !work_off(book, literals, leaf, search, fuel, counts, watch)? {
+                    return Ok(false);
+                }
+            }
+        }
+    }
+}
+
+// Works the board off with all units of the pool.
+fn search_all<P: Propagator, W: Watch>(
+    book: &mut Book,
+    literals: &[i32],
+    search: &mut Search<'_, P>,
+    counts: &mut Counts,
+    watch: &mut W,
+) -> Result<bool, AllocError>
+    requires begun { IsBegun book.old search.old }
+    requires wanted { literals.now ≡ wanted book.old.task }
+    ensures ends { IfOk result (λ done. done ≡ true → IsOver book.old book.new search.new) }
+    ensures heard { W.IsAfter watch.old watch.new }
+{
+    let _lawful = book.journal();
+    let mut fuel = book.lease(0, u64::MAX)?;
+    let done = work_off_all(book, literals, search, &mut fuel, counts, watch)?;
+    if done {
+        book.back(0, fuel);
+    }
+    Ok(done)
+}
+
+/// What is found of a query, whose book has just begun, by a search that knows no answer. None where nothing can be said of it by this
+/// search.
+pub(crate) fn answer<P: Propagator, W: Watch>(
+    book: Book,
+    literals: &[i32],
+    search: &mut Search<'_, P>,
+    counts: &mut Counts,
+    watch: &mut W,
+) -> Result<Option<Report>, AllocError>
+    requires begun { IsBegun book search.old }
+    requires wanted { literals.now ≡ wanted book.task }
+    ensures report { IfOk result (λ o. IfSome o (IsQueryReport book.task)) }
+    ensures fresh { IfOk result (λ o. IfSome o (λ r. r.results.answers ≡ [] → IsFresh book.task.program search.new)) }
+    ensures heard { W.IsAfter watch.old watch.new }
+{
+    let mut book = book;
+    match search_all(&mut book, literals, search, counts, watch) {
+        Ok(true) => Ok(Some(told(Mode::Enum, book, None, 0, false))),
+        Ok(false) => {
+            mem::drop(book);
+            Ok(None)
+        }
+        Err(error) => {
+            mem::drop(book);
+            Err(error)
+        }
+    }
+}
