@@ -26,8 +26,9 @@ SOURCE = "crates/asp_top/src/runs.rt"
 CLAUSE = "whole"
 FUNCTIONS = ("run_alone", "run")
 START = ("asp_top", "Whole", "IsWhole")
-# The page is to be read in half an hour: so many lines of equations and fields are the most. Signatures come besides.
-MOST_LINES = 132
+# The page is to be read in half an hour: so many lines of equations and fields, of 200 characters or less, are the most. Signatures come
+# besides.
+MOST_LINES = 135
 
 # What isn't unfolded: a sentence for each.
 BOXES = {

@@ -1,5 +1,6 @@
 -- What the notes get while a run goes on.
-use Rattle.std.specs.Prelude.{◌≡◌, ℕ, ◌+◌, ◌<◌, ◌≤◌, ◌⊎◌, inl, inr, ◌&&◌, if◌then◌else◌, Bool, true, List, [], ◌∷◌, ◌++◌, codes, ℤ, Option, None, Some, cond, nat_eq}
+use Rattle.std.specs.Prelude.{◌≡◌, ℕ, ◌+◌, ◌<◌, ◌≤◌, ◌⊎◌, ◌&&◌, Bool, true, false, List, [], ◌∷◌, ◌++◌, codes, ℤ, Option, None, Some, cond, nat_eq}
+use Rattle.std.proofs.Common.{inl, inr}
 use Rattle.std.specs.List.{AllByRecursion, flat_map}
 use Rattle.std.specs.Fmt.{decimal, signed_decimal}
 use Rattle.asp_counts.specs.declared.counts.Counts.{Counts}
@@ -19,9 +20,12 @@ abbrev pub best_text : Option (List ℤ) → List ℕ
 best_text None = []
 best_text (Some c) = codes ", best" ++ flat_map (λ q. 32 ∷ signed_decimal q) c
 
+abbrev pub query_text : ℕ → List ℕ
+query_text query = codes ", query " ++ decimal query ++ codes "\n"
+
 -- the end of a line: in a series it names the query that is being answered
 abbrev pub end_of : ℕ → List ℕ
-end_of query = cond (nat_eq query 0) (codes "\n") (codes ", query " ++ decimal query ++ codes "\n")
+end_of query = cond (nat_eq query 0) (codes "\n") (query_text query)
 
 abbrev pub line_of : Told → List ℕ
 line_of t = flat_map item_text (told_items t.counts) ++ best_text t.best ++ end_of t.counts.query
@@ -64,8 +68,12 @@ Rises c (inl t ∷ told) d = IsMore c t.counts × Rises t.counts told d
 Rises c (inr x ∷ told) d = Rises c told d
 
 -- A part of a query is what was done since the end of the query before, that of all queries what was done until the end of the last one.
+abbrev pub IsCountedTo : Bool → Counts → Counts → Counts → Type 0
+IsCountedTo true c told d = (told ≡ c) × (d ≡ c)
+IsCountedTo false c told d = told ≡ since d c
+
 abbrev pub IsPartOf : Counts → Part → Counts → Type 0
-IsPartOf c x d = if x.all then (x.counts ≡ c) × (d ≡ c) else x.counts ≡ since d c
+IsPartOf c x d = IsCountedTo x.all c x.counts d
 
 -- one part begins where the one before it ends
 abbrev pub Adds : Counts → List Entry → Counts → Type 0

@@ -1,6 +1,6 @@
 -- Who writes to the notes how a run goes on, line by line.
-use Rattle.std.specs.Prelude.{◌≡◌, inl, inr, ℕ, Bool, List, [], ◌∷◌, ◌++◌, Option, Result, Ok, Err}
-use Rattle.std.proofs.Common.{refl, sym, subst}
+use Rattle.std.specs.Prelude.{◌≡◌, ℕ, Bool, List, [], ◌∷◌, ◌++◌, Option, Result, Ok, Err}
+use Rattle.std.proofs.Common.{inl, inr, refl, sym, subst}
 use Rattle.asp_io.specs.declared.traits.Failed.{Failed}
 use Rattle.asp_counts.specs.declared.counts.Counts.{Counts}
 use Rattle.asp_top.specs.Notes.{IsNoted, Writes}

@@ -3,7 +3,7 @@ ghost use Rattle.std.specs.Prelude.{◌≡◌, ◌<◌, IsTrue, true};
 ghost use Rattle.std.specs.Option.{option_copied};
 ghost use Rattle.asp_buffer.specs.Out.{Puts, out};
 ghost use Rattle.asp_top.specs.Notes.{Writes, notes_of};
-ghost use Rattle.asp_top.specs.Progress.{IsMore, best_text, end_of, line_of, nothing, part_text, tells_parts};
+ghost use Rattle.asp_top.specs.Progress.{IsMore, best_text, end_of, line_of, nothing, part_text, query_text, tells_parts};
 ghost use Rattle.asp_top.specs.Telling.{EndsWith};
 
 use crate::counts::{Tally, part_items, put_items, search_items, told_items};
@@ -40,17 +40,25 @@ fn put_best<N: Sink>(
     }
 }
 
+fn put_query<N: Sink>(notes: &mut N, waiting: &mut Waiting, query: u64) -> Result<(), Failed>
+    ensures { Puts (out (N.held notes.old) (N.faults notes.old) waiting.old)
+        (out (N.held notes.new) (N.faults notes.new) waiting.new) result (query_text query) }
+{
+    put(notes, waiting, b", query ")?;
+    put_number(notes, waiting, query)?;
+    put(notes, waiting, b"\n")
+}
+
 // The end of a line, which names the query of a series.
 fn put_end<N: Sink>(notes: &mut N, waiting: &mut Waiting, query: u64) -> Result<(), Failed>
     ensures { Puts (out (N.held notes.old) (N.faults notes.old) waiting.old)
         (out (N.held notes.new) (N.faults notes.new) waiting.new) result (end_of query) }
 {
     if query == 0 {
-        return put(notes, waiting, b"\n");
+        put(notes, waiting, b"\n")
+    } else {
+        put_query(notes, waiting, query)
     }
-    put(notes, waiting, b", query ")?;
-    put_number(notes, waiting, query)?;
-    put(notes, waiting, b"\n")
 }
 
 fn put_line<N: Sink>(

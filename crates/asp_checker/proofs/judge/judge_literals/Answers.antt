@@ -7,5 +7,5 @@ fault_of_line-requires-clause-lits c = c.as_slice-own.ensures.value ∙ c.requir
 pub returns-in-Some-clause-judged : goal.returns-in-Some-clause-judged
 returns-in-Some-clause-judged c = rw c.in-Some.is at c.in_ok-fault.ensures.judged
 
-pub returns-in-None-clause-judged : goal.returns-in-None-clause-judged
-returns-in-None-clause-judged c = (c.in_ok-kept.ensures ∙ c.as_slice-own.ensures.value ∙ c.requires.lits, c.requires.has, rw c.in-None.is at c.in_ok-fault.ensures.judged)
+pub returns-clause-judged : goal.returns-clause-judged
+returns-clause-judged c = (c.in_ok-kept-in-None.ensures ∙ c.as_slice-own.ensures.value ∙ c.requires.lits, c.requires.has, rw c.in-None.is at c.in_ok-fault.ensures.judged)
