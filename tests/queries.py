@@ -8,10 +8,11 @@ query's literals assumed; in an optimisation the closing lines, cost and count. 
 no answer: some of the program's assumptions and the query's literals, by ascending atoms and each once, such that the program
 without its own assumptions and with these has no answer. A core that is called minimal must have answers without each of its
 literals, and with --core-min each has to be. As JSON, with names or without, each series has to say what the lines say. Before that one series is asked whose second query has no end for a test: the first
-one's results have to be there.
+one's results have to be there; and one of 2,000 queries, by whose counts one search has to be kept for all of them.
 """
 import json
 import random
+import re
 import subprocess
 import sys
 import threading
@@ -161,8 +162,24 @@ def sends_on(program):
     return told == ["Query: 1\n", "Optimization:\n", "OPTIMUM FOUND\n", "Models: 1\n"] and goes_on
 
 
+def keeps_one(program):
+    """Whether one search is kept for all queries: what the program alone implies is propagated once, and two decisions refute a query."""
+    forced = range(4, 204)
+    lines = ["asp 1 0 0", f"1 1 203 {' '.join(map(str, range(1, 204)))} 0 0", "1 0 0 0 2 1 2", *(f"1 0 0 0 1 {-atom}" for atom in forced), "0\n"]
+    source = "\n".join(lines) + statement([1, 2]) * 1000 + statement([3, 1, 2]) * 1000 + "0\n"
+    words = [word for word in program if word != "--core-min"]
+    done = compare.run([*words, "--queries", "--mode", "enum", "--stats"], source)
+    parts = re.split("^Quer.*\n", done.stderr.decode(), flags=re.M)[1:-1]
+    counts = [dict(line.split(": ") for line in part.splitlines()) for part in parts]
+    each = [(int(one["Decisions"]), int(one["Propagated"])) for one in counts]
+    return len(each) == 2000 and done.returncode == 20 and all(decided <= 4 and (number == 0 or implied <= 10) for number, (decided, implied) in enumerate(each))
+
+
 def main():
     program = sys.argv[1].split()
+    if not keeps_one(program):
+        print("queries aren't asked of one search")
+        return True
     if not sends_on(program):
         print("a query's results aren't sent on before the next begins")
         return True

@@ -1,5 +1,5 @@
 -- What a search says of a program with a query's literals assumed.
-use Rattle.std.proofs.Common.{◌≡◌, ◌∙◌, ℕ, ◌+◌, Bool, true, false, not, ◌&&◌, ◌||◌, cond, List, [], ◌∷◌, ◌++◌, length, map, refl, sym, ap, subst, arith}
+use Rattle.std.proofs.Common.{◌≡◌, ◌∙◌, ℕ, ◌+◌, Bool, true, false, not, ◌&&◌, ◌||◌, cond, List, [], ◌∷◌, length, map, refl, sym, ap, subst, arith}
 use Rattle.std.specs.Prelude.{ℤ, Contains, Option, None, Some, filter, option_map}
 use Rattle.std.proofs.lemmas.Bool.{false≢true}
 use Rattle.asp_model.specs.declared.program.Program.{Program}
@@ -26,11 +26,11 @@ use Rattle.asp_crew_laws.specs.Runs.{IsBest, IsFound}
 use Rattle.asp_read.specs.Queries.{with_query}
 use Rattle.asp_series.specs.declared.ask.Sought.{Sought}
 use Rattle.asp_series.specs.declared.cores.Verdict.{Verdict}
-use Rattle.asp_series.specs.Asking.{IsSought, Judges, Refutes, Tries, one_model, verdict_by}
-use Rattle.asp_prepare.specs.Meaning.{has_model, has_model_in, is_some_of, mode_of}
+use Rattle.asp_series.specs.Asking.{IsSought, Judges, Tries, one_model, verdict_by}
+use Rattle.asp_prepare.specs.Meaning.{has_model_in, is_some_of, mode_of}
 use Rattle.asp_prepare.specs.Naming.{asked, is_json, is_settled, searched, set_aside}
 use Rattle.asp_prepare.specs.Told.{found_with, report_with, without_names}
-use Rattle.asp_series.specs.Series.{about, is_done, is_refuted}
+use Rattle.asp_series.specs.Series.{is_done}
 use Rattle.asp_series.proofs.CoreLaws.{assuming, bare-with, met, refuted}
 use Rattle.asp_prepare.proofs.AskedLaws.{unsought}
 use Rattle.asp_prepare.proofs.ToldLaws.{told-plain}
@@ -67,7 +67,7 @@ none-best None [] e = refl
 none-best (Some b) [] e = absurd (false≢true (sym e))
 none-best best (S ∷ L) e = absurd (false≢true (sym e))
 
-parts : (a b : Bool) → (a && not b) ≡ true → (a ≡ true) × (b ≡ false)
+pub parts : (a b : Bool) → (a && not b) ≡ true → (a ≡ true) × (b ≡ false)
 parts true false e = (refl, refl)
 parts true true e = absurd (false≢true e)
 parts false b e = absurd (false≢true e)
@@ -78,22 +78,11 @@ no-found n p A Enum r e none h = sym h.0 ∙ ap (map (restored A)) (none-in r.an
 no-found n p A Opt r e none h = subst (IsBest p) (ap (option_map (λ (b : Atoms × List ℤ). (restored A b.0, b.1))) (none-best r.best r.answers none)) h.1
 no-found n p A (Consequences w) r e none h = absurd (let no : Some w ≡ None = e in let f : ⊥ = cc in f)
 
-no-answer : (p : Program) (A : Aside) (mode : Mode) (r : Report) (end : End) → is_done end ≡ true → reasoning_of mode ≡ None → has_model_in mode r.results ≡ false
+pub no-answer : (p : Program) (A : Aside) (mode : Mode) (r : Report) (end : End) → is_done end ≡ true → reasoning_of mode ≡ None → has_model_in mode r.results ≡ false
     → SaysReport p (record { mode = mode; models = 0; all_optima = false; by_name = false }) (report_with A r) end → answers p ≡ []
 no-answer p A mode r Finished done e none says = no-found false p A mode r.results e none says
 no-answer p A mode r Limited done e none says = absurd (false≢true done)
 no-answer p A mode r Unfinished done e none says = absurd (false≢true done)
-
--- a query that was finished without a model has no answer
-pub query-refuted : (given : Options) (p : Program) (query : List ℤ) (units : ℕ) (s : Sought) → seeks_consequences (Some given.mode) ≡ false → IsSound p → IsSound (with_query p query)
-    → IsSought given (with_query p query) (about given (with_query p query)) units s → is_refuted s.report.results ≡ true → Refutes p (p.assumptions ++ query)
-query-refuted given p query units s e itself sound sought is =
-    let q = with_query p query in
-    let r = s.report in
-    let both = parts (is_done r.results.end) (has_model r.results) is in
-    let none : has_model_in (mode_of given.mode q) r.results ≡ false = subst (λ (m : Mode). has_model_in m r.results ≡ false) sought.report.mode_is both.1 in
-    refuted p (p.assumptions ++ query) itself sound
-    (no-answer q (set_aside given q) (mode_of given.mode q) r r.results.end both.0 (unsought given.mode q e) none (says-of given q (about given q) r e sound sought.report.says))
 
 -- ---- whether a model has the others of some literals
 a-first : (xs : List Atoms) (f : Atoms → Atoms) (all : List Atoms) (chosen : Atoms → Bool) → is_some_of xs ≡ true → map f xs ≡ filter chosen all → (S : Atoms) × Contains all S
@@ -138,13 +127,6 @@ tries-by given p others units s v e itself none sound sought is =
     }
 
 -- a query asks what the program asks
-same-mode : (o : Option Mode) (p : Program) (query : List ℤ) → mode_of o p ≡ mode_of o (with_query p query)
+pub same-mode : (o : Option Mode) (p : Program) (query : List ℤ) → mode_of o p ≡ mode_of o (with_query p query)
 same-mode None p query = refl
 same-mode (Some mode) p query = refl
-
-pub same-about : (given : Options) (p : Program) (query : List ℤ) → about given p ≡ about given (with_query p query)
-same-about given p query = ap (λ (mode : Mode). record { mode = mode; models = 0; all_optima = false; by_name = false }) (same-mode given.mode p query)
-
-pub sought-query : (given : Options) (p : Program) (query : List ℤ) (ask : Ask) (units : ℕ) (s : Sought) → ask ≡ about given p →
-    IsSought given (with_query p query) ask units s → IsSought given (with_query p query) (about given (with_query p query)) units s
-sought-query given p query ask units s is sought = subst (λ (x : Ask). IsSought given (with_query p query) x units s) (is ∙ same-about given p query) sought

@@ -1,6 +1,6 @@
 -- Queries that are answered one after another.
 use Rattle.std.proofs.Common.{◌≡◌, ◌∙◌, ℕ, ◌+◌, ◌-◌, ◌*◌, ◌<◌, ◌≤◌, zero, suc, Bool, true, false, not, ◌&&◌, ◌||◌, List, [], ◌∷◌, ◌++◌, length, drop, get_or, refl, sym, ap, subst, arith}
-use Rattle.std.specs.Prelude.{ℤ, Option, None, Some, Ok, Err, IfSome, codes}
+use Rattle.std.specs.Prelude.{ℤ, Option, None, Some, Ok, Err, IfSome}
 use Rattle.std.specs.Io.KnownBytes.{Appends}
 use Rattle.std.proofs.KnownBytes.{Appends-kept, Appends-nil, Appends-trans}
 use Rattle.std.proofs.lemmas.Bool.{false≢true}
@@ -9,37 +9,27 @@ use Rattle.asp_io.specs.Causes.{AppendsFront, Rose}
 use Rattle.asp_buffer.proofs.OutLaws.{drop_turn, front-after, front-more}
 use Rattle.std.specs.List.{AllByRecursion}
 use Rattle.asp_vars.proofs.PlaceLaws.{at_each}
-use Rattle.asp_model.specs.declared.program.Output.{Output}
 use Rattle.asp_model.specs.declared.program.Program.{Program}
 use Rattle.asp_model.specs.declared.results.Mode.{Mode}
-use Rattle.asp_model.specs.Asked.{reasoning_of}
-use Rattle.asp_model.specs.Found.{Found}
 use Rattle.asp_model.specs.Sound.{IsSound}
 use Rattle.asp_model.specs.Texts.{found_count}
-use Rattle.asp_print.specs.Queries.{core_line, query_line}
 use Rattle.asp_read.specs.declared.series.Series.{Series}
 use Rattle.asp_read.specs.Queries.{with_query}
 use Rattle.asp_json.specs.declared.entries.Sums.{Sums}
-use Rattle.asp_json.specs.Entries.{core_text}
 use Rattle.asp_cli.specs.declared.Form.{Form}
-use Rattle.asp_cli.specs.declared.Form.TheVariants.{Text, Json}
 use Rattle.asp_cli.specs.declared.Options.{Options}
 use Rattle.asp_cli.specs.Found.{seeks_consequences}
 use Rattle.asp_series.specs.declared.ask.Sought.{Sought}
 use Rattle.asp_series.specs.declared.cores.Core.{Core}
-use Rattle.asp_prepare.specs.declared.prepared.Prepared.{Prepared}
 use Rattle.asp_series.specs.declared.series.Course.{Course}
 use Rattle.asp_series.specs.declared.series.Reply.{Reply}
 use Rattle.asp_series.specs.declared.end.SeriesEnd.{SeriesEnd}
 use Rattle.asp_series.specs.declared.end.SeriesEnd.TheVariants.{Memory, WriteFault}
-use Rattle.asp_series.specs.Asking.{AsksOn, Breaks, CloseMeans, Ends, IsAt, IsAtQuery, IsReason, IsReply, IsSought, IsThrough, StepMeans, StopMeans, answered_of, end_of, gone_on, literals_in, minimal_in, most_recorded, reply_text, rest_text, spent_in, sums_at}
+use Rattle.asp_series.specs.Asking.{AsksOn, Breaks, CloseMeans, Ends, IsAt, IsAtQuery, IsFoundBy, IsReason, IsReply, IsThrough, StepMeans, StopMeans, answered_of, end_of, gone_on, literals_in, minimal_in, most_recorded, reply_text, rest_text, spent_in, sums_at}
 use Rattle.asp_prepare.specs.Meaning.{has_model, mode_of}
-use Rattle.asp_prepare.specs.Naming.{asked, searched, set_aside}
-use Rattle.asp_prepare.specs.Told.{found_with}
-use Rattle.asp_series.specs.Series.{Answered, AreAnswered, Asks, EndsAs, IsAnsweredBy, IsSentOn, IsWrittenOf, TellsClosed, TellsFaults, about, all_done, answered_text, any_model, closing_in, end_by, is_done, is_open, is_refuted, models_of, opening_in, query_in, series_text, sums_of, whole_text}
+use Rattle.asp_series.specs.Series.{Answered, AreAnswered, Asks, EndsAs, IsAnsweredBy, IsSentOn, IsWrittenOf, TellsClosed, TellsFaults, all_done, answered_text, any_model, closing_in, end_by, is_done, is_open, is_refuted, models_of, opening_in, series_text, sums_of, whole_text}
 use Rattle.asp_faults.specs.Writing.{Writes}
-use Rattle.asp_series.proofs.AskLaws.{listed-of, plain, says-of}
-use Rattle.asp_prepare.proofs.ToldLaws.{listed-entry, listed-text}
+use Rattle.asp_series.proofs.FindLaws.{found-budget, found-is, found-says, found-text}
 
 -- ---- a reply
 spends : (c : Option Core) (spent left units all : ℕ) → spent + left ≡ units → all ≡ spent + spent_in c → IfSome (literals_in c) (λ core. minimal_in c ≡ false → spent_in c ≡ left)
@@ -49,17 +39,17 @@ spends (Some c) spent left units all a b h = λ spent_all. let e = h spent_all i
 
 pub reply-is : (given : Options) (p : Program) (query : List ℤ) (units : ℕ) (s : Sought) (c : Option Core) (left spent : ℕ) →
     seeks_consequences (Some given.mode) ≡ false → IsSound (with_query p query)
-    → IsSought given (with_query p query) (about given (with_query p query)) units s → left ≡ units - s.report.spent →
+    → IsFoundBy given p query units s → left ≡ units - s.report.spent →
     IsReason given.core_min p (p.assumptions ++ query) (is_refuted s.report.results) left c
     → spent ≡ s.report.spent + spent_in c → IsReply given p query units (record { sought = s; core = c; spent = spent })
-reply-is given p query units s c left spent e sound sought rest reason all =
-    let b = sought.report.budget in
+reply-is given p query units s c left spent e sound found rest reason all =
+    let b = found-budget given p query units s found in
     let paid = reason.paid in
     record {
-      sought = sought;
+      sought = found;
       answered = record {
-        is = sought.report;
-        says = says-of given (with_query p query) (about given (with_query p query)) s.report e sound sought.report.says;
+        is = found-is given p query units s found;
+        says = found-says given p query units s e sound found;
         core = reason.core;
         spent = (omega (arith, all), omega (arith, b, all, rest, paid));
         plain = λ off. let none = reason.plain off in omega (arith, all, none);
@@ -67,24 +57,11 @@ reply-is given p query units s c left spent e sound sought rest reason all =
       };
     }
 
--- the text of what was found of what is left
-same-text : (form : Form) (given : Options) (q : Program) (os : List Output) (number : ℕ) (r : Found) (core : Option (List ℤ)) (minimal : Bool) → reasoning_of r.mode ≡ None
-    → query_in form given (searched given q) os number r core minimal ≡ query_in form given (asked given q) os number (found_with (set_aside given q) r) core minimal
-same-text Text given q os number r core minimal listed =
-    ap (λ (text : List ℕ). query_line number ++ text ++ core_line given.names os core minimal) (listed-text given q r given.quiet given.names listed)
-same-text Json given q os number r core minimal listed =
-    ap (λ (text : List ℕ). text ++ (core_text given.names os core minimal ++ codes "}")) (listed-entry given q number r given.quiet listed)
-
 -- what is written of it
 pub text-answered : (given : Options) (p : Program) (query : List ℤ) (units number : ℕ) (y : Reply) → seeks_consequences (Some given.mode) ≡ false → IsReply given p query units y
     → reply_text given p number y ≡ answered_text given p query number (answered_of y)
 text-answered given p query units number y e reply =
-    let q = with_query p query in
-    let r = y.sought.report.results in
-    let of : Program → Found → List ℕ = λ (x : Program) (f : Found). query_in given.form given x p.outputs number f (literals_in y.core) (minimal_in y.core) in
-    ap (λ (x : Prepared). of x.compiled r) reply.sought.prepared
-    ∙ same-text given.form given q p.outputs number r (literals_in y.core) (minimal_in y.core) (listed-of given q r e reply.answered.is.mode_is)
-    ∙ ap (λ (x : Program). of x (found_with (set_aside given q) r)) (plain given q e)
+    found-text given.form given p query units number y.sought (literals_in y.core) (minimal_in y.core) e reply.sought
 
 -- ---- one query
 pub step-means : (given : Options) (p : Program) (query : List ℤ) (number : ℕ) (c d : Course) (held held' : Option (List ℕ)) (w w' : ℕ) (x : Answered)

@@ -1,5 +1,5 @@
 -- What the functions say that ask the queries of a series.
-use Rattle.std.specs.Prelude.{◌≡◌, ℕ, ◌+◌, ◌-◌, ◌*◌, ◌≤◌, Bool, true, false, ◌||◌, List, [], ◌++◌, length, ℤ, Option, None, Some, Result, Ok, Err, IfSome, option_map}
+use Rattle.std.specs.Prelude.{◌≡◌, ◌⊎◌, ℕ, ◌+◌, ◌-◌, ◌*◌, ◌≤◌, Bool, true, false, ◌||◌, List, [], ◌++◌, length, ℤ, Option, None, Some, Result, Ok, Err, IfSome, option_map}
 use Rattle.std.specs.Io.KnownBytes.{Appends, Keeps}
 use Rattle.asp_io.specs.Causes.{AppendsFront, Rose}
 use Rattle.asp_model.specs.declared.program.Program.{Program}
@@ -33,20 +33,42 @@ use Rattle.asp_series.specs.declared.series.Course.{Course}
 use Rattle.asp_series.specs.declared.series.Reply.{Reply}
 use Rattle.asp_series.specs.declared.end.SeriesEnd.{SeriesEnd}
 use Rattle.asp_series.specs.declared.end.SeriesEnd.TheVariants.{All, NoModel, Partial, Unknown, Memory, WriteFault}
+use Rattle.asp_equal.specs.declared.reduce.Aside.{Aside}
+use Rattle.asp_equal.specs.Reduced.{none_aside}
 use Rattle.asp_prepare.specs.Meaning.{has_model, mode_of}
 use Rattle.asp_prepare.specs.Naming.{prepared_of}
-use Rattle.asp_series.specs.Series.{Answered, AreAnswered, AreSome, HasCore, IsAnsweredBy, IsMinimal, about, all_done, answered_text, any_model, closing_in, end_by, is_done, models_of, query_in, series_text, sums_of, without}
+use Rattle.asp_series.specs.Series.{Answered, AreAnswered, AreSome, HasCore, IsAnsweredBy, IsAsked, IsMinimal, about, all_done, answered_text, any_model, asks_all, closing_in, end_by, is_done, models_of, query_in, series_text, sums_of, without}
 
 -- ---- a search
 -- what was prepared was searched
 pub record Searches (x : Prepared) (ask : Ask) (units : ℕ) (s : Sought) : Type 0 where
-  pub prepared : s.prepared ≡ x
+  pub prepared : s.prepared ≡ Some x
   pub report : IsReport x.compiled ask units s.report
   pub proof : HasProof false s.report
 
 -- what is left of the program was searched
 abbrev pub IsSought : Options → Program → Ask → ℕ → Sought → Type 0
 IsSought given p ask units s = Searches (prepared_of given p) ask units s
+
+-- the program that was searched: what was prepared, or where nothing was this one itself
+abbrev pub searched_in : Program → Option Prepared → Program
+searched_in p None = p
+searched_in p (Some x) = x.compiled
+
+-- what was set aside before
+abbrev pub aside_in : Option Prepared → Aside
+aside_in None = none_aside
+aside_in (Some x) = x.aside
+
+-- The search that is kept, if there is one, is of this program, of which all answers are asked for.
+abbrev pub IsKeptOf : Options → Program → Option Program → Type 0
+IsKeptOf given p None = Unit {0}
+IsKeptOf given p (Some q) = (q ≡ p) × (asks_all given p ≡ true)
+
+-- what was found of a query: from scratch, or by the search that is kept
+abbrev pub IsFoundBy : Options → Program → List ℤ → ℕ → Sought → Type 0
+IsFoundBy given p query units s =
+    IsSought given (with_query p query) (about given (with_query p query)) units s ⊎ ((s.prepared ≡ None) × IsAsked given p query units s.report)
 
 -- The program may be asked with these literals: no consequences are sought, and it is within the limits.
 pub record IsAskable (given : Options) (p : Program) (literals : List ℤ) : Type 0 where
@@ -146,15 +168,15 @@ pub record IsReason (least : Bool) (p : Program) (literals : List ℤ) (refuted 
 -- ---- queries
 -- what a reply says
 abbrev pub answered_of : Reply → Answered
-answered_of y = record { done = y.sought.report; core = literals_in y.core; minimal = minimal_in y.core; spent = y.spent }
+answered_of y = record { done = y.sought.report; aside = aside_in y.sought.prepared; core = literals_in y.core; minimal = minimal_in y.core; spent = y.spent }
 
 -- the text of a reply to the query with this number
 abbrev pub reply_text : Options → Program → ℕ → Reply → List ℕ
-reply_text given p number y = query_in given.form given y.sought.prepared.compiled p.outputs number y.sought.report.results (literals_in y.core) (minimal_in y.core)
+reply_text given p number y = query_in given.form given (searched_in p y.sought.prepared) p.outputs number y.sought.report.results (literals_in y.core) (minimal_in y.core)
 
 -- the reply to a query
 pub record IsReply (given : Options) (p : Program) (query : List ℤ) (units : ℕ) (y : Reply) : Type 0 where
-  pub sought : IsSought given (with_query p query) (about given (with_query p query)) units y.sought
+  pub sought : IsFoundBy given p query units y.sought
   pub answered : IsAnsweredBy given p query units (answered_of y)
 
 -- how far a series is after the query with this number was answered

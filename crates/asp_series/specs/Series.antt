@@ -1,5 +1,5 @@
 -- A series of queries: what each of its answers says, and what is written of them.
-use Rattle.std.specs.Prelude.{◌≡◌, ℕ, ◌+◌, ◌-◌, ◌≤◌, Bool, true, false, not, ◌&&◌, ◌||◌, List, [], ◌∷◌, ◌++◌, filter, length, ℤ, Option, None, Some, IfSome}
+use Rattle.std.specs.Prelude.{◌≡◌, ◌⊎◌, ℕ, ◌+◌, ◌-◌, ◌≤◌, Bool, true, false, not, ◌&&◌, ◌||◌, List, [], ◌∷◌, ◌++◌, filter, length, ℤ, Option, None, Some, IfSome}
 use Rattle.std.specs.Ordering.{int_eq}
 use Rattle.std.specs.Io.KnownBytes.{Appends}
 use Rattle.asp_io.specs.Causes.{AppendsFront, Rose}
@@ -9,6 +9,7 @@ use Rattle.asp_model.specs.declared.results.Ask.{Ask}
 use Rattle.asp_model.specs.declared.results.End.{End}
 use Rattle.asp_model.specs.declared.results.End.TheVariants.{Finished, Limited, Unfinished}
 use Rattle.asp_model.specs.declared.results.Mode.{Mode}
+use Rattle.asp_model.specs.declared.results.Mode.TheVariants.{Enum, Opt, Consequences}
 use Rattle.asp_model.specs.Found.{Found}
 use Rattle.asp_model.specs.Holding.{all_hold}
 use Rattle.asp_model.specs.Models.{is_stable}
@@ -25,6 +26,10 @@ use Rattle.asp_cli.specs.declared.Form.TheVariants.{Text, Json}
 use Rattle.asp_cli.specs.declared.Options.{Options}
 use Rattle.asp_crew_laws.specs.declared.report.Report.{Report}
 use Rattle.asp_crew_laws.specs.Reports.{IsReport, Says as SaysReport}
+use Rattle.asp_core.specs.Boards.{IsQuery}
+use Rattle.asp_equal.specs.declared.reduce.Aside.{Aside}
+use Rattle.asp_equal.specs.Reduced.{none_aside}
+use Rattle.asp_query.specs.Kept.{IsQueryReport, query_of}
 use Rattle.asp_prepare.specs.Meaning.{has_model, mode_of}
 use Rattle.asp_prepare.specs.Naming.{searched, set_aside}
 use Rattle.asp_prepare.specs.Told.{found_with, report_with}
@@ -32,9 +37,18 @@ use Rattle.asp_series.specs.declared.end.SeriesEnd.{SeriesEnd}
 use Rattle.asp_series.specs.declared.end.SeriesEnd.TheVariants.{All, NoModel, Partial, Unknown, Memory, WriteFault}
 
 -- ---- one query
+abbrev pub is_enum : Mode → Bool
+is_enum Enum = true
+is_enum Opt = false
+is_enum (Consequences r) = false
+
 -- what is asked of a program: all its answers, or an optimum
 abbrev pub about : Options → Program → Ask
 about given p = record { mode = mode_of given.mode p; models = 0; all_optima = false; by_name = false }
+
+-- whether all answers are
+abbrev pub asks_all : Options → Program → Bool
+asks_all given p = is_enum (mode_of given.mode p)
 
 abbrev pub is_done : End → Bool
 is_done Finished = true
@@ -61,19 +75,37 @@ HasCore p literals true (Some core) minimal = IsCore p literals core × (minimal
 HasCore p literals false (Some core) minimal = ⊥
 HasCore p literals true None minimal = ⊥
 
--- a query that was answered: the report of its search, its core, whether that is told to be minimal, and the units that it took
+-- a query that was answered: the report of its search, what was set aside before, its core, whether that is told to be minimal, and the
+-- units that it took
 pub record Answered : Type 0 where
   pub done : Report
+  pub aside : Aside
   pub core : Option (List ℤ)
   pub minimal : Bool
   pub spent : ℕ
 
--- The report is that of a search from scratch on what is left of the program with the query's literals assumed, with so many units; with what
--- was set aside it says of that program what was asked. A core is of the program, and of its assumptions and the query. What it took was
--- paid from the same units, and without `--core-min` that is nothing. With it a core that isn't told to be minimal shows that the units are spent.
+-- The report is that of a search from scratch on what is left of the program, with so many units.
+pub record IsSearched (given : Options) (p : Program) (units : ℕ) (A : Aside) (r : Report) : Type 0 where
+  pub aside : A ≡ set_aside given p
+  pub report : IsReport (searched given p) (about given p) units r
+
+-- All answers are asked for, and the query's atoms stand in the program. The report is that of a search of the whole program for the
+-- answers that have the query's literals, too, with so many units: what the search learnt before it may know.
+pub record IsAsked (given : Options) (p : Program) (query : List ℤ) (units : ℕ) (r : Report) : Type 0 where
+  pub all : asks_all given p ≡ true
+  pub stands : IsQuery p query
+  pub report : IsQueryReport (query_of p query units) r
+
+-- how a query was searched: from scratch, with its literals assumed, or by a search that is kept
+abbrev pub IsDoneBy : Options → Program → List ℤ → ℕ → Aside → Report → Type 0
+IsDoneBy given p query units A r = IsSearched given (with_query p query) units A r ⊎ ((A ≡ none_aside) × IsAsked given p query units r)
+
+-- With what was set aside the report says of the program with the query's literals assumed what was asked. A core is of the program, and of
+-- its assumptions and the query. What it took was paid from the same units, and without `--core-min` that is nothing. With it a core that
+-- isn't told to be minimal shows that the units are spent.
 pub record IsAnsweredBy (given : Options) (p : Program) (query : List ℤ) (units : ℕ) (x : Answered) : Type 0 where
-  pub is : IsReport (searched given (with_query p query)) (about given (with_query p query)) units x.done
-  pub says : SaysReport (with_query p query) (about given (with_query p query)) (report_with (set_aside given (with_query p query)) x.done) x.done.results.end
+  pub is : IsDoneBy given p query units x.aside x.done
+  pub says : SaysReport (with_query p query) (about given (with_query p query)) (report_with x.aside x.done) x.done.results.end
   pub core : HasCore p (p.assumptions ++ query) (is_refuted x.done.results) x.core x.minimal
   pub spent : (x.done.spent ≤ x.spent) × (x.spent ≤ units)
   pub plain : given.core_min ≡ false → x.spent ≡ x.done.spent
@@ -87,7 +119,7 @@ query_in Json given p os number r core minimal = entry_text p os number r core m
 -- the same of the program
 abbrev pub answered_text : Options → Program → List ℤ → ℕ → Answered → List ℕ
 answered_text given p query number x =
-    query_in given.form given (with_query p query) p.outputs number (found_with (set_aside given (with_query p query)) x.done.results) x.core x.minimal
+    query_in given.form given (with_query p query) p.outputs number (found_with x.aside x.done.results) x.core x.minimal
 
 -- ---- one after another
 abbrev pub is_open : Answered → Bool

@@ -34,8 +34,8 @@ pub struct Asking<'a> {
 /// What was searched, and what was found.
 #[derive(Drop)]
 pub struct Sought {
-    /// What was searched of a program, and what was set aside before.
-    pub prepared: Prepared,
+    /// What was searched of a program, and what was set aside before. None: the whole program was, by a search that is kept.
+    pub prepared: Option<Prepared>,
     /// What the search found.
     pub report: Report,
 }
@@ -65,7 +65,10 @@ fn search<W: Watch>(
     ensures heard { W.IsAfter watch.old watch.new }
 {
     match solve_alone(alloc, &prepared.compiled, ask, units, false, counts, watch) {
-        Ok(report) => Ok(Sought { prepared, report }),
+        Ok(report) => Ok(Sought {
+            prepared: Some(prepared),
+            report,
+        }),
         Err(error) => {
             mem::drop(prepared);
             Err(error)

@@ -1,8 +1,9 @@
-//! A series of queries to a program: each is a search of its own, with the units that those before it left.
+//! A series of queries to a program, one after another, each with the units that those before it left.
 #![tactic(auto)]
 
 pub mod ask;
 pub mod cores;
 pub mod end;
+pub mod find;
 pub mod literals;
 pub mod series;

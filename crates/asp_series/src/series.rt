@@ -1,14 +1,15 @@
-//! A series of queries: each is a run of its own, with the units that those before it left.
+//! A series of queries, one after another, each with the units that those before it left.
 ghost use Rattle.std.specs.Prelude.{◌≡◌, ◌≤◌, ◌-◌, ◌*◌, IfErr, IfOk, OnOk, false, option_map, true, Some};
 ghost use Rattle.asp_cli.specs.Found.{seeks_consequences};
 ghost use Rattle.asp_read.specs.Queries.{IsSoundSeries};
-ghost use Rattle.asp_series.specs.Asking.{AsksOn, CloseMeans, IsAskable, IsReply, IsThrough, StepMeans, StopMeans, answered_of, end_of, gone_on, literals_in, minimal_in, most_recorded, reply_text, spent_in, sums_at};
+ghost use Rattle.asp_series.specs.Asking.{AsksOn, CloseMeans, IsAskable, IsKeptOf, IsReply, IsThrough, StepMeans, StopMeans, answered_of, end_of, gone_on, literals_in, minimal_in, most_recorded, reply_text, searched_in, spent_in, sums_at};
 ghost use Rattle.asp_faults.specs.Writing.{Writes};
-ghost use Rattle.asp_series.specs.Series.{Asks, IsSentOn, TellsClosed, TellsFaults, closing_in, is_done, opening_in, query_in};
+ghost use Rattle.asp_series.specs.Series.{Asks, IsSentOn, TellsClosed, TellsFaults, asks_all, closing_in, is_done, opening_in, query_in};
 
-use crate::ask::{Asking, Sought, about, seek};
+use crate::ask::{Asking, Sought};
 use crate::cores::{Core, core_of};
 use crate::end::SeriesEnd;
+use crate::find::{asks_all, find, whole};
 use asp_cli::{Form, Options};
 use asp_counts::counts::Counts;
 use asp_counts::watch::Watch;
@@ -17,10 +18,13 @@ use asp_json::{Sums, print_entry, print_opening, print_sums};
 use asp_model::program::Program;
 use asp_model::results::{End, Mode, Results};
 use asp_prepare::asked::mode_of;
+use asp_prepare::prepared::Prepared;
 use asp_prepare::told::has_model;
 use asp_print::{Query, found_count, print_query};
+use asp_query::kept::KeptSearch;
 use asp_read::Series;
 use asp_rows::sets::Sets;
+use asp_vars::compiled::Compiled;
 use std::alloc::{AllocError, Global};
 use std::mem;
 
@@ -63,15 +67,17 @@ fn spent_in(core: &Option<Core>) -> u64
 fn answer<W: Watch>(
     alloc: Global,
     asking: &Asking,
+    kept: &mut Option<KeptSearch<'_>>,
     counts: &mut Counts,
     watch: &mut W,
 ) -> Result<Reply, AllocError>
-    requires { IsAskable asking.now.options.now asking.now.program.now asking.now.literals.now }
+    requires askable { IsAskable asking.now.options.now asking.now.program.now asking.now.literals.now }
+    requires kept { IsKeptOf asking.now.options.now asking.now.program.now kept.old }
+    ensures kept { IsKeptOf asking.now.options.now asking.now.program.now kept.new }
     ensures reply { IfOk result (IsReply asking.now.options.now asking.now.program.now asking.now.literals.now asking.now.units) }
     ensures heard { W.IsAfter watch.old watch.new }
 {
-    let ask = about(asking.options, asking.program);
-    let sought = seek(alloc, asking, ask, counts, watch)?;
+    let sought = find(alloc, asking, kept, counts, watch)?;
     let rest = Asking {
         options: asking.options,
         program: asking.program,
@@ -132,6 +138,16 @@ fn write_query<K: Sink>(
     }
 }
 
+// The program that was searched: what is left of this one, or where nothing was prepared itself.
+fn searched_in<'a>(program: &'a Program, prepared: &'a Option<Prepared>) -> &'a Program
+    ensures { result.now ≡ searched_in program.entry.now prepared.entry.now }
+{
+    match prepared {
+        None => program,
+        Some(prepared) => prepared.compiled.program(),
+    }
+}
+
 // Writes the text of a query's results.
 fn write_reply<K: Sink>(
     alloc: Global,
@@ -151,7 +167,7 @@ fn write_reply<K: Sink>(
     write_query(
         alloc,
         asking.options,
-        reply.sought.prepared.compiled.program(),
+        searched_in(asking.program, &reply.sought.prepared),
         query,
         &reply.sought.report.results,
         sink,
@@ -230,6 +246,7 @@ fn hand_over<K: Sink>(
 fn step<K: Sink, W: Watch>(
     alloc: Global,
     asking: &Asking,
+    kept: &mut Option<KeptSearch<'_>>,
     number: u64,
     course: Course,
     sink: &mut K,
@@ -237,9 +254,11 @@ fn step<K: Sink, W: Watch>(
     watch: &mut W,
 ) -> Result<Course, SeriesEnd>
     requires askable { IsAskable asking.now.options.now asking.now.program.now asking.now.literals.now }
+    requires kept { IsKeptOf asking.now.options.now asking.now.program.now kept.old }
     requires units { course.left ≡ asking.now.units }
     requires few { course.models ≤ (number - 1) * most_recorded }
     requires first { 1 ≤ number }
+    ensures kept { IsKeptOf asking.now.options.now asking.now.program.now kept.new }
     ensures few { IfOk result (λ d. d.models ≤ number * most_recorded) }
     ensures means { StepMeans asking.now.options.now asking.now.program.now asking.now.literals.now number course (K.held sink.old) (K.held sink.new) (K.faults sink.old) (K.faults sink.new) result }
     ensures sent_on { OnOk result (K.is_sent sink.new ≡ true) }
@@ -248,7 +267,7 @@ fn step<K: Sink, W: Watch>(
     ensures heard { W.IsAfter watch.old watch.new }
 {
     counts.query = number;
-    match answer(alloc, asking, counts, watch) {
+    match answer(alloc, asking, kept, counts, watch) {
         Ok(reply) => {
             let next = hand_over(alloc, asking, number, course, &reply, sink);
             mem::drop(reply);
@@ -260,16 +279,18 @@ fn step<K: Sink, W: Watch>(
 }
 
 // Asks the queries, one after another, up to one that isn't finished.
-fn ask_each<K: Sink, W: Watch>(
+fn ask_in_turn<K: Sink, W: Watch>(
     alloc: Global,
     options: &Options,
     series: &Series,
+    kept: &mut Option<KeptSearch<'_>>,
     sink: &mut K,
     counts: &mut Counts,
     watch: &mut W,
 ) -> Result<Course, SeriesEnd>
     requires plain { seeks_consequences (Some options.now.mode) ≡ false }
     requires sound { IsSoundSeries series.now }
+    requires kept { IsKeptOf options.now series.now.program kept.old }
     ensures asked { IfOk result (IsThrough options.now series.now.program series.now.queries (K.held sink.old) (K.held sink.new) (K.faults sink.old) (K.faults sink.new)) }
     ensures stops { IfErr result (λ s. StopMeans options.now series.now (K.held sink.old) (K.held sink.new) (K.faults sink.old) (K.faults sink.new) s) }
     ensures closed { IfErr result (λ s. TellsClosed s (K.is_closed sink.new)) }
@@ -290,7 +311,16 @@ fn ask_each<K: Sink, W: Watch>(
             literals: queries[i].as_slice(),
             units: course.left,
         };
-        match step(alloc, &asking, i as u64 + 1, course, sink, counts, watch) {
+        match step(
+            alloc,
+            &asking,
+            kept,
+            i as u64 + 1,
+            course,
+            sink,
+            counts,
+            watch,
+        ) {
             Ok(next) => {
                 if next.done {
                     course = next;
@@ -302,6 +332,82 @@ fn ask_each<K: Sink, W: Watch>(
         }
     }
     Ok(course)
+}
+
+// The same by one search of the whole program, which is kept.
+fn ask_whole<K: Sink, W: Watch>(
+    alloc: Global,
+    options: &Options,
+    series: &Series,
+    compiled: &Compiled,
+    sink: &mut K,
+    counts: &mut Counts,
+    watch: &mut W,
+) -> Result<Course, SeriesEnd>
+    requires plain { seeks_consequences (Some options.now.mode) ≡ false }
+    requires sound { IsSoundSeries series.now }
+    requires all { asks_all options.now series.now.program ≡ true }
+    requires whole { compiled.now ≡ series.now.program }
+    ensures asked { IfOk result (IsThrough options.now series.now.program series.now.queries (K.held sink.old) (K.held sink.new) (K.faults sink.old) (K.faults sink.new)) }
+    ensures stops { IfErr result (λ s. StopMeans options.now series.now (K.held sink.old) (K.held sink.new) (K.faults sink.old) (K.faults sink.new) s) }
+    ensures closed { IfErr result (λ s. TellsClosed s (K.is_closed sink.new)) }
+    ensures heard { W.IsAfter watch.old watch.new }
+{
+    let mut kept = Some(KeptSearch::new(alloc, compiled));
+    let course = ask_in_turn(alloc, options, series, &mut kept, sink, counts, watch);
+    mem::drop(kept);
+    course
+}
+
+// The same, each from scratch.
+fn ask_anew<K: Sink, W: Watch>(
+    alloc: Global,
+    options: &Options,
+    series: &Series,
+    sink: &mut K,
+    counts: &mut Counts,
+    watch: &mut W,
+) -> Result<Course, SeriesEnd>
+    requires plain { seeks_consequences (Some options.now.mode) ≡ false }
+    requires sound { IsSoundSeries series.now }
+    ensures asked { IfOk result (IsThrough options.now series.now.program series.now.queries (K.held sink.old) (K.held sink.new) (K.faults sink.old) (K.faults sink.new)) }
+    ensures stops { IfErr result (λ s. StopMeans options.now series.now (K.held sink.old) (K.held sink.new) (K.faults sink.old) (K.faults sink.new) s) }
+    ensures closed { IfErr result (λ s. TellsClosed s (K.is_closed sink.new)) }
+    ensures heard { W.IsAfter watch.old watch.new }
+{
+    let mut none = None;
+    let course = ask_in_turn(alloc, options, series, &mut none, sink, counts, watch);
+    mem::drop(none);
+    course
+}
+
+// Asks the queries. Where all answers are asked for one search is kept over them.
+fn ask_each<K: Sink, W: Watch>(
+    alloc: Global,
+    options: &Options,
+    series: &Series,
+    sink: &mut K,
+    counts: &mut Counts,
+    watch: &mut W,
+) -> Result<Course, SeriesEnd>
+    requires plain { seeks_consequences (Some options.now.mode) ≡ false }
+    requires sound { IsSoundSeries series.now }
+    ensures asked { IfOk result (IsThrough options.now series.now.program series.now.queries (K.held sink.old) (K.held sink.new) (K.faults sink.old) (K.faults sink.new)) }
+    ensures stops { IfErr result (λ s. StopMeans options.now series.now (K.held sink.old) (K.held sink.new) (K.faults sink.old) (K.faults sink.new) s) }
+    ensures closed { IfErr result (λ s. TellsClosed s (K.is_closed sink.new)) }
+    ensures heard { W.IsAfter watch.old watch.new }
+{
+    if !asks_all(options, &series.program) {
+        return ask_anew(alloc, options, series, sink, counts, watch);
+    }
+    match whole(alloc, &series.program) {
+        Ok(compiled) => {
+            let course = ask_whole(alloc, options, series, &compiled, sink, counts, watch);
+            mem::drop(compiled);
+            course
+        }
+        Err(_) => Err(SeriesEnd::Memory),
+    }
 }
 
 // The end of a series that is so far.

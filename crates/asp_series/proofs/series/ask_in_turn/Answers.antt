@@ -1,7 +1,7 @@
 use Rattle.std.proofs.Common.{◌+◌, List, ap, arith, drop, length}
 use Rattle.std.specs.Prelude.{ℤ}
 use Rattle.asp_series.proofs.SeriesLaws.{at-end, at-more, at-next, at-open, at-stops, few-at, next-query, sound-query}
-use Rattle.asp_series.proofs.series.ask_each.Goals as goal
+use Rattle.asp_series.proofs.series.ask_in_turn.Goals as goal
 
 pub step-requires-clause-askable : goal.step-requires-clause-askable
 step-requires-clause-askable g c =
@@ -24,6 +24,7 @@ loop-i-preserved g c =
     c.loop-i.course c.in-Ok.next c.loop-i.invariant.at next c.in-Ok.ensures.means c.in-Ok.ensures.few in
     record {
       at = at-next c.args.options.now c.args.series.now c.loop-i.i _ _ _ _ c.in-Ok.next more c.if-next.true;
+      kept = c.step.ensures.kept;
       heard = g.met.W.Watch.goes_on c.args.watch.now c.loop-i.watch c.step.new.watch c.loop-i.invariant.heard c.step.ensures.heard;
     }
 
