@@ -164,8 +164,9 @@ def sends_on(program):
 
 def keeps_one(program):
     """Whether one search is kept for all queries: what the program alone implies is propagated once, and two decisions refute a query."""
-    forced = range(4, 204)
-    lines = ["asp 1 0 0", f"1 1 203 {' '.join(map(str, range(1, 204)))} 0 0", "1 0 0 0 2 1 2", *(f"1 0 0 0 1 {-atom}" for atom in forced), "0\n"]
+    # (atoms are left free, so that no set is whole before it is seen that the query is refuted)
+    forced = range(14, 214)
+    lines = ["asp 1 0 0", f"1 1 213 {' '.join(map(str, range(1, 214)))} 0 0", "1 0 0 0 2 1 2", *(f"1 0 0 0 1 {-atom}" for atom in forced), "0\n"]
     source = "\n".join(lines) + statement([1, 2]) * 1000 + statement([3, 1, 2]) * 1000 + "0\n"
     words = [word for word in program if word != "--core-min"]
     done = compare.run([*words, "--queries", "--mode", "enum", "--stats"], source)
