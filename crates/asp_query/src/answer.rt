@@ -46,10 +46,11 @@ fn work_off_all<P: Propagator, W: Watch>(
     }
 }
 
-// Works the board off with all units of the pool.
+// Works the board off with so many units of the pool at most.
 fn search_all<P: Propagator, W: Watch>(
     book: &mut Book,
     literals: &[i32],
+    most: u64,
     search: &mut Search<'_, P>,
     counts: &mut Counts,
     watch: &mut W,
@@ -60,7 +61,7 @@ fn search_all<P: Propagator, W: Watch>(
     ensures heard { W.IsAfter watch.old watch.new }
 {
     let _lawful = book.journal();
-    let mut fuel = book.lease(0, u64::MAX)?;
+    let mut fuel = book.lease(0, most)?;
     let done = work_off_all(book, literals, search, &mut fuel, counts, watch)?;
     if done {
         book.back(0, fuel);
@@ -73,6 +74,7 @@ fn search_all<P: Propagator, W: Watch>(
 pub(crate) fn answer<P: Propagator, W: Watch>(
     book: Book,
     literals: &[i32],
+    most: u64,
     search: &mut Search<'_, P>,
     counts: &mut Counts,
     watch: &mut W,
@@ -84,7 +86,7 @@ pub(crate) fn answer<P: Propagator, W: Watch>(
     ensures heard { W.IsAfter watch.old watch.new }
 {
     let mut book = book;
-    match search_all(&mut book, literals, search, counts, watch) {
+    match search_all(&mut book, literals, most, search, counts, watch) {
         Ok(true) => Ok(Some(told(Mode::Enum, book, None, 0, false))),
         Ok(false) => {
             mem::drop(book);

@@ -26,6 +26,8 @@ pub struct KeptSearch<'a> {
     alloc: Global,
     /// The program.
     compiled: &'a Compiled,
+    /// How many units a query takes at most.
+    most: u64,
     /// A search that knows no answer. None before the first query, and where the one before found an answer or nothing could be said.
     search: Option<Search<'a, Propagators<'a>>>,
 }
@@ -96,13 +98,14 @@ fn wanted_of(alloc: Global, compiled: &Compiled, query: &[i32]) -> Result<Vec<i3
 }
 
 impl<'a> KeptSearch<'a> {
-    /// Nothing was asked yet, and no search is made.
-    pub fn new(alloc: Global, compiled: &'a Compiled) -> KeptSearch<'a>
+    /// Nothing was asked yet, and no search is made. A query will take so many units at most.
+    pub fn new(alloc: Global, compiled: &'a Compiled, most: u64) -> KeptSearch<'a>
         ensures { result ≡ compiled.now }
     {
         KeptSearch {
             alloc,
             compiled,
+            most,
             search: None,
         }
     }
@@ -178,7 +181,7 @@ impl<'a> KeptSearch<'a> {
         ensures heard { W.IsAfter watch.old watch.new }
     {
         let mut search = search;
-        match answer(book, literals, &mut search, counts, watch) {
+        match answer(book, literals, self.most, &mut search, counts, watch) {
             Ok(Some(report)) => {
                 self.keep(search, &report);
                 Ok(Some(report))

@@ -7,6 +7,7 @@ ghost use Rattle.asp_series.specs.Series.{is_refuted};
 
 use crate::ask::{Asking, seek};
 use crate::literals::{all_assumed, without};
+use crate::solver::Solver;
 use asp_counts::counts::Counts;
 use asp_counts::watch::Watch;
 use asp_model::program::Program;
@@ -62,9 +63,9 @@ fn verdict_of(results: &Results<Sets>) -> Verdict
 }
 
 // Seeks one model that has all of the literals.
-fn try_others<W: Watch>(
+fn try_others<S: Solver, W: Watch>(
     alloc: Global,
-    asking: &Asking,
+    asking: &Asking<'_, S>,
     counts: &mut Counts,
     watch: &mut W,
 ) -> Result<Tried, AllocError>
@@ -100,9 +101,9 @@ pub struct Shrinking {
 }
 
 // Leaves out the literal if the others suffice.
-fn shrink<W: Watch>(
+fn shrink<S: Solver, W: Watch>(
     alloc: Global,
-    asking: &Asking,
+    asking: &Asking<'_, S>,
     literal: i32,
     state: &mut Shrinking,
     counts: &mut Counts,
@@ -122,6 +123,8 @@ fn shrink<W: Watch>(
         program: asking.program,
         literals: others.as_slice(),
         units: state.left,
+        solver: asking.solver,
+        wasted: 0,
     };
     let tried = try_others(alloc, &rest, counts, watch)?;
     state.left -= tried.spent;
@@ -134,9 +137,9 @@ fn shrink<W: Watch>(
 }
 
 // Leaves out each of the literals in turn, if the others suffice.
-fn shrink_all<W: Watch>(
+fn shrink_all<S: Solver, W: Watch>(
     alloc: Global,
-    asking: &Asking,
+    asking: &Asking<'_, S>,
     state: &mut Shrinking,
     counts: &mut Counts,
     watch: &mut W,
@@ -154,9 +157,9 @@ fn shrink_all<W: Watch>(
 }
 
 // A core from the literals of which none can be left out, as far as the units suffice to show it.
-fn least_core<W: Watch>(
+fn least_core<S: Solver, W: Watch>(
     alloc: Global,
-    asking: &Asking,
+    asking: &Asking<'_, S>,
     counts: &mut Counts,
     watch: &mut W,
 ) -> Result<Core, AllocError>
@@ -190,9 +193,9 @@ fn bare(alloc: Global, program: &Program) -> Result<Program, AllocError>
 }
 
 // The core of a query that has no answer, with `--core-min` as little as may be.
-fn least_reason<W: Watch>(
+fn least_reason<S: Solver, W: Watch>(
     alloc: Global,
-    asking: &Asking,
+    asking: &Asking<'_, S>,
     literals: &[i32],
     counts: &mut Counts,
     watch: &mut W,
@@ -209,6 +212,8 @@ fn least_reason<W: Watch>(
         program: &bare,
         literals,
         units: asking.units,
+        solver: asking.solver,
+        wasted: 0,
     };
     let core = least_core(alloc, &all, counts, watch);
     mem::drop(bare);
@@ -216,9 +221,9 @@ fn least_reason<W: Watch>(
 }
 
 // The core of a query that has no answer: all that it assumes, or with `--core-min` as little as may be.
-fn reason<W: Watch>(
+fn reason<S: Solver, W: Watch>(
     alloc: Global,
-    asking: &Asking,
+    asking: &Asking<'_, S>,
     counts: &mut Counts,
     watch: &mut W,
 ) -> Result<Core, AllocError>
@@ -254,9 +259,9 @@ fn is_refuted(results: &Results<Sets>) -> bool
 }
 
 /// The core of a query, where it has no answer.
-pub fn core_of<W: Watch>(
+pub fn core_of<S: Solver, W: Watch>(
     alloc: Global,
-    asking: &Asking,
+    asking: &Asking<'_, S>,
     results: &Results<Sets>,
     counts: &mut Counts,
     watch: &mut W,

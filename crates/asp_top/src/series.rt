@@ -14,6 +14,7 @@ use asp_io::{Sink, Source};
 use asp_read::read_queries;
 use asp_series::end::SeriesEnd;
 use asp_series::series::ask_all;
+use asp_series::solver::Solver;
 use std::alloc::Global;
 use std::mem;
 
@@ -31,9 +32,10 @@ fn status_at(end: SeriesEnd) -> Status
     }
 }
 
-/// Reads a program with queries, and answers each.
-pub fn run_series<S: Source, K: Sink, W: Watch>(
+/// Reads a program with queries, and answers each. The solver searches those from scratch of which a search that is kept can't say anything.
+pub fn run_series<V: Solver, S: Source, K: Sink, W: Watch>(
     alloc: Global,
+    solver: &V,
     options: &Options,
     source: &mut S,
     sink: &mut K,
@@ -50,7 +52,7 @@ pub fn run_series<S: Source, K: Sink, W: Watch>(
     let mut counts = Counts::new();
     match read_queries(alloc, source) {
         Ok(series) => {
-            let end = ask_all(alloc, options, &series, sink, &mut counts, watch);
+            let end = ask_all(alloc, solver, options, &series, sink, &mut counts, watch);
             mem::drop(series);
             failed(status_at(end))
         }
