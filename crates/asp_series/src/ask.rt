@@ -65,6 +65,7 @@ fn search<S: Solver, W: Watch>(
     counts: &mut Counts,
     watch: &mut W,
 ) -> Result<Sought, AllocError>
+    requires solver { S.may asking.now.solver.now }
     ensures searches { IfOk result (Searches prepared ask asking.now.units) }
     ensures heard { W.IsAfter watch.old watch.new }
 {
@@ -97,7 +98,8 @@ fn search_left<S: Solver, W: Watch>(
     counts: &mut Counts,
     watch: &mut W,
 ) -> Result<Sought, AllocError>
-    requires { IsSound program }
+    requires solver { S.may asking.now.solver.now }
+    requires sound { IsSound program }
     ensures sought { IfOk result (IsSought asking.now.options.now program ask asking.now.units) }
     ensures heard { W.IsAfter watch.old watch.new }
 {
@@ -115,7 +117,8 @@ pub fn seek<S: Solver, W: Watch>(
     counts: &mut Counts,
     watch: &mut W,
 ) -> Result<Sought, AllocError>
-    requires { IsSound (with_query asking.now.program.now asking.now.literals.now) }
+    requires solver { S.may asking.now.solver.now }
+    requires sound { IsSound (with_query asking.now.program.now asking.now.literals.now) }
     ensures sought { IfOk result (IsSought asking.now.options.now (with_query asking.now.program.now asking.now.literals.now) ask asking.now.units) }
     ensures heard { W.IsAfter watch.old watch.new }
 {

@@ -69,6 +69,7 @@ fn try_others<S: Solver, W: Watch>(
     counts: &mut Counts,
     watch: &mut W,
 ) -> Result<Tried, AllocError>
+    requires solver { S.may asking.now.solver.now }
     requires askable { IsAskable asking.now.options.now asking.now.program.now asking.now.literals.now }
     requires none { asking.now.program.now.assumptions ≡ [] }
     ensures tries { IfOk result (Tries asking.now.program.now asking.now.literals.now asking.now.units) }
@@ -109,6 +110,7 @@ fn shrink<S: Solver, W: Watch>(
     counts: &mut Counts,
     watch: &mut W,
 ) -> Result<(), AllocError>
+    requires solver { S.may asking.now.solver.now }
     requires plain { seeks_consequences (Some asking.now.options.now.mode) ≡ false }
     requires sound { IsSoundWith asking.now.program.now state.old.core }
     ensures shrinks { OnOk result (Shrinks asking.now.program.now literal state.old state.new) }
@@ -144,6 +146,7 @@ fn shrink_all<S: Solver, W: Watch>(
     counts: &mut Counts,
     watch: &mut W,
 ) -> Result<(), AllocError>
+    requires solver { S.may asking.now.solver.now }
     requires plain { seeks_consequences (Some asking.now.options.now.mode) ≡ false }
     requires sound { IsSoundWith asking.now.program.now asking.now.literals.now }
     requires start { IsShrunk asking.now.program.now asking.now.literals.now state.old.left [] state.old }
@@ -163,6 +166,7 @@ fn least_core<S: Solver, W: Watch>(
     counts: &mut Counts,
     watch: &mut W,
 ) -> Result<Core, AllocError>
+    requires solver { S.may asking.now.solver.now }
     requires plain { seeks_consequences (Some asking.now.options.now.mode) ≡ false }
     requires sound { IsSoundWith asking.now.program.now asking.now.literals.now }
     requires none { Refutes asking.now.program.now asking.now.literals.now }
@@ -200,6 +204,7 @@ fn least_reason<S: Solver, W: Watch>(
     counts: &mut Counts,
     watch: &mut W,
 ) -> Result<Core, AllocError>
+    requires solver { S.may asking.now.solver.now }
     requires askable { IsAskable asking.now.options.now asking.now.program.now asking.now.literals.now }
     requires none { Refutes asking.now.program.now (asking.now.program.now.assumptions ++ asking.now.literals.now) }
     requires assumed { AreSame (asking.now.program.now.assumptions ++ asking.now.literals.now) literals.now }
@@ -227,6 +232,7 @@ fn reason<S: Solver, W: Watch>(
     counts: &mut Counts,
     watch: &mut W,
 ) -> Result<Core, AllocError>
+    requires solver { S.may asking.now.solver.now }
     requires askable { IsAskable asking.now.options.now asking.now.program.now asking.now.literals.now }
     requires none { Refutes asking.now.program.now (asking.now.program.now.assumptions ++ asking.now.literals.now) }
     ensures reason { IfOk result (λ c. IsReason asking.now.options.now.core_min asking.now.program.now (asking.now.program.now.assumptions ++ asking.now.literals.now) true asking.now.units (Some c)) }
@@ -266,6 +272,7 @@ pub fn core_of<S: Solver, W: Watch>(
     counts: &mut Counts,
     watch: &mut W,
 ) -> Result<Option<Core>, AllocError>
+    requires solver { S.may asking.now.solver.now }
     requires askable { IsAskable asking.now.options.now asking.now.program.now asking.now.literals.now }
     requires none { is_refuted results.now ≡ true → Refutes asking.now.program.now (asking.now.program.now.assumptions ++ asking.now.literals.now) }
     ensures reason { IfOk result (IsReason asking.now.options.now.core_min asking.now.program.now (asking.now.program.now.assumptions ++ asking.now.literals.now) (is_refuted results.now) asking.now.units) }

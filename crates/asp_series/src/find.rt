@@ -69,6 +69,7 @@ fn find_anew<S: Solver, W: Watch>(
     counts: &mut Counts,
     watch: &mut W,
 ) -> Result<Sought, AllocError>
+    requires solver { S.may asking.now.solver.now }
     requires askable { IsAskable asking.now.options.now asking.now.program.now asking.now.literals.now }
     ensures found { IfOk result (IsFoundBy asking.now.options.now asking.now.program.now asking.now.literals.now asking.now.units) }
     ensures heard { W.IsAfter watch.old watch.new }
@@ -93,6 +94,7 @@ pub fn find<S: Solver, W: Watch>(
     counts: &mut Counts,
     watch: &mut W,
 ) -> Result<Sought, AllocError>
+    requires solver { S.may asking.now.solver.now }
     requires askable { IsAskable asking.now.options.now asking.now.program.now asking.now.literals.now }
     requires kept { IsKeptOf asking.now.options.now asking.now.program.now kept.old }
     ensures kept { IsKeptOf asking.now.options.now asking.now.program.now kept.new }

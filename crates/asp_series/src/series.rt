@@ -72,6 +72,7 @@ fn answer<S: Solver, W: Watch>(
     counts: &mut Counts,
     watch: &mut W,
 ) -> Result<Reply, AllocError>
+    requires solver { S.may asking.now.solver.now }
     requires askable { IsAskable asking.now.options.now asking.now.program.now asking.now.literals.now }
     requires kept { IsKeptOf asking.now.options.now asking.now.program.now kept.old }
     ensures kept { IsKeptOf asking.now.options.now asking.now.program.now kept.new }
@@ -256,6 +257,7 @@ fn step<K: Sink, S: Solver, W: Watch>(
     counts: &mut Counts,
     watch: &mut W,
 ) -> Result<Course, SeriesEnd>
+    requires solver { S.may asking.now.solver.now }
     requires askable { IsAskable asking.now.options.now asking.now.program.now asking.now.literals.now }
     requires kept { IsKeptOf asking.now.options.now asking.now.program.now kept.old }
     requires units { course.left ≡ asking.now.units }
@@ -292,6 +294,7 @@ fn ask_in_turn<K: Sink, S: Solver, W: Watch>(
     counts: &mut Counts,
     watch: &mut W,
 ) -> Result<Course, SeriesEnd>
+    requires solver { S.may solver.now }
     requires plain { seeks_consequences (Some options.now.mode) ≡ false }
     requires sound { IsSoundSeries series.now }
     requires kept { IsKeptOf options.now series.now.program kept.old }
@@ -351,6 +354,7 @@ fn ask_whole<K: Sink, S: Solver, W: Watch>(
     counts: &mut Counts,
     watch: &mut W,
 ) -> Result<Course, SeriesEnd>
+    requires solver { S.may solver.now }
     requires plain { seeks_consequences (Some options.now.mode) ≡ false }
     requires sound { IsSoundSeries series.now }
     requires all { asks_all options.now series.now.program ≡ true }
@@ -361,7 +365,9 @@ fn ask_whole<K: Sink, S: Solver, W: Watch>(
     ensures heard { W.IsAfter watch.old watch.new }
 {
     let mut kept = Some(KeptSearch::new(alloc, compiled, solver.patience(compiled)));
-    let course = ask_in_turn(alloc, solver, options, series, &mut kept, sink, counts, watch);
+    let course = ask_in_turn(
+        alloc, solver, options, series, &mut kept, sink, counts, watch,
+    );
     mem::drop(kept);
     course
 }
@@ -376,6 +382,7 @@ fn ask_anew<K: Sink, S: Solver, W: Watch>(
     counts: &mut Counts,
     watch: &mut W,
 ) -> Result<Course, SeriesEnd>
+    requires solver { S.may solver.now }
     requires plain { seeks_consequences (Some options.now.mode) ≡ false }
     requires sound { IsSoundSeries series.now }
     ensures asked { IfOk result (IsThrough options.now series.now.program series.now.queries (K.held sink.old) (K.held sink.new) (K.faults sink.old) (K.faults sink.new)) }
@@ -384,7 +391,9 @@ fn ask_anew<K: Sink, S: Solver, W: Watch>(
     ensures heard { W.IsAfter watch.old watch.new }
 {
     let mut none = None;
-    let course = ask_in_turn(alloc, solver, options, series, &mut none, sink, counts, watch);
+    let course = ask_in_turn(
+        alloc, solver, options, series, &mut none, sink, counts, watch,
+    );
     mem::drop(none);
     course
 }
@@ -399,6 +408,7 @@ fn ask_each<K: Sink, S: Solver, W: Watch>(
     counts: &mut Counts,
     watch: &mut W,
 ) -> Result<Course, SeriesEnd>
+    requires solver { S.may solver.now }
     requires plain { seeks_consequences (Some options.now.mode) ≡ false }
     requires sound { IsSoundSeries series.now }
     ensures asked { IfOk result (IsThrough options.now series.now.program series.now.queries (K.held sink.old) (K.held sink.new) (K.faults sink.old) (K.faults sink.new)) }
@@ -411,7 +421,9 @@ fn ask_each<K: Sink, S: Solver, W: Watch>(
     }
     match whole(alloc, &series.program) {
         Ok(compiled) => {
-            let course = ask_whole(alloc, solver, options, series, &compiled, sink, counts, watch);
+            let course = ask_whole(
+                alloc, solver, options, series, &compiled, sink, counts, watch,
+            );
             mem::drop(compiled);
             course
         }
@@ -499,6 +511,7 @@ fn ask_and_close<K: Sink, S: Solver, W: Watch>(
     counts: &mut Counts,
     watch: &mut W,
 ) -> SeriesEnd
+    requires solver { S.may solver.now }
     requires plain { seeks_consequences (Some options.now.mode) ≡ false }
     requires sound { IsSoundSeries series.now }
     ensures asks { AsksOn options.now series.now (K.held sink.old) (K.held sink.new) (K.faults sink.old) (K.faults sink.new) result }
@@ -531,6 +544,7 @@ pub fn ask_all<K: Sink, S: Solver, W: Watch>(
     counts: &mut Counts,
     watch: &mut W,
 ) -> SeriesEnd
+    requires solver { S.may solver.now }
     requires plain { seeks_consequences (Some options.now.mode) ≡ false }
     requires sound { IsSoundSeries series.now }
     ensures asks { Asks options.now series.now (K.held sink.old) (K.held sink.new) (K.faults sink.old) (K.faults sink.new) result }

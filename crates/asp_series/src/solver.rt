@@ -13,6 +13,9 @@ use std::alloc::{AllocError, Global};
 
 /// Who searches a program from scratch.
 pub trait Solver {
+    /// What it needs in order to search, as that threads may share what it holds. Whoever makes it shows that.
+    ghost may: { Self → Type 0 };
+
     /// How many units a query may take of a search of this program that is kept, before it is searched from scratch.
     fn patience(&self, compiled: &Compiled) -> u64;
 
@@ -28,6 +31,7 @@ pub trait Solver {
         counts: &mut Counts,
         watch: &mut W,
     ) -> Result<Report, AllocError>
+        requires { may self.now }
         ensures report { IfOk result (IsReport compiled.now ask units) }
         ensures proof { IfOk result (HasProof false) }
         ensures heard { W.IsAfter watch.old watch.new };
@@ -38,6 +42,8 @@ pub trait Solver {
 pub struct Alone;
 
 impl Solver for Alone {
+    ghost may = { λ s. Unit {0} };
+
     fn patience(&self, _compiled: &Compiled) -> u64 {
         u64::MAX
     }

@@ -34,6 +34,7 @@ const SHARE: u64 = 8;
 const TRIED: u64 = 1000;
 
 /// Workers side by side.
+#[derive(Drop)]
 pub struct Crew<'a, R, G> {
     /// Who makes threads.
     pub rt: &'a R,
@@ -47,18 +48,8 @@ pub struct Crew<'a, R, G> {
     ghost few: { workers ≤ 64 },
 }
 
-impl<R, G> Drop for Crew<'_, R, G> {
-    fn drop(self) {
-        let Crew {
-            rt: _,
-            gate: _,
-            workers: _,
-            row: _,
-        } = self;
-    }
-}
-
 /// Who hears what workers do for a query, and tells it with what was done before.
+#[derive(Drop)]
 pub struct InSeries<'a, W> {
     /// Who is told.
     pub watch: &'a mut W,
@@ -66,13 +57,21 @@ pub struct InSeries<'a, W> {
     pub before: Counts,
 }
 
-impl<W> Drop for InSeries<'_, W> {
-    fn drop(self) {
-        let InSeries {
-            watch: _,
-            before: _,
-        } = self;
+impl<'a, W> InSeries<'a, W> {
+    // So much was done before.
+    fn new(watch: &'a mut W, before: Counts) -> InSeries<'a, W>
+        ensures same { result.watch.ghost_name ≡ watch.entry.ghost_name }
+        ensures now { result.watch.now ≡ watch.old }
+    {
+        InSeries { watch, before }
     }
+}
+
+// Nothing more is told.
+fn close<W>(watch: &mut W)
+    ensures { watch.new ≡ watch.old }
+{
+    let _ = watch;
 }
 
 // What was done before, and these.
@@ -199,12 +198,12 @@ fn search<R: Threads + Wait + Sync, G: Gate + Sync, W: Watch>(
     };
     let mut deeds = Deeds::new(alloc);
     *counts = emptied(counts);
-    let before = InSeries {
-        watch,
-        before: *counts,
-    };
-    let (report, told) = many::solve(crew.rt, alloc, compiled, plan, crew.gate, &mut deeds, before);
-    mem::drop(told);
+    let before = InSeries::new(watch, *counts);
+    let (report, told) = many::solve(
+        crew.rt, alloc, compiled, plan, crew.gate, &mut deeds, before,
+    );
+    let InSeries { watch, before: _ } = told;
+    close(watch);
     counts.add(&deeds.sum);
     mem::drop(deeds);
     report
@@ -226,10 +225,12 @@ impl<'a, R, G> Crew<'a, R, G> {
 }
 
 impl<R: Threads + Wait + Sync, G: Gate + Sync> Solver for Crew<'_, R, G> {
+    ghost use denote.Param.Send.{IsSync};
+
+    ghost may = { λ crew. IsSync R.row × IsSync G.row };
+
     fn patience(&self, compiled: &Compiled) -> u64 {
-        let size = compiled
-            .atom_count()
-            .saturating_add(compiled.body_count());
+        let size = compiled.atom_count().saturating_add(compiled.body_count());
         PATIENCE + size as u64 / SHARE
     }
 

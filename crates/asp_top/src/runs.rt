@@ -134,6 +134,7 @@ fn outcome<V: Solver, S: Source, K: Sink, W: Watch>(
     tally: &mut Tally,
     watch: &mut W,
 ) -> Outcome
+    requires solver { V.may solver.now }
     requires ring { IsRing options.now.make }
     requires parts { IsPartCount options.now.split }
     requires apart { IsApart options.now }
@@ -196,6 +197,7 @@ fn run_with<V: Solver, S: Source, K: Sink, N: Sink>(
     sink: &mut K,
     notes: &mut N,
 ) -> Outcome
+    requires solver { V.may solver.now }
     requires ring { IsRing options.now.make }
     requires parts { IsPartCount options.now.split }
     requires apart { IsApart options.now }
@@ -209,7 +211,15 @@ fn run_with<V: Solver, S: Source, K: Sink, N: Sink>(
 {
     let mut tally = Tally::new(alloc);
     let mut progress = Progress::new(notes, options);
-    let outcome = outcome(alloc, solver, options, source, sink, &mut tally, &mut progress);
+    let outcome = outcome(
+        alloc,
+        solver,
+        options,
+        source,
+        sink,
+        &mut tally,
+        &mut progress,
+    );
     let Progress {
         notes,
         on: _,

@@ -41,6 +41,7 @@ pub fn run_series<V: Solver, S: Source, K: Sink, W: Watch>(
     sink: &mut K,
     watch: &mut W,
 ) -> Outcome
+    requires solver { V.may solver.now }
     requires plain { seeks_consequences (Some options.now.mode) ≡ false }
     ensures runs { RunsSeries options.now (around (S.left source.old) (S.left source.new) (S.faults source.old) (S.faults source.new)
         (K.held sink.old) (K.held sink.new) (K.faults sink.old) (K.faults sink.new)) result }
