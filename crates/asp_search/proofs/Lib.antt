@@ -10,6 +10,7 @@ pub mod StepsLaws
 pub mod BelowLaws
 pub mod BesideLaws
 pub mod FaultLaws
+pub mod ForgetLaws
 pub mod OpenLaws
 pub mod CoverLaws
 pub mod SureLaws

@@ -17,14 +17,14 @@ use Rattle.asp_trail.specs.declared.trail.Entry.{Entry}
 use Rattle.asp_trail.specs.Entries.{level_in}
 use Rattle.asp_trail.specs.Trails.{IsOrdered, IsVar}
 use Rattle.asp_store.specs.declared.stored_nogood.StoredNogood.{StoredNogood}
-use Rattle.asp_store.specs.Keeping.{nogood_at}
+use Rattle.asp_store.specs.Keeping.{is_local_base, nogood_at}
 use Rattle.asp_store.specs.Fitting.{AreSmall}
 use Rattle.asp_trail_laws.specs.Starts.{AreStarts}
 use Rattle.asp_trail_laws.proofs.LitLaws.{eq_itself}
 use Rattle.asp_trail_laws.proofs.PlaceLaws.{blank, level_at}
 use Rattle.asp_search_laws.specs.Keeping.{AreUseful}
 use Rattle.asp_search_laws.specs.Steps.{is_of_use}
-use Rattle.asp_search.specs.Beside.{is_local, is_shared, only_shared, IsShared, has_var, IsOpen}
+use Rattle.asp_search.specs.Beside.{is_shared, only_shared, IsShared, has_var, IsOpen}
 
 -- ---- the first decision
 var_found : (q : List Literal) (v : ℕ) → has_var q v ≡ true → (k : Literal) × (has_literal q k ≡ true) × (k.var ≡ v)
@@ -69,7 +69,7 @@ first_open p q (d ∷ ds) es true o idle starts = absurd (none (idle refl))
 first_open p q (d ∷ ds) es false o idle starts = open_literal (var_count p) q ds d es o (starts refl)
 
 -- ---- nogoods that hold for every search
-shared_by : (p : Program) (known : List Atoms) (bound : Option (List ℤ)) (b : Base) (lits : List Literal) → not (is_local b) ≡ true → HitsOnly p (excuse p known bound b) lits → IsSharedBy p b lits
+shared_by : (p : Program) (known : List Atoms) (bound : Option (List ℤ)) (b : Base) (lits : List Literal) → not (is_local_base b) ≡ true → HitsOnly p (excuse p known bound b) lits → IsSharedBy p b lits
 shared_by p known bound base.Pure lits e good = good
 shared_by p known bound (base.Below c) lits e good = good
 shared_by p known bound base.Local lits e good = absurd (false≢true e)
@@ -79,7 +79,7 @@ pub kept_shared : (longest : ℕ) (p : Program) (known : List Atoms) (bound : Op
     nogood_at slots id ≡ Some n → is_shared longest n ≡ true → IsShared p n
 kept_shared longest p known bound slots id n useful small q e = record {
   variables = small id n q;
-  shared = shared_by p known bound n.base n.lits (and_left (not (is_local n.base)) (nat_le (length n.lits) longest) e) (useful id n q).good;
+  shared = shared_by p known bound n.base n.lits (and_left (not (is_local_base n.base)) (nat_le (length n.lits) longest) e) (useful id n q).good;
 }
 
 pub shared_good : (p : Program) (known : List Atoms) (bound : Option (List ℤ)) (b : Base) (lits : List Literal) → IsSharedBy p b lits → HitsOnly p (excuse p known bound b) lits

@@ -1,5 +1,5 @@
 -- The calls beside a step.
-use Rattle.std.specs.Prelude.{◌≡◌, ℕ, nat_le, ◌==◌, Bool, true, false, ◌&&◌, not, ◌⊎◌, List, length, Option, Some, None, option_and_then, if◌then◌else◌, [], ◌∷◌}
+use Rattle.std.specs.Prelude.{◌≡◌, ℕ, ◌+◌, ◌≤◌, nat_le, ◌==◌, Bool, false, ◌&&◌, not, ◌⊎◌, List, length, Option, Some, None, option_and_then, if◌then◌else◌, [], ◌∷◌}
 use Rattle.std.specs.List.{All, list_any}
 use Rattle.asp_model.specs.declared.program.Program.{Program}
 use Rattle.asp_model.specs.declared.results.Mode.{Mode}
@@ -10,14 +10,12 @@ use Rattle.asp_model.specs.Sets.{Atoms}
 use Rattle.asp_vars.specs.Literals.{Literal}
 use Rattle.asp_vars.specs.Entailment.{IsSharedBy}
 use Rattle.asp_vars.specs.Numbering.{var_count}
-use Rattle.asp_vars.specs.declared.nogood.Base.{Base}
-use Rattle.asp_vars.specs.declared.nogood.Base.TheVariants as base
 use Rattle.asp_vars.specs.declared.nogood.Nogood.{Nogood}
 use Rattle.asp_trail.specs.Entries.{level}
 use Rattle.asp_trail.specs.Trails.{IsVar}
 use Rattle.asp_store.specs.declared.stored_nogood.StoredNogood.{StoredNogood}
 use Rattle.asp_store.specs.declared.stored_nogood.Kind.TheVariants as kind
-use Rattle.asp_store.specs.Keeping.{nogood_at, IsAddedAt}
+use Rattle.asp_store.specs.Keeping.{is_local_base, kept_at, nogood_at, unless_local, IsAddedAt}
 use Rattle.asp_search_laws.specs.Searching.{Searching}
 use Rattle.asp_search_laws.specs.Steps.{covering_nogood}
 use Rattle.asp_state.specs.SearchStates.{first_ranking}
@@ -49,6 +47,22 @@ pub record Enters (s t : Searching) (q : List Literal) : Type 0 where
 abbrev pub Leaves : Searching → Searching → Type 0
 Leaves s t = t ≡ record s { cube = None; clashing = t.clashing; entries = t.entries; decisions = []; ranking = t.ranking; last = None }
 
+-- No path is entered and no answer is known. Of the nogoods those are gone that hold for one search alone, and else nothing has changed but
+-- the order.
+pub record Forgets (s t : Searching) : Type 0 where
+  pub same : t ≡ record s { cube = None; clashing = false; known = []; entries = []; decisions = []; slots = t.slots; ranking = t.ranking; last = None }
+  pub nogoods : (id : ℕ) → kept_at t.slots id ≡ unless_local (kept_at s.slots id)
+
+-- Entries and nogoods were added, and nothing else has changed.
+pub record IsAhead (s t : Searching) : Type 0 where
+  pub same : t ≡ record s { entries = t.entries; slots = t.slots }
+  pub longer : length s.entries ≤ length t.entries
+
+-- The same, with at most one entry a variable.
+pub record Propagates (s t : Searching) : Type 0 where
+  pub ahead : IsAhead s t
+  pub few : length t.entries ≤ var_count t.program + 1
+
 -- This is known, and nothing else has changed but the nogoods: one is kept that leaves out what shows nothing else.
 pub record Adopts (s t : Searching) (K : List Atoms) : Type 0 where
   pub same : t ≡ record s { known = K; slots = t.slots; last = None }
@@ -74,14 +88,9 @@ pub record Imports (s t : Searching) (n : Nogood) : Type 0 where
   pub added : IsAddedAt s.slots t.slots id n kind.Learnt
 
 -- ---- nogoods for others
-abbrev pub is_local : Base → Bool
-is_local base.Pure = false
-is_local (base.Below c) = false
-is_local base.Local = true
-
 -- It counts for other searches, and has no more than so many literals.
 abbrev pub is_shared : ℕ → Nogood → Bool
-is_shared longest n = not (is_local n.base) && nat_le (length n.lits) longest
+is_shared longest n = not (is_local_base n.base) && nat_le (length n.lits) longest
 
 abbrev pub only_shared : ℕ → Option Nogood → Option Nogood
 only_shared longest None = None

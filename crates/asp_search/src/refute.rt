@@ -1,15 +1,17 @@
 //! Which literals no answer has together that is still to come.
-ghost use Rattle.std.specs.Prelude.{◌≡◌, ◌≤◌, ◌++◌, List, Some, IfSome, IsTrue};
+ghost use Rattle.std.specs.Prelude.{◌≡◌, ◌≤◌, ◌++◌, List, None, Some, IfSome, IsSome, IsTrue, OnErr, OnOk};
 ghost use Rattle.asp_vars.specs.Entailment.{Settled};
 ghost use Rattle.asp_vars.specs.Literals.{Literal, complement, has_literal, holds_in};
 ghost use Rattle.asp_trail.specs.Entries.{assignment};
 ghost use Rattle.asp_search_laws.specs.Searching.{used};
+ghost use Rattle.asp_search.specs.Beside.{IsAhead, Propagates};
 ghost use Rattle.asp_search.specs.Refuting.{IsFalseAmong, are_first};
 
 use crate::search::Search;
 use asp_propagate::propagator::Propagator;
 use asp_trail::trail::Trail;
 use asp_vars::lit::{Lit, Var};
+use std::alloc::AllocError;
 
 // Whether the literal stands in the list.
 fn has_literal(lits: &[Lit], wanted: Lit) -> bool
@@ -51,6 +53,43 @@ fn false_level(trail: &Trail, vars: Var, lits: &[Lit]) -> Option<usize>
 }
 
 impl<P: Propagator> Search<'_, P> {
+    // Implies what follows, unless the cube clashes.
+    fn imply_all(&mut self) -> Result<(), AllocError>
+        requires { IsSome self.old.cube }
+        ensures { OnOk result (IsAhead self.old self.new) }
+    {
+        if self.state.is_clashing() {
+            return Ok(());
+        }
+        let _program = self.compiled.program();
+        let before = self.state.trail().len();
+        self.state.propagate()?;
+        let more = self.state.trail().len().saturating_sub(before);
+        self.ahead = self.ahead.saturating_add(more);
+        Ok(())
+    }
+
+    /// Implies what follows, as a step does first, so that `refutes` knows it. Where a kept nogood is violated then, the next step learns
+    /// from it. What propagators give here isn't noted.
+    ///
+    /// Want of memory is the one error: then no path is entered.
+    pub fn propagate(&mut self) -> Result<(), AllocError>
+        requires { IsSome self.old.cube }
+        ensures ok { OnOk result (Propagates self.old self.new) }
+        ensures lost { OnErr result (self.new.cube ≡ None) }
+    {
+        match self.imply_all() {
+            Ok(()) => {
+                let _level = self.level();
+                Ok(())
+            }
+            Err(error) => {
+                self.leave();
+                Err(error)
+            }
+        }
+    }
+
     /// Whether no answer that is still to come on the path has all of these literals: one of them is false, by decisions that are all
     /// among them. Where it says no there may be such an answer or none. It looks at each literal, and where one is false at each
     /// decision of its level and of those below.

@@ -12,11 +12,11 @@ ghost use Rattle.asp_vars.specs.Numbering.{var_count};
 ghost use Rattle.asp_vars.specs.declared.nogood.Base.TheVariants as base;
 ghost use Rattle.asp_trail.specs.Entries.{level};
 ghost use Rattle.asp_trail.specs.Trails.{IsVar};
-ghost use Rattle.asp_store.specs.Keeping.{is_extra, nogood_at};
+ghost use Rattle.asp_store.specs.Keeping.{is_extra, is_local_base, nogood_at};
 ghost use Rattle.asp_propagate.specs.Useful.{IsSmaller};
 ghost use Rattle.asp_search_laws.specs.Searching.{used};
 ghost use Rattle.asp_search_laws.specs.Steps.{is_of_use};
-ghost use Rattle.asp_search.specs.Beside.{new_search, Adopts, Enters, Leaves, count_unshown, left_to_show, is_local, is_shared, kept_last, only_shared, exported, Imports, IsOpen, IsShared, has_var};
+ghost use Rattle.asp_search.specs.Beside.{new_search, Adopts, Enters, Leaves, count_unshown, left_to_show, is_shared, kept_last, only_shared, exported, Imports, IsOpen, IsShared, has_var};
 ghost use Rattle.asp_search.specs.Invariants.{IsSeen, answers_known};
 ghost use Rattle.asp_state.specs.SearchStates.{first_ranking, KeepsCompletionAlone};
 
@@ -67,8 +67,10 @@ pub struct Search<'a, P: Propagator> {
     pub(crate) mode: Mode,
     // the trail under the cube, and the nogoods that are kept
     pub(crate) state: SearchState<P>,
-    // how many literals the last step's propagation implied
+    // how many literals the last step's propagation implied, with what was implied ahead of it
     pub(crate) implied: usize,
+    // how many literals were implied ahead of the next step
+    pub(crate) ahead: usize,
     // when restarts and reductions are due
     pub(crate) pace: Pace,
     // when what propagators gave is to go between restarts
@@ -189,7 +191,7 @@ fn is_reached(mode: Mode, bound: &Option<Cost>, cost: &Cost) -> bool
 }
 
 fn is_local(base: &Base) -> bool
-    ensures { result ≡ is_local base.now }
+    ensures { result ≡ is_local_base base.now }
 {
     match base {
         Base::Local => true,
@@ -271,6 +273,7 @@ impl<'a, P: Propagator> Search<'a, P> {
             state,
             pace: Pace::new(vars as usize),
             implied: 0,
+            ahead: 0,
             litter: Litter::new(vars),
             learner,
             spread,

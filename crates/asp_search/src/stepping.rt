@@ -476,14 +476,16 @@ impl<'a, P: Propagator> Search<'a, P> {
     {
         let _program = self.compiled.program();
         self.last = None;
-        self.implied = 0;
+        self.implied = self.ahead;
+        self.ahead = 0;
         self.uses.clear(self.state.store());
         if self.state.is_clashing() {
             return self.clashed();
         }
         let before = self.state.trail().len();
         let met = self.state.propagate()?;
-        self.implied = self.state.trail().len().saturating_sub(before);
+        let more = self.state.trail().len().saturating_sub(before);
+        self.implied = self.implied.saturating_add(more);
         self.uses.note_given(self.state.store());
         match met {
             Some(id) => {

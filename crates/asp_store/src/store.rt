@@ -2,7 +2,7 @@
 ghost use Rattle.std.specs.Prelude.{◌≡◌, ◌+◌, ◌*◌, ◌^◌, ◌<◌, ◌≤◌, ◌≢◌, [], ℕ, length, count_by, IfOk, IfSome, IsSome, IsTrue, ◌↔◌, OnOk, OnErr, None, Some, slice_index, true, false, if◌then◌else◌};
 ghost use Rattle.std.specs.List.{All};
 ghost use Rattle.asp_trail.specs.Trails.{IsVar};
-ghost use Rattle.asp_store.specs.Keeping.{nogood_at, kept_at, is_extra, is_passing, unless_given, Thins};
+ghost use Rattle.asp_store.specs.Keeping.{nogood_at, kept_at, is_extra, is_local, is_passing, unless_given, Thins};
 ghost use Rattle.asp_store.specs.Fitting.{AreSmall, Extends};
 ghost use Rattle.asp_store.specs.Walking.{Propagates};
 ghost use Rattle.asp_store.specs.Storing.{Fits, IsAdded, removed, locked_at, recalled, AreActive, Loses};
@@ -10,7 +10,7 @@ ghost use Rattle.asp_store.specs.Storing.{Fits, IsAdded, removed, locked_at, rec
 use crate::given::{forget_gone, note_given};
 use crate::notes::Notes;
 use crate::propagation::{Propagated, propagate};
-use crate::slots::{is_given_slot, is_spare_slot, remove_slot, set_locked};
+use crate::slots::{is_given_slot, is_local_slot, is_spare_slot, remove_slot, set_locked};
 use crate::stored_nogood::{Kind, StoredNogood};
 use crate::unlisting::unlist;
 use crate::watches::Watches;
@@ -200,6 +200,21 @@ impl Store {
         ensures { IsTrue result ↔ id < length self.now.slots }
     {
         id < self.slots.len()
+    }
+
+    /// How many numbers were given out. That of each kept nogood is below this.
+    pub fn numbers(&self) -> usize
+        ensures { result ≡ length self.now.slots }
+    {
+        self.slots.len()
+    }
+
+    /// Whether the number has a kept nogood that holds for one search alone.
+    pub fn is_local(&self, id: NogoodId) -> bool
+        requires { id < length self.now.slots }
+        ensures { result ≡ is_local (kept_at self.now.slots id) }
+    {
+        is_local_slot(&self.slots[id])
     }
 
     /// The numbers of the nogoods that propagators gave, the oldest first, and of some that are gone.
