@@ -1,5 +1,5 @@
 //! Who searches a program from scratch.
-ghost use Rattle.std.specs.Prelude.{IfOk};
+ghost use Rattle.std.specs.Prelude.{IfOk, false};
 ghost use Rattle.asp_crew_laws.specs.Reports.{IsReport};
 ghost use Rattle.asp_crew_laws.specs.Proofs.{HasProof};
 

@@ -2,7 +2,7 @@
 //!
 //! Threads are made for a query and joined before its results are written. A query that is over soon is none of theirs: where a trial
 //! of one search ends within so few conflicts and answers, one search does it.
-ghost use Rattle.std.specs.Prelude.{◌≡◌, ◌≤◌, IfOk};
+ghost use Rattle.std.specs.Prelude.{◌≡◌, ◌≤◌, IfOk, false};
 ghost use Rattle.asp_crew_laws.specs.Reports.{IsReport};
 ghost use Rattle.asp_crew_laws.specs.Proofs.{HasProof};
 ghost use Rattle.asp_counts.specs.Counting.{keeping};
