@@ -5,7 +5,8 @@
 ghost use Rattle.std.specs.Prelude.{◌≡◌, ◌≤◌, IfOk, false};
 ghost use Rattle.asp_crew_laws.specs.Reports.{IsReport};
 ghost use Rattle.asp_crew_laws.specs.Proofs.{HasProof};
-ghost use Rattle.asp_counts.specs.Counting.{keeping};
+ghost use Rattle.asp_counts.specs.Counting.{joined, keeping};
+ghost use Rattle.asp_cli.specs.Values.{is_row};
 
 use asp_cli::Options;
 use asp_counts::counts::Counts;
@@ -75,7 +76,9 @@ fn close<W>(watch: &mut W)
 }
 
 // What was done before, and these.
-fn with_before(before: &Counts, counts: &Counts) -> Counts {
+fn with_before(before: &Counts, counts: &Counts) -> Counts
+    ensures { result ≡ joined before.now counts.now }
+{
     let mut sum = *before;
     sum.add(counts);
     sum
@@ -85,7 +88,8 @@ impl<W: Watch> Watch for InSeries<'_, W> {
     ghost use Rattle.std.proofs.Common.{◌∙◌, refl};
     ghost use Rattle.std.specs.Prelude.{◌≡◌};
 
-    ghost IsAfter = { λ p q. (q.watch.ghost_name ≡ p.watch.ghost_name) × (q.before ≡ p.before) × W.IsAfter p.watch.now q.watch.now };
+    ghost IsAfter = { λ p q. (q.watch.ghost_name ≡ p.watch.ghost_name) × (q.before ≡ p.before)
+        × W.IsAfter p.watch.now q.watch.now };
 
     fn tell(&mut self, counts: &Counts, best: Option<&Cost>) {
         self.watch.tell(&with_before(&self.before, counts), best);
@@ -214,6 +218,8 @@ impl<'a, R, G> Crew<'a, R, G> {
     pub fn new(rt: &'a R, gate: &'a G, options: &Options) -> Crew<'a, R, G>
         requires some { 1 ≤ options.now.workers }
         requires few { options.now.workers ≤ 64 }
+        ensures workers { result.workers ≡ options.now.workers }
+        ensures row { result.row ≡ is_row options.now.log }
     {
         Crew {
             rt,

@@ -32,7 +32,8 @@ fn status_at(end: SeriesEnd) -> Status
     }
 }
 
-/// Reads a program with queries, and answers each. The solver searches those from scratch of which a search that is kept can't say anything.
+/// Reads a program with queries, and answers each. The solver searches from scratch where no search is kept, or the one that is can't say
+/// anything.
 pub fn run_series<V: Solver, S: Source, K: Sink, W: Watch>(
     alloc: Global,
     solver: &V,
