@@ -8,8 +8,9 @@ query's literals assumed; in an optimisation the closing lines, cost and count. 
 no answer: some of the program's assumptions and the query's literals, by ascending atoms and each once, such that the program
 without its own assumptions and with these has no answer. A core that is called minimal must have answers without each of its
 literals, and with --core-min each has to be. As JSON, with names or without, each series has to say what the lines say. Before that one series is asked whose second query has no end for a test: the first
-one's results have to be there; one of 2,000 queries, by whose counts one search has to be kept for all of them; and of hard and of easy
-ones, by whose counts workers have to search the hard ones, and one search the easy ones.
+one's results have to be there; one of 2,000 queries, by whose counts one search has to be kept for all of them; one whose query, refuted by conflicts,
+comes again after others that have answers, and has to be refuted without a conflict then; and hard and easy ones, by whose counts workers have to
+search the hard ones, and one search the easy ones.
 """
 import json
 import random
@@ -171,6 +172,13 @@ def counted(words, source):
     return done, [{name: int(number) for name, number in (line.split(": ") for line in part.splitlines())} for part in parts]
 
 
+def counts_of(program, source):
+    """The counts of each query of a series, in which all answers are asked for, and the status."""
+    words = [word for word in program if word != "--core-min"]
+    done, counts = counted([*words, "--mode", "enum", "--quiet"], source)
+    return counts, done.returncode
+
+
 def minimised(text):
     """The program, which prefers few of its atoms 1 to 12."""
     return text.removesuffix("0\n") + f"2 0 12 {' '.join(f'{atom} 1' for atom in range(1, 13))}\n0\n"
@@ -197,15 +205,21 @@ def keeps_one(program):
     forced = range(14, 214)
     lines = ["asp 1 0 0", f"1 1 213 {' '.join(map(str, range(1, 214)))} 0 0", "1 0 0 0 2 1 2", *(f"1 0 0 0 1 {-atom}" for atom in forced), "0\n"]
     source = "\n".join(lines) + statement([1, 2]) * 1000 + statement([3, 1, 2]) * 1000 + "0\n"
-    words = [word for word in program if word != "--core-min"]
-    done, counts = counted([*words, "--mode", "enum"], source)
-    each = [(one["Decisions"], one["Propagated"]) for one in counts]
-    return len(each) == 2000 and done.returncode == 20 and all(decided <= 4 and (number == 0 or implied <= 10) for number, (decided, implied) in enumerate(each))
+    counts, status = counts_of(program, source)
+    few = (one["Decisions"] <= 4 and (number == 0 or one["Propagated"] <= 10) for number, one in enumerate(counts))
+    return len(counts) == 2000 and status == 20 and all(few)
+
+
+def keeps_what_it_learnt(program):
+    """Whether a query that was refuted by conflicts is refuted without one when it comes again, also after one with answers."""
+    counts, status = counts_of(program, pigeons(5) + "".join(map(statement, [[1], [-1], [1], [-1, 2], [1]])) + "0\n")
+    conflicts = [one["Conflicts"] for one in counts]
+    return status == 30 and len(conflicts) == 5 and conflicts[0] > 0 and conflicts[2] == conflicts[4] == 0
 
 
 def main():
     program = sys.argv[1].split()
-    if not keeps_one(program):
+    if not keeps_one(program) or not keeps_what_it_learnt(program):
         print("queries aren't asked of one search")
         return True
     fault = shares(program[0])

@@ -53,6 +53,7 @@ closes-by v w y leaf q n t g is held cube within now =
         entered = is.asking.entered;
         learnt = is.asking.learnt;
         unlimited = ap (λ (x : Task). x.limit) task ∙ is.asking.unlimited;
+        unbounded = is.asking.unbounded;
       };
       leaves = record {
         ready = ready;
@@ -85,6 +86,7 @@ asking-taken v w leaf s f is taken = record {
   entered = is.entered;
   learnt = is.learnt;
   unlimited = ap (λ (x : Task). x.limit) taken.task ∙ is.unlimited;
+  unbounded = is.unbounded;
 }
 
 pub amid-next : (u v w y : Booked) (leaf : ℕ) (s t : Searching) (f g : Units) → IsAmid u v s f → IsTaken Enum v w leaf s f → ClosesLeaf w y leaf t g → IsAmid u y t g

@@ -13,7 +13,7 @@ use Rattle.asp_core.specs.declared.event.Event.TheVariants as event
 use Rattle.asp_core.specs.declared.goal.Goal.{Goal}
 use Rattle.asp_core.specs.declared.goal.Goal.TheVariants as goal
 use Rattle.asp_core.specs.declared.task.Task.{Task}
-use Rattle.asp_core.specs.Boards.{Board, IsBoundBy, IsQuery, distinct, is_enough, showing, sought}
+use Rattle.asp_core.specs.Boards.{Board, IsQuery, distinct, is_enough, showing, sought}
 use Rattle.asp_core.specs.Events.{replay}
 use Rattle.asp_core.specs.Sorting.{answers_of, sorted_once}
 use Rattle.asp_core.proofs.ResultLaws.{HasResult-finished}
@@ -106,16 +106,13 @@ still-fresh v s f enum is none =
       mode_is = is.ready.mode_is;
       cube = is.entered;
       known = none-known b.answers s.known (recorded b.task.goal g agrees.recorded) none;
-      bound = no-less s.bound (bounded b.task.goal s.bound g agrees.bounded);
+      bound = is.unbounded;
       learnt = is.learnt;
     }
   where
     recorded : (x : Goal) → x ≡ goal.Enum → AreRecorded (sought x) (board v).task.program s.known (showing x (board v).task.program (board v).answers) →
         AllByRecursion (λ S. IsTrue (list_any (same_set S) (board v).answers)) s.known
     recorded x e h = subst (λ (y : Goal). AreRecorded (sought y) (board v).task.program s.known (showing y (board v).task.program (board v).answers)) e h
-
-    bounded : (x : Goal) (o : Option (List ℤ)) → x ≡ goal.Enum → IfSome o (IsBoundBy x (board v).task.program (board v).best) → IfSome o (λ c. ⊥)
-    bounded x o e h = subst (λ (y : Goal). IfSome o (IsBoundBy y (board v).task.program (board v).best)) e h
 
 -- ---- the units are given back
 back-answers : (v w : Booked) (f : Units) → w ≡ with_events v (given_back 0 f) → (board w).answers ≡ (board v).answers
@@ -137,6 +134,7 @@ module _ (v w : Booked) (s : Searching) (f : Units) (is : IsBegun v s) (leased :
     entered = is.fresh.cube;
     learnt = is.fresh.learnt;
     unlimited = ap (λ (t : Task). t.limit) (leased.task ∙ is.asks);
+    unbounded = is.fresh.bound;
   }
 
   -- all is worked off, and the units are back

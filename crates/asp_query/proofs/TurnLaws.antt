@@ -24,6 +24,7 @@ use Rattle.asp_propagate.specs.Useful.{IsSmaller}
 use Rattle.asp_core.specs.declared.task.Task.{Task}
 use Rattle.asp_core.specs.Boards.{distinct, is_answer, is_enough, lists, sought, wanted}
 use Rattle.asp_book.specs.Books.{Booked, board}
+use Rattle.asp_search.specs.Beside.{Propagates}
 use Rattle.asp_search_laws.specs.Searching.{Searching, used}
 use Rattle.asp_search_laws.specs.Steps.{HasSameTask, Records, Steps, burnt, IsStep}
 use Rattle.asp_search_laws.specs.declared.step.Step.{Step}
@@ -37,6 +38,7 @@ use Rattle.asp_crew.proofs.StepLaws.{fewer-by, fewer-used, less-same, may-record
 use Rattle.asp_crew.proofs.WorkLaws.{work-paid, work-found, work-restarted, work-decided}
 use Rattle.asp_query.specs.declared.leaf.Turn.{Turn}
 use Rattle.asp_query.specs.declared.leaf.Turn.TheVariants.{Open, Exhausted, Lost}
+use Rattle.asp_query.specs.Kept.{IsFree}
 use Rattle.asp_query.specs.Turns.{GoesOn, IsAsking, IsDelivered, IsExhausted, IsSettledBy, IsThrough, Turns}
 
 -- ---- what a step asks
@@ -54,6 +56,24 @@ asking-same v s t f g is same learnt at = record {
   entered = same.cube ∙ is.entered;
   learnt = learnt;
   unlimited = is.unlimited;
+  unbounded = same.bound ∙ is.unbounded;
+}
+
+-- whatever comes, it seeks all answers of the program
+pub asking-free : (v : Booked) (s : Searching) (f : Units) → IsAsking v s f → IsFree v.task.program s
+asking-free v s f is = record { program = is.ready.program; mode_is = is.ready.mode_is; bound = is.unbounded }
+
+free-same : (p : Program) (s t : Searching) → IsFree p s → t.program ≡ s.program → t.mode ≡ s.mode → t.bound ≡ s.bound → IsFree p t
+free-same p s t is program mode bound = record { program = program ∙ is.program; mode_is = mode ∙ is.mode_is; bound = bound ∙ is.bound }
+
+-- ---- what follows is implied
+pub ahead-same : (s t : Searching) → Propagates s t → HasSameTask s t
+ahead-same s t a = record {
+  program = ap (λ (x : Searching). x.program) a.ahead.same;
+  mode = ap (λ (x : Searching). x.mode) a.ahead.same;
+  cube = ap (λ (x : Searching). x.cube) a.ahead.same;
+  known = ap (λ (x : Searching). x.known) a.ahead.same;
+  bound = ap (λ (x : Searching). x.bound) a.ahead.same;
 }
 
 -- ---- by the answer
@@ -149,6 +169,7 @@ module _ (gives : Nogood → Type 0) (silent : List (Option Bool) → Type 0) (v
           entered = d.cube ∙ is.entered;
           learnt = small;
           unlimited = ap (λ (x : Task). x.limit) only.task ∙ is.unlimited;
+          unbounded = records.1 ∙ is.unbounded;
         };
         only = only;
         less =
@@ -163,7 +184,10 @@ module _ (gives : Nogood → Type 0) (silent : List (Option Bool) → Type 0) (v
   pub delivered : (w : Booked) (S : Atoms) → r ≡ step.Answer S → (how : Turn) → IsDelivered v w S how → Turns v w s t f g how
   delivered w S e Open d = answered w S e d.0 d.1
   delivered w S e Exhausted d = absurd d
-  delivered w S e Lost d = tt
+  delivered w S e Lost d =
+      let a = at (step.Answer S) e in
+      let records = subst (λ (m : Mode). Records m s t [] S) is.ready.mode_is a.records in
+      free-same v.task.program s t (asking-free v s f is) a.program a.mode records.1
 
 -- ---- steps in a row
 pub record IsAlong (v w : Booked) (t : Searching) (g : Units) : Type 0 where
@@ -176,16 +200,21 @@ along-begins v s f is = record { asking = is; only = unchanged v }
 pub along-on : (u v w : Booked) (s t : Searching) (f g : Units) → IsAlong u v s f → GoesOn v w s t f g → IsAlong u w t g
 along-on u v w s t f g a go = record { asking = go.asking; only = only-further u v w a.only go.only }
 
+pub along-ahead : (u v : Booked) (s t : Searching) (f : Units) → IsAlong u v s f → Propagates s t → IsAlong u v t f
+along-ahead u v s t f a p = record {
+  asking = asking-same v s t f f a.asking (ahead-same s t p) (subst (λ k. k < 2 ^ 64) (sym (ap (λ (x : Searching). x.learnt) p.ahead.same)) a.asking.learnt) a.asking.ready.work;
+  only = a.only;
+}
+
 -- where the search refutes these literals, the board excuses all that has them
-pub along-refuted : (u v w : Booked) (s t : Searching) (f g : Units) (n : List Literal) → IsAlong u v s f → GoesOn v w s t f g →
-    Settled t.program (used t) t.bound ([] ++ n) → IsThrough u w t g n
-along-refuted u v w s t f g n a go settled =
-    let is = go.asking in
+pub along-refuted : (u v : Booked) (t : Searching) (f : Units) (n : List Literal) → IsAlong u v t f → Settled t.program (used t) t.bound ([] ++ n) → IsThrough u v t f n
+along-refuted u v t f n a settled =
+    let is = a.asking in
     record {
       asking = is;
-      only = only-further u v w a.only go.only;
+      only = a.only;
       settled =
-          settled-excused (board w) t.known t.bound n is.ready.work.agrees
-          (subst (λ (p : Program). Settled p (used_up (sought (board w).task.goal) p t.known) t.bound n) (program-is Enum w t g is.ready)
-          (subst (λ (k : Option Reasoning). Settled t.program (used_up k t.program t.known) t.bound n) (sym (seeks Enum w t g is.ready)) settled));
+          settled-excused (board v) t.known t.bound n is.ready.work.agrees
+          (subst (λ (p : Program). Settled p (used_up (sought (board v).task.goal) p t.known) t.bound n) (program-is Enum v t f is.ready)
+          (subst (λ (k : Option Reasoning). Settled t.program (used_up k t.program t.known) t.bound n) (sym (seeks Enum v t f is.ready)) settled));
     }

@@ -16,6 +16,12 @@ use Rattle.asp_crew_laws.specs.declared.report.Report.{Report}
 use Rattle.asp_crew_laws.specs.Reports.{IsIdle, IsPlayed, IsWorkedOff}
 use Rattle.asp_crew.specs.Running.{QueryStands}
 
+-- It seeks all answers of the program, without a bound.
+pub record IsFree (p : Program) (s : Searching) : Type 0 where
+  pub program : s.program ≡ p
+  pub mode_is : s.mode ≡ Enum
+  pub bound : s.bound ≡ None
+
 -- It seeks all answers, has entered no literal, and knows no answer.
 pub record IsFresh (p : Program) (s : Searching) : Type 0 where
   pub program : s.program ≡ p

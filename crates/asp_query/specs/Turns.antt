@@ -13,6 +13,7 @@ use Rattle.asp_query.specs.declared.leaf.Left.{Left}
 use Rattle.asp_query.specs.declared.leaf.Left.TheVariants as left
 use Rattle.asp_query.specs.declared.leaf.Turn.{Turn}
 use Rattle.asp_query.specs.declared.leaf.Turn.TheVariants.{Open, Exhausted, Lost}
+use Rattle.asp_query.specs.Kept.{IsFree}
 
 -- The search has entered no literal, and goes with the book's board, which has no limit.
 pub record IsAsking (v : Booked) (s : Searching) (f : Units) : Type 0 where
@@ -20,12 +21,13 @@ pub record IsAsking (v : Booked) (s : Searching) (f : Units) : Type 0 where
   pub entered : s.cube ≡ Some []
   pub learnt : s.learnt < 2 ^ 64
   pub unlimited : v.task.limit ≡ 0
+  pub unbounded : s.bound ≡ None
 
 -- Each stable model that has these literals is excused.
 abbrev pub IsSettledBy : Booked → List Literal → Type 0
 IsSettledBy v n = HitsOnly (board v).task.program (is_excused (board v)) n
 
--- The answer was delivered, or nothing can be said.
+-- The answer was delivered, or it isn't the query's.
 abbrev pub IsDelivered : Booked → Booked → Atoms → Turn → Type 0
 IsDelivered v w S Open = OnlyRecords v w × IsRecorded Enum (board v) (board w) S
 IsDelivered v w S Exhausted = ⊥
@@ -47,7 +49,7 @@ pub record IsExhausted (v w : Booked) (t : Searching) (g : Units) : Type 0 where
 abbrev pub Turns : Booked → Booked → Searching → Searching → Units → Units → Turn → Type 0
 Turns v w s t f g Open = GoesOn v w s t f g
 Turns v w s t f g Exhausted = IsExhausted v w t g
-Turns v w s t f g Lost = Unit {0}
+Turns v w s t f g Lost = IsFree v.task.program t
 
 -- ---- all of them
 -- The leaf can be closed by these literals.
@@ -59,7 +61,7 @@ pub record IsThrough (v w : Booked) (t : Searching) (g : Units) (n : List Litera
 abbrev pub Leaves : Booked → Booked → Searching → Units → List Literal → Left → Type 0
 Leaves v w t g cube left.Exhausted = IsThrough v w t g []
 Leaves v w t g cube left.Refuted = IsThrough v w t g cube
-Leaves v w t g cube left.Lost = Unit {0}
+Leaves v w t g cube left.Lost = IsFree v.task.program t
 
 -- the leaf is closed
 pub record ClosesLeaf (v w : Booked) (leaf : ℕ) (t : Searching) (g : Units) : Type 0 where

@@ -3,7 +3,7 @@ ghost use Rattle.std.specs.Prelude.{◌≡◌, true, [], IfOk, IfSome};
 ghost use Rattle.asp_core.specs.Boards.{wanted};
 ghost use Rattle.asp_book.specs.Books.{board};
 ghost use Rattle.asp_crew.specs.Running.{IsAlone};
-ghost use Rattle.asp_query.specs.Kept.{IsBegun, IsFresh, IsOver, IsQueryReport};
+ghost use Rattle.asp_query.specs.Kept.{IsBegun, IsFree, IsFresh, IsOver, IsQueryReport};
 ghost use Rattle.asp_query.specs.Turns.{ClosesAll, IsAsking};
 
 use crate::leaf::work_off;
@@ -25,6 +25,7 @@ fn work_off_all<P: Propagator, W: Watch>(
     literals: &[i32],
     search: &mut Search<'_, P>,
     fuel: &mut Fuel,
+    floor: u64,
     counts: &mut Counts,
     watch: &mut W,
 ) -> Result<bool, AllocError>
@@ -32,13 +33,14 @@ fn work_off_all<P: Propagator, W: Watch>(
     requires wanted { literals.now ≡ wanted book.old.task }
     requires alone { IsAlone (board book.old) }
     ensures leaves { IfOk result (λ done. done ≡ true → ClosesAll book.old book.new search.new fuel.new) }
+    ensures free { IfOk result (λ done. IsFree book.old.task.program search.new) }
     ensures heard { W.IsAfter watch.old watch.new }
 {
     'leaves: loop {
         match book.take(0)? {
             None => return Ok(true),
             Some(leaf) => {
-                if !work_off(book, literals, leaf, search, fuel, counts, watch)? {
+                if !work_off(book, literals, leaf, search, fuel, floor, counts, watch)? {
                     return Ok(false);
                 }
             }
@@ -46,23 +48,25 @@ fn work_off_all<P: Propagator, W: Watch>(
     }
 }
 
-// Works the board off with so many units of the pool at most.
+// Works the board off with all units of the pool, but gives up when it took more of them than so many.
 fn search_all<P: Propagator, W: Watch>(
     book: &mut Book,
     literals: &[i32],
-    most: u64,
     search: &mut Search<'_, P>,
+    most: u64,
     counts: &mut Counts,
     watch: &mut W,
 ) -> Result<bool, AllocError>
     requires begun { IsBegun book.old search.old }
     requires wanted { literals.now ≡ wanted book.old.task }
     ensures ends { IfOk result (λ done. done ≡ true → IsOver book.old book.new search.new) }
+    ensures free { IfOk result (λ done. IsFree book.old.task.program search.new) }
     ensures heard { W.IsAfter watch.old watch.new }
 {
     let _lawful = book.journal();
-    let mut fuel = book.lease(0, most)?;
-    let done = work_off_all(book, literals, search, &mut fuel, counts, watch)?;
+    let mut fuel = book.lease(0, u64::MAX)?;
+    let floor = fuel.left().saturating_sub(most);
+    let done = work_off_all(book, literals, search, &mut fuel, floor, counts, watch)?;
     if done {
         book.back(0, fuel);
     }
@@ -70,23 +74,24 @@ fn search_all<P: Propagator, W: Watch>(
 }
 
 /// What is found of a query, whose book has just begun, by a search that knows no answer. None where nothing can be said of it by this
-/// search.
+/// search, or it takes more than so many units.
 pub(crate) fn answer<P: Propagator, W: Watch>(
     book: Book,
     literals: &[i32],
-    most: u64,
     search: &mut Search<'_, P>,
+    most: u64,
     counts: &mut Counts,
     watch: &mut W,
 ) -> Result<Option<Report>, AllocError>
     requires begun { IsBegun book search.old }
     requires wanted { literals.now ≡ wanted book.task }
     ensures report { IfOk result (λ o. IfSome o (IsQueryReport book.task)) }
+    ensures free { IfOk result (λ o. IsFree book.task.program search.new) }
     ensures fresh { IfOk result (λ o. IfSome o (λ r. r.results.answers ≡ [] → IsFresh book.task.program search.new)) }
     ensures heard { W.IsAfter watch.old watch.new }
 {
     let mut book = book;
-    match search_all(&mut book, literals, most, search, counts, watch) {
+    match search_all(&mut book, literals, search, most, counts, watch) {
         Ok(true) => Ok(Some(told(Mode::Enum, book, None, 0, false))),
         Ok(false) => {
             mem::drop(book);

@@ -1,7 +1,7 @@
 //! A search that is kept over several queries to a program.
 ghost use Rattle.std.specs.Prelude.{◌≡◌, ◌++◌, [], Some, IfOk, IfSome};
 ghost use Rattle.asp_core.specs.Boards.{IsQuery, wanted};
-ghost use Rattle.asp_query.specs.Kept.{IsBegun, IsFresh, IsQueryReport, all_stand, query_of};
+ghost use Rattle.asp_query.specs.Kept.{IsBegun, IsFree, IsFresh, IsQueryReport, all_stand, query_of};
 
 use crate::answer::answer;
 use asp_book::book::Book;
@@ -28,7 +28,7 @@ pub struct KeptSearch<'a> {
     compiled: &'a Compiled,
     /// How many units a query takes at most.
     most: u64,
-    /// A search that knows no answer. None before the first query, and where the one before found an answer or nothing could be said.
+    /// A search that knows no answer. None before the first query, and where memory was wanting.
     search: Option<Search<'a, Propagators<'a>>>,
 }
 
@@ -62,6 +62,25 @@ fn begin<'a>(
     let none: [Lit; 0] = [];
     search.enter(&none)?;
     Ok(search)
+}
+
+// The search, when it has forgotten the answers that it found.
+fn begun_again<'a>(
+    search: Search<'a, Propagators<'a>>,
+) -> Result<Search<'a, Propagators<'a>>, AllocError>
+    requires { IsFree search.program search }
+    ensures { IfOk result (IsFresh search.entry.program) }
+{
+    let mut search = search;
+    search.forget_answers();
+    let none: [Lit; 0] = [];
+    match search.enter(&none) {
+        Ok(()) => Ok(search),
+        Err(error) => {
+            mem::drop(search);
+            Err(error)
+        }
+    }
 }
 
 // Whether the query's atoms all stand in the program.
@@ -98,7 +117,7 @@ fn wanted_of(alloc: Global, compiled: &Compiled, query: &[i32]) -> Result<Vec<i3
 }
 
 impl<'a> KeptSearch<'a> {
-    /// Nothing was asked yet, and no search is made. A query will take so many units at most.
+    /// Nothing was asked yet, and no search is made. A query takes at most so many units of it.
     pub fn new(alloc: Global, compiled: &'a Compiled, most: u64) -> KeptSearch<'a>
         ensures { result ≡ compiled.now }
     {
@@ -152,19 +171,30 @@ impl<'a> KeptSearch<'a> {
         }
     }
 
-    // Keeps the search, if it found no answer.
+    // Keeps the search, when it has forgotten what it found.
+    fn keep_anew(&mut self, search: Search<'a, Propagators<'a>>)
+        requires { IsFree self.old search }
+        ensures { self.new ≡ self.old }
+    {
+        if let Ok(search) = begun_again(search) {
+            put(&mut self.search, search);
+        }
+    }
+
+    // Keeps the search. What it found is forgotten.
     fn keep(&mut self, search: Search<'a, Propagators<'a>>, report: &Report)
-        requires { report.now.results.answers ≡ [] → IsFresh self.old search }
+        requires free { IsFree self.old search }
+        requires fresh { report.now.results.answers ≡ [] → IsFresh self.old search }
         ensures { self.new ≡ self.old }
     {
         if report.results.answers.rows().len() == 0 {
             put(&mut self.search, search);
         } else {
-            mem::drop(search);
+            self.keep_anew(search);
         }
     }
 
-    // Asks the query of a search, and keeps that if it found no answer.
+    // Asks the query of a search, and keeps that.
     fn search<W: Watch>(
         &mut self,
         search: Search<'a, Propagators<'a>>,
@@ -181,13 +211,13 @@ impl<'a> KeptSearch<'a> {
         ensures heard { W.IsAfter watch.old watch.new }
     {
         let mut search = search;
-        match answer(book, literals, self.most, &mut search, counts, watch) {
+        match answer(book, literals, &mut search, self.most, counts, watch) {
             Ok(Some(report)) => {
                 self.keep(search, &report);
                 Ok(Some(report))
             }
             Ok(None) => {
-                mem::drop(search);
+                self.keep_anew(search);
                 Ok(None)
             }
             Err(error) => {

@@ -11,6 +11,7 @@ ghost use Rattle.asp_path.specs.Trees.{cube_of, status_of};
 ghost use Rattle.asp_core.specs.Boards.{is_answer, is_enough, lists, wanted};
 ghost use Rattle.asp_book.specs.Books.{board};
 ghost use Rattle.asp_search_laws.specs.Steps.{IsStep};
+ghost use Rattle.asp_query.specs.Kept.{IsFree};
 ghost use Rattle.asp_query.specs.Turns.{ClosesLeaf, IsAsking, IsDelivered, Leaves, Turns};
 
 use asp_book::book::Book;
@@ -102,13 +103,15 @@ fn advance<P: Propagator>(
     }
 }
 
-// Steps until nothing else is to be found, or nothing can be said of the query. After each the counts are told.
+// Steps until nothing else is to be found, or nothing can be said of the query, or fewer units are left than these. After each the counts
+// are told.
 fn run<P: Propagator, W: Watch>(
     book: &mut Book,
     literals: &[i32],
     cube: &[Lit],
     search: &mut Search<'_, P>,
     fuel: &mut Fuel,
+    floor: u64,
     counts: &mut Counts,
     watch: &mut W,
 ) -> Result<Left, AllocError>
@@ -118,15 +121,19 @@ fn run<P: Propagator, W: Watch>(
     ensures heard { W.IsAfter watch.old watch.new }
 {
     'steps: loop {
+        if fuel.left() < floor {
+            return Ok(Left::Lost);
+        }
+        search.propagate()?;
+        if search.refutes(cube) {
+            return Ok(Left::Refuted);
+        }
         let turn = advance(book, literals, search, fuel, counts)?;
         watch.tell(counts, None);
         match turn {
             Turn::Open => {}
             Turn::Exhausted => return Ok(Left::Exhausted),
             Turn::Lost => return Ok(Left::Lost),
-        }
-        if search.refutes(cube) {
-            return Ok(Left::Refuted);
         }
     }
 }
@@ -146,6 +153,7 @@ pub(crate) fn work_off<P: Propagator, W: Watch>(
     leaf: Leaf,
     search: &mut Search<'_, P>,
     fuel: &mut Fuel,
+    floor: u64,
     counts: &mut Counts,
     watch: &mut W,
 ) -> Result<bool, AllocError>
@@ -153,11 +161,21 @@ pub(crate) fn work_off<P: Propagator, W: Watch>(
     requires wanted { literals.now ≡ wanted book.old.task }
     requires held { status_of (board book.old).nodes leaf ≡ status.Held 0 }
     ensures leaves { IfOk result (λ done. done ≡ true → ClosesLeaf book.old book.new leaf search.new fuel.new) }
+    ensures free { IfOk result (λ done. IsFree book.old.task.program search.new) }
     ensures heard { W.IsAfter watch.old watch.new }
 {
     let cube = cube_of(book, leaf)?;
     search.decide_first(cube.as_slice())?;
-    match run(book, literals, cube.as_slice(), search, fuel, counts, watch)? {
+    match run(
+        book,
+        literals,
+        cube.as_slice(),
+        search,
+        fuel,
+        floor,
+        counts,
+        watch,
+    )? {
         Left::Exhausted => {
             let none: [Lit; 0] = [];
             book.close(0, leaf, &none)?;
