@@ -1,6 +1,6 @@
 #!/usr/bin/env bash
-# Runs the built program under `ulimit -v`, from 2 MB up in steps, on seven programs with one worker, and on three with 1, 4, 16
-# and 64. Each run must end out of memory, with status 33, its line and no output, or as it ends with ample memory: the same
+# Runs the built program under `ulimit -v`, from 2 MB up in steps, on seven programs with one worker, on three with 1, 4, 16
+# and 64, and on a query with four. Each run must end out of memory, with status 33, its line and no output, or as it ends with ample memory: the same
 # bytes and status. With --stream a run that is out of memory must have written a front of the lines of answers. A run that the loader ended, out of memory before `main`, is counted alone: `--help` doesn't come through
 # there either. Where the limit is small no thread can be made, and all workers are called on the main thread's stack.
 # Usage: tests/memory.sh [PROGRAM [STEP]]     (build/aspenum; STEP in KB, 64 where none is named)
@@ -143,4 +143,6 @@ for workers in 1 4 16 64; do
     squeeze "1024 answers, workers: $workers" "$room/free" --mode enum --workers "$workers"
     squeeze "pigeons, workers: $workers" "$room/pigeons" --workers "$workers"
 done
+{ pigeons 7 && printf '6 0\n0\n'; } > "$room/query"
+squeeze 'a query, workers: 4' "$room/query" --queries --workers 4
 [ "$failed" -eq 0 ]

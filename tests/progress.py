@@ -7,13 +7,14 @@ Programs of search.py, and an enumeration, run with the option and without it: s
 line stands beside the one before it: the conflicts or the answers have doubled, or in an optimisation a cheaper answer was
 found; and between the last line and the counts of --stats nothing that was due is missing. With two and with four workers there
 are lines too, where the run is long enough, whose conflicts and answers don't fall, and standard output is the same where it must
-be. A line of a series names the query that is being answered, and no other line names one. With --stats a series tells the counts
+be. A line of a series names the query that is being answered, and no other line names one; by four workers, too, no count falls
+from query to query. With --stats a series tells the counts
 of each query, and their sums."""
 import re
 import subprocess
 import sys
 
-from search import cheapest_trust, random_sat
+from search import cheapest_trust, random_sat, switched_sat
 
 LINE = re.compile(r"Progress: conflicts (\d+), decisions (\d+), restarts (\d+), nogoods (\d+), answers (\d+)(?:, best((?: -?\d+)+))?(?:, query (\d+))?")
 COUNT = re.compile(r"(\w+): (\d+)")
@@ -93,6 +94,21 @@ def series_faults():
         yield f"another query: {at}"
 
 
+def crew_series_faults():
+    """Two hard queries by four workers: over both of them no count falls, and there are lines of each."""
+    text, asked = switched_sat(200, 4.6, 2, 1)
+    source = (text + "".join(f"6 {len(query)} {' '.join(map(str, query))}\n" for query in asked) + "0\n").encode()
+    told = subprocess.run([sys.argv[1], "--progress", "--queries", "--workers", "4"], input=source, capture_output=True, timeout=120)
+    lines = [LINE.fullmatch(line) for line in told.stderr.decode().splitlines()]
+    fault = next(crew_faults(lines, 8), None)
+    if fault or told.returncode != 20:
+        yield f"status {told.returncode}, {fault}"
+        return
+    queries = [int(line[7] or 0) for line in lines]
+    if queries != sorted(queries) or set(queries) != {1, 2} or int(lines[-1][1]) < 4096:
+        yield f"other queries: {told.stderr.decode()}"
+
+
 def parts_faults():
     """A series with --stats: the counts of each of its queries, and their sums."""
     text = random_sat(60, 4.2, 1) + b"6 0\n6 1 1\n6 2 -1 2\n0\n"
@@ -117,11 +133,14 @@ def main():
     for fault in series_faults():
         print(f"failed: a series: {fault}")
         failed += 1
+    for fault in crew_series_faults():
+        print(f"failed: a series by four workers: {fault}")
+        failed += 1
     for row in ROWS:
         for fault in faults(*row):
             print(f"failed: {row[0]}: {fault}")
             failed += 1
-    print(f"progress: {len(ROWS) + 2} programs, {failed} faults")
+    print(f"progress: {len(ROWS) + 3} programs, {failed} faults")
     sys.exit(1 if failed else 0)
 
 

@@ -8,8 +8,9 @@ query's literals assumed; in an optimisation the closing lines, cost and count. 
 no answer: some of the program's assumptions and the query's literals, by ascending atoms and each once, such that the program
 without its own assumptions and with these has no answer. A core that is called minimal must have answers without each of its
 literals, and with --core-min each has to be. As JSON, with names or without, each series has to say what the lines say. Before that one series is asked whose second query has no end for a test: the first
-one's results have to be there; and one of 2,000 queries, by whose counts one search has to be kept for all of them; and one whose query, refuted by conflicts,
-comes again after others that have answers, and has to be refuted without a conflict then.
+one's results have to be there; one of 2,000 queries, by whose counts one search has to be kept for all of them; one whose query, refuted by conflicts,
+comes again after others that have answers, and has to be refuted without a conflict then; and hard and easy ones, by whose counts workers have to
+search the hard ones, and one search the easy ones.
 """
 import json
 import random
@@ -21,6 +22,7 @@ import threading
 import compare
 import json_output
 import reference
+from search import switched_sat
 
 
 def queries(random_, text):
@@ -163,12 +165,38 @@ def sends_on(program):
     return told == ["Query: 1\n", "Optimization:\n", "OPTIMUM FOUND\n", "Models: 1\n"] and goes_on
 
 
+def counted(words, source):
+    """A run of a series, and the counts of each of its queries."""
+    done = compare.run([*words, "--queries", "--stats"], source)
+    parts = re.split("^Quer.*\n", done.stderr.decode(), flags=re.M)[1:-1]
+    return done, [{name: int(number) for name, number in (line.split(": ") for line in part.splitlines())} for part in parts]
+
+
 def counts_of(program, source):
     """The counts of each query of a series, in which all answers are asked for, and the status."""
     words = [word for word in program if word != "--core-min"]
-    done = compare.run([*words, "--queries", "--mode", "enum", "--quiet", "--stats"], source)
-    parts = re.split("^Quer.*\n", done.stderr.decode(), flags=re.M)[1:-1]
-    return [{name: int(count) for name, count in (line.split(": ") for line in part.splitlines())} for part in parts], done.returncode
+    done, counts = counted([*words, "--mode", "enum", "--quiet"], source)
+    return counts, done.returncode
+
+
+def minimised(text):
+    """The program, which prefers few of its atoms 1 to 12."""
+    return text.removesuffix("0\n") + f"2 0 12 {' '.join(f'{atom} 1' for atom in range(1, 13))}\n0\n"
+
+
+def shares(program):
+    """Whether workers search each hard query, by other counts than one thread has, and one search the easy ones, by the same counts; the results are those of one thread."""
+    hard, queries = switched_sat(180, 4.6, 3, 1)
+    easy, some = switched_sat(20, 4.6, 3, 1)
+    rows = [("enum", hard, queries, True), ("opt", minimised(hard), queries, True), ("opt", minimised(easy), some, False)]
+    for mode, text, asked, is_hard in rows:
+        source = text + "".join(map(statement, asked)) + "0\n"
+        (alone, one), (crew, four) = (counted([program, "--mode", mode, "--workers", workers], source) for workers in ("1", "4"))
+        if (alone.stdout, alone.returncode) != (crew.stdout, crew.returncode) or len(one) != len(asked):
+            return f"{mode}: {alone.stdout!r}, by four workers {crew.stdout!r}"
+        if [counts != others for counts, others in zip(one, four)] != [is_hard] * len(asked):
+            return f"{mode}: {one}, of four workers {four}"
+    return None
 
 
 def keeps_one(program):
@@ -193,6 +221,10 @@ def main():
     program = sys.argv[1].split()
     if not keeps_one(program) or not keeps_what_it_learnt(program):
         print("queries aren't asked of one search")
+        return True
+    fault = shares(program[0])
+    if fault:
+        print(fault)
         return True
     if not sends_on(program):
         print("a query's results aren't sent on before the next begins")

@@ -48,6 +48,18 @@ def random_sat(atoms, ratio, seed):
     return ("\n".join([*lines, "0"]) + "\n").encode()
 
 
+def switched_sat(atoms, ratio, count, seed):
+    """So many random instances of 3-SAT over the same atoms, each behind an atom of its own that switches it on, and a query for each, with that one on alone."""
+    choose = random.Random(seed)
+    switches = range(atoms + 1, atoms + 1 + count)
+    lines = ["asp 1 0 0", f"1 1 {atoms + count} {' '.join(map(str, range(1, atoms + 1 + count)))} 0 0"]
+    for switch in switches:
+        for _ in range(int(atoms * ratio)):
+            chosen = choose.sample(range(1, atoms + 1), 3)
+            lines.append(f"1 0 0 0 4 {switch} " + " ".join(str(it * choose.choice((1, -1))) for it in chosen))
+    return "\n".join([*lines, "0"]) + "\n", [[it if it == on else -it for it in switches] for on in switches]
+
+
 def pigeons(count):
     """So many pigeons, and one hole fewer."""
     holes = count - 1

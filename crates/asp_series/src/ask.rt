@@ -5,10 +5,10 @@ ghost use Rattle.asp_read.specs.Queries.{with_query};
 ghost use Rattle.asp_series.specs.Asking.{IsSought, Searches};
 ghost use Rattle.asp_series.specs.Series.{about};
 
+use crate::solver::Solver;
 use asp_cli::Options;
 use asp_counts::counts::Counts;
 use asp_counts::watch::Watch;
-use asp_crew::alone::solve_alone;
 use asp_crew::report::Report;
 use asp_model::program::Program;
 use asp_model::results::Ask;
@@ -19,8 +19,8 @@ use std::alloc::{AllocError, Global};
 use std::mem;
 
 /// A program that is asked.
-#[derive(Clone, Copy)]
-pub struct Asking<'a> {
+#[derive_where(Clone, Copy)]
+pub struct Asking<'a, S> {
     /// The options of the run.
     pub options: &'a Options,
     /// The program.
@@ -29,6 +29,10 @@ pub struct Asking<'a> {
     pub literals: &'a [i32],
     /// The units that there are.
     pub units: u64,
+    /// Who searches it from scratch.
+    pub solver: &'a S,
+    /// The conflicts that a search met in vain which was given up.
+    pub wasted: u64,
 }
 
 /// What was searched, and what was found.
@@ -53,18 +57,27 @@ pub fn about(options: &Options, program: &Program) -> Ask
 }
 
 // Searches what was prepared.
-fn search<W: Watch>(
+fn search<S: Solver, W: Watch>(
     alloc: Global,
+    asking: &Asking<'_, S>,
     prepared: Prepared,
     ask: Ask,
-    units: u64,
     counts: &mut Counts,
     watch: &mut W,
 ) -> Result<Sought, AllocError>
-    ensures searches { IfOk result (Searches prepared ask units) }
+    requires solver { S.may asking.now.solver.now }
+    ensures searches { IfOk result (Searches prepared ask asking.now.units) }
     ensures heard { W.IsAfter watch.old watch.new }
 {
-    match solve_alone(alloc, &prepared.compiled, ask, units, false, counts, watch) {
+    match asking.solver.solve(
+        alloc,
+        &prepared.compiled,
+        ask,
+        asking.units,
+        asking.wasted,
+        counts,
+        watch,
+    ) {
         Ok(report) => Ok(Sought {
             prepared: Some(prepared),
             report,
@@ -77,45 +90,38 @@ fn search<W: Watch>(
 }
 
 // Searches what is left of the program. Nothing but memory can be wanting: consequences aren't sought.
-fn search_left<W: Watch>(
+fn search_left<S: Solver, W: Watch>(
     alloc: Global,
-    options: &Options,
+    asking: &Asking<'_, S>,
     program: Program,
     ask: Ask,
-    units: u64,
     counts: &mut Counts,
     watch: &mut W,
 ) -> Result<Sought, AllocError>
-    requires { IsSound program }
-    ensures sought { IfOk result (IsSought options.now program ask units) }
+    requires solver { S.may asking.now.solver.now }
+    requires sound { IsSound program }
+    ensures sought { IfOk result (IsSought asking.now.options.now program ask asking.now.units) }
     ensures heard { W.IsAfter watch.old watch.new }
 {
-    match ready(alloc, options, program) {
-        Ok(prepared) => search(alloc, prepared, ask, units, counts, watch),
+    match ready(alloc, asking.options, program) {
+        Ok(prepared) => search(alloc, asking, prepared, ask, counts, watch),
         Err(_) => Err(AllocError),
     }
 }
 
 /// Searches what is left of the program with the literals assumed.
-pub fn seek<W: Watch>(
+pub fn seek<S: Solver, W: Watch>(
     alloc: Global,
-    asking: &Asking,
+    asking: &Asking<'_, S>,
     ask: Ask,
     counts: &mut Counts,
     watch: &mut W,
 ) -> Result<Sought, AllocError>
-    requires { IsSound (with_query asking.now.program.now asking.now.literals.now) }
+    requires solver { S.may asking.now.solver.now }
+    requires sound { IsSound (with_query asking.now.program.now asking.now.literals.now) }
     ensures sought { IfOk result (IsSought asking.now.options.now (with_query asking.now.program.now asking.now.literals.now) ask asking.now.units) }
     ensures heard { W.IsAfter watch.old watch.new }
 {
     let asked = with_query(alloc, asking.program, asking.literals)?;
-    search_left(
-        alloc,
-        asking.options,
-        asked,
-        ask,
-        asking.units,
-        counts,
-        watch,
-    )
+    search_left(alloc, asking, asked, ask, counts, watch)
 }

@@ -7,6 +7,7 @@ ghost use Rattle.asp_series.specs.Series.{is_refuted};
 
 use crate::ask::{Asking, seek};
 use crate::literals::{all_assumed, without};
+use crate::solver::Solver;
 use asp_counts::counts::Counts;
 use asp_counts::watch::Watch;
 use asp_model::program::Program;
@@ -62,12 +63,13 @@ fn verdict_of(results: &Results<Sets>) -> Verdict
 }
 
 // Seeks one model that has all of the literals.
-fn try_others<W: Watch>(
+fn try_others<S: Solver, W: Watch>(
     alloc: Global,
-    asking: &Asking,
+    asking: &Asking<'_, S>,
     counts: &mut Counts,
     watch: &mut W,
 ) -> Result<Tried, AllocError>
+    requires solver { S.may asking.now.solver.now }
     requires askable { IsAskable asking.now.options.now asking.now.program.now asking.now.literals.now }
     requires none { asking.now.program.now.assumptions ≡ [] }
     ensures tries { IfOk result (Tries asking.now.program.now asking.now.literals.now asking.now.units) }
@@ -100,14 +102,15 @@ pub struct Shrinking {
 }
 
 // Leaves out the literal if the others suffice.
-fn shrink<W: Watch>(
+fn shrink<S: Solver, W: Watch>(
     alloc: Global,
-    asking: &Asking,
+    asking: &Asking<'_, S>,
     literal: i32,
     state: &mut Shrinking,
     counts: &mut Counts,
     watch: &mut W,
 ) -> Result<(), AllocError>
+    requires solver { S.may asking.now.solver.now }
     requires plain { seeks_consequences (Some asking.now.options.now.mode) ≡ false }
     requires sound { IsSoundWith asking.now.program.now state.old.core }
     ensures shrinks { OnOk result (Shrinks asking.now.program.now literal state.old state.new) }
@@ -122,6 +125,8 @@ fn shrink<W: Watch>(
         program: asking.program,
         literals: others.as_slice(),
         units: state.left,
+        solver: asking.solver,
+        wasted: 0,
     };
     let tried = try_others(alloc, &rest, counts, watch)?;
     state.left -= tried.spent;
@@ -134,13 +139,14 @@ fn shrink<W: Watch>(
 }
 
 // Leaves out each of the literals in turn, if the others suffice.
-fn shrink_all<W: Watch>(
+fn shrink_all<S: Solver, W: Watch>(
     alloc: Global,
-    asking: &Asking,
+    asking: &Asking<'_, S>,
     state: &mut Shrinking,
     counts: &mut Counts,
     watch: &mut W,
 ) -> Result<(), AllocError>
+    requires solver { S.may asking.now.solver.now }
     requires plain { seeks_consequences (Some asking.now.options.now.mode) ≡ false }
     requires sound { IsSoundWith asking.now.program.now asking.now.literals.now }
     requires start { IsShrunk asking.now.program.now asking.now.literals.now state.old.left [] state.old }
@@ -154,12 +160,13 @@ fn shrink_all<W: Watch>(
 }
 
 // A core from the literals of which none can be left out, as far as the units suffice to show it.
-fn least_core<W: Watch>(
+fn least_core<S: Solver, W: Watch>(
     alloc: Global,
-    asking: &Asking,
+    asking: &Asking<'_, S>,
     counts: &mut Counts,
     watch: &mut W,
 ) -> Result<Core, AllocError>
+    requires solver { S.may asking.now.solver.now }
     requires plain { seeks_consequences (Some asking.now.options.now.mode) ≡ false }
     requires sound { IsSoundWith asking.now.program.now asking.now.literals.now }
     requires none { Refutes asking.now.program.now asking.now.literals.now }
@@ -190,13 +197,14 @@ fn bare(alloc: Global, program: &Program) -> Result<Program, AllocError>
 }
 
 // The core of a query that has no answer, with `--core-min` as little as may be.
-fn least_reason<W: Watch>(
+fn least_reason<S: Solver, W: Watch>(
     alloc: Global,
-    asking: &Asking,
+    asking: &Asking<'_, S>,
     literals: &[i32],
     counts: &mut Counts,
     watch: &mut W,
 ) -> Result<Core, AllocError>
+    requires solver { S.may asking.now.solver.now }
     requires askable { IsAskable asking.now.options.now asking.now.program.now asking.now.literals.now }
     requires none { Refutes asking.now.program.now (asking.now.program.now.assumptions ++ asking.now.literals.now) }
     requires assumed { AreSame (asking.now.program.now.assumptions ++ asking.now.literals.now) literals.now }
@@ -209,6 +217,8 @@ fn least_reason<W: Watch>(
         program: &bare,
         literals,
         units: asking.units,
+        solver: asking.solver,
+        wasted: 0,
     };
     let core = least_core(alloc, &all, counts, watch);
     mem::drop(bare);
@@ -216,12 +226,13 @@ fn least_reason<W: Watch>(
 }
 
 // The core of a query that has no answer: all that it assumes, or with `--core-min` as little as may be.
-fn reason<W: Watch>(
+fn reason<S: Solver, W: Watch>(
     alloc: Global,
-    asking: &Asking,
+    asking: &Asking<'_, S>,
     counts: &mut Counts,
     watch: &mut W,
 ) -> Result<Core, AllocError>
+    requires solver { S.may asking.now.solver.now }
     requires askable { IsAskable asking.now.options.now asking.now.program.now asking.now.literals.now }
     requires none { Refutes asking.now.program.now (asking.now.program.now.assumptions ++ asking.now.literals.now) }
     ensures reason { IfOk result (λ c. IsReason asking.now.options.now.core_min asking.now.program.now (asking.now.program.now.assumptions ++ asking.now.literals.now) true asking.now.units (Some c)) }
@@ -254,13 +265,14 @@ fn is_refuted(results: &Results<Sets>) -> bool
 }
 
 /// The core of a query, where it has no answer.
-pub fn core_of<W: Watch>(
+pub fn core_of<S: Solver, W: Watch>(
     alloc: Global,
-    asking: &Asking,
+    asking: &Asking<'_, S>,
     results: &Results<Sets>,
     counts: &mut Counts,
     watch: &mut W,
 ) -> Result<Option<Core>, AllocError>
+    requires solver { S.may asking.now.solver.now }
     requires askable { IsAskable asking.now.options.now asking.now.program.now asking.now.literals.now }
     requires none { is_refuted results.now ≡ true → Refutes asking.now.program.now (asking.now.program.now.assumptions ++ asking.now.literals.now) }
     ensures reason { IfOk result (IsReason asking.now.options.now.core_min asking.now.program.now (asking.now.program.now.assumptions ++ asking.now.literals.now) (is_refuted results.now) asking.now.units) }

@@ -8,6 +8,7 @@ ghost use Rattle.asp_series.specs.Asking.{IsAskable, IsFoundBy, IsKeptOf};
 ghost use Rattle.asp_series.specs.Series.{IsAsked, asks_all};
 
 use crate::ask::{Asking, Sought, about, seek};
+use crate::solver::Solver;
 use asp_cli::Options;
 use asp_compile::compile::compile;
 use asp_counts::counts::Counts;
@@ -38,8 +39,8 @@ pub fn whole(alloc: Global, program: &Program) -> Result<Compiled, AllocError>
 }
 
 // What the search that is kept says of a query, where there is one.
-fn ask_kept<W: Watch>(
-    asking: &Asking,
+fn ask_kept<S, W: Watch>(
+    asking: &Asking<'_, S>,
     kept: &mut Option<KeptSearch<'_>>,
     counts: &mut Counts,
     watch: &mut W,
@@ -60,28 +61,52 @@ fn ask_kept<W: Watch>(
     }
 }
 
-/// What is found of a query: by the search that is kept, where there is one that can say something of it, or else from scratch.
-pub fn find<W: Watch>(
+// What is found of a query from scratch, where a search that is kept may have been given up since there were so many conflicts.
+fn find_anew<S: Solver, W: Watch>(
     alloc: Global,
-    asking: &Asking,
+    asking: &Asking<'_, S>,
+    before: u64,
+    counts: &mut Counts,
+    watch: &mut W,
+) -> Result<Sought, AllocError>
+    requires solver { S.may asking.now.solver.now }
+    requires askable { IsAskable asking.now.options.now asking.now.program.now asking.now.literals.now }
+    ensures found { IfOk result (IsFoundBy asking.now.options.now asking.now.program.now asking.now.literals.now asking.now.units) }
+    ensures heard { W.IsAfter watch.old watch.new }
+{
+    let anew = Asking {
+        options: asking.options,
+        program: asking.program,
+        literals: asking.literals,
+        units: asking.units,
+        solver: asking.solver,
+        wasted: counts.conflicts.saturating_sub(before),
+    };
+    let ask = about(asking.options, asking.program);
+    seek(alloc, &anew, ask, counts, watch)
+}
+
+/// What is found of a query: by the search that is kept, where there is one that can say something of it, or else from scratch.
+pub fn find<S: Solver, W: Watch>(
+    alloc: Global,
+    asking: &Asking<'_, S>,
     kept: &mut Option<KeptSearch<'_>>,
     counts: &mut Counts,
     watch: &mut W,
 ) -> Result<Sought, AllocError>
+    requires solver { S.may asking.now.solver.now }
     requires askable { IsAskable asking.now.options.now asking.now.program.now asking.now.literals.now }
     requires kept { IsKeptOf asking.now.options.now asking.now.program.now kept.old }
     ensures kept { IsKeptOf asking.now.options.now asking.now.program.now kept.new }
     ensures found { IfOk result (IsFoundBy asking.now.options.now asking.now.program.now asking.now.literals.now asking.now.units) }
     ensures heard { W.IsAfter watch.old watch.new }
 {
+    let before = counts.conflicts;
     match ask_kept(asking, kept, counts, watch)? {
         Some(report) => Ok(Sought {
             prepared: None,
             report,
         }),
-        None => {
-            let ask = about(asking.options, asking.program);
-            seek(alloc, asking, ask, counts, watch)
-        }
+        None => find_anew(alloc, asking, before, counts, watch),
     }
 }

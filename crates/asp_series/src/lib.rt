@@ -7,3 +7,4 @@ pub mod end;
 pub mod find;
 pub mod literals;
 pub mod series;
+pub mod solver;

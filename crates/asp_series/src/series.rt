@@ -10,6 +10,7 @@ use crate::ask::{Asking, Sought};
 use crate::cores::{Core, core_of};
 use crate::end::SeriesEnd;
 use crate::find::{asks_all, find, whole};
+use crate::solver::Solver;
 use asp_cli::{Form, Options};
 use asp_counts::counts::Counts;
 use asp_counts::watch::Watch;
@@ -64,13 +65,14 @@ fn spent_in(core: &Option<Core>) -> u64
 }
 
 // What is found of a query, and its core where it has no answer.
-fn answer<W: Watch>(
+fn answer<S: Solver, W: Watch>(
     alloc: Global,
-    asking: &Asking,
+    asking: &Asking<'_, S>,
     kept: &mut Option<KeptSearch<'_>>,
     counts: &mut Counts,
     watch: &mut W,
 ) -> Result<Reply, AllocError>
+    requires solver { S.may asking.now.solver.now }
     requires askable { IsAskable asking.now.options.now asking.now.program.now asking.now.literals.now }
     requires kept { IsKeptOf asking.now.options.now asking.now.program.now kept.old }
     ensures kept { IsKeptOf asking.now.options.now asking.now.program.now kept.new }
@@ -83,6 +85,8 @@ fn answer<W: Watch>(
         program: asking.program,
         literals: asking.literals,
         units: asking.units - sought.report.spent,
+        solver: asking.solver,
+        wasted: 0,
     };
     match core_of(alloc, &rest, &sought.report.results, counts, watch) {
         Ok(core) => {
@@ -149,9 +153,9 @@ fn searched_in<'a>(program: &'a Program, prepared: &'a Option<Prepared>) -> &'a 
 }
 
 // Writes the text of a query's results.
-fn write_reply<K: Sink>(
+fn write_reply<K: Sink, S>(
     alloc: Global,
-    asking: &Asking,
+    asking: &Asking<'_, S>,
     number: u64,
     reply: &Reply,
     sink: &mut K,
@@ -175,9 +179,9 @@ fn write_reply<K: Sink>(
 }
 
 // Writes the text of a query's results, and flushes the sink.
-fn tell<K: Sink>(
+fn tell<K: Sink, S>(
     alloc: Global,
-    asking: &Asking,
+    asking: &Asking<'_, S>,
     number: u64,
     reply: &Reply,
     sink: &mut K,
@@ -218,9 +222,9 @@ fn gone_on(course: Course, number: u64, reply: &Reply) -> Course
 }
 
 // Writes what was found of a query, and says what follows.
-fn hand_over<K: Sink>(
+fn hand_over<K: Sink, S>(
     alloc: Global,
-    asking: &Asking,
+    asking: &Asking<'_, S>,
     number: u64,
     course: Course,
     reply: &Reply,
@@ -243,9 +247,9 @@ fn hand_over<K: Sink>(
 }
 
 // Asks one query. What was found is written, and sent on, before the next begins.
-fn step<K: Sink, W: Watch>(
+fn step<K: Sink, S: Solver, W: Watch>(
     alloc: Global,
-    asking: &Asking,
+    asking: &Asking<'_, S>,
     kept: &mut Option<KeptSearch<'_>>,
     number: u64,
     course: Course,
@@ -253,6 +257,7 @@ fn step<K: Sink, W: Watch>(
     counts: &mut Counts,
     watch: &mut W,
 ) -> Result<Course, SeriesEnd>
+    requires solver { S.may asking.now.solver.now }
     requires askable { IsAskable asking.now.options.now asking.now.program.now asking.now.literals.now }
     requires kept { IsKeptOf asking.now.options.now asking.now.program.now kept.old }
     requires units { course.left ≡ asking.now.units }
@@ -279,8 +284,9 @@ fn step<K: Sink, W: Watch>(
 }
 
 // Asks the queries, one after another, up to one that isn't finished.
-fn ask_in_turn<K: Sink, W: Watch>(
+fn ask_in_turn<K: Sink, S: Solver, W: Watch>(
     alloc: Global,
+    solver: &S,
     options: &Options,
     series: &Series,
     kept: &mut Option<KeptSearch<'_>>,
@@ -288,6 +294,7 @@ fn ask_in_turn<K: Sink, W: Watch>(
     counts: &mut Counts,
     watch: &mut W,
 ) -> Result<Course, SeriesEnd>
+    requires solver { S.may solver.now }
     requires plain { seeks_consequences (Some options.now.mode) ≡ false }
     requires sound { IsSoundSeries series.now }
     requires kept { IsKeptOf options.now series.now.program kept.old }
@@ -310,6 +317,8 @@ fn ask_in_turn<K: Sink, W: Watch>(
             program: &series.program,
             literals: queries[i].as_slice(),
             units: course.left,
+            solver,
+            wasted: 0,
         };
         match step(
             alloc,
@@ -335,8 +344,9 @@ fn ask_in_turn<K: Sink, W: Watch>(
 }
 
 // The same by one search of the whole program, which is kept.
-fn ask_whole<K: Sink, W: Watch>(
+fn ask_whole<K: Sink, S: Solver, W: Watch>(
     alloc: Global,
+    solver: &S,
     options: &Options,
     series: &Series,
     compiled: &Compiled,
@@ -344,6 +354,7 @@ fn ask_whole<K: Sink, W: Watch>(
     counts: &mut Counts,
     watch: &mut W,
 ) -> Result<Course, SeriesEnd>
+    requires solver { S.may solver.now }
     requires plain { seeks_consequences (Some options.now.mode) ≡ false }
     requires sound { IsSoundSeries series.now }
     requires all { asks_all options.now series.now.program ≡ true }
@@ -353,21 +364,25 @@ fn ask_whole<K: Sink, W: Watch>(
     ensures closed { IfErr result (λ s. TellsClosed s (K.is_closed sink.new)) }
     ensures heard { W.IsAfter watch.old watch.new }
 {
-    let mut kept = Some(KeptSearch::new(alloc, compiled));
-    let course = ask_in_turn(alloc, options, series, &mut kept, sink, counts, watch);
+    let mut kept = Some(KeptSearch::new(alloc, compiled, solver.patience(compiled)));
+    let course = ask_in_turn(
+        alloc, solver, options, series, &mut kept, sink, counts, watch,
+    );
     mem::drop(kept);
     course
 }
 
 // The same, each from scratch.
-fn ask_anew<K: Sink, W: Watch>(
+fn ask_anew<K: Sink, S: Solver, W: Watch>(
     alloc: Global,
+    solver: &S,
     options: &Options,
     series: &Series,
     sink: &mut K,
     counts: &mut Counts,
     watch: &mut W,
 ) -> Result<Course, SeriesEnd>
+    requires solver { S.may solver.now }
     requires plain { seeks_consequences (Some options.now.mode) ≡ false }
     requires sound { IsSoundSeries series.now }
     ensures asked { IfOk result (IsThrough options.now series.now.program series.now.queries (K.held sink.old) (K.held sink.new) (K.faults sink.old) (K.faults sink.new)) }
@@ -376,20 +391,24 @@ fn ask_anew<K: Sink, W: Watch>(
     ensures heard { W.IsAfter watch.old watch.new }
 {
     let mut none = None;
-    let course = ask_in_turn(alloc, options, series, &mut none, sink, counts, watch);
+    let course = ask_in_turn(
+        alloc, solver, options, series, &mut none, sink, counts, watch,
+    );
     mem::drop(none);
     course
 }
 
 // Asks the queries. Where all answers are asked for one search is kept over them.
-fn ask_each<K: Sink, W: Watch>(
+fn ask_each<K: Sink, S: Solver, W: Watch>(
     alloc: Global,
+    solver: &S,
     options: &Options,
     series: &Series,
     sink: &mut K,
     counts: &mut Counts,
     watch: &mut W,
 ) -> Result<Course, SeriesEnd>
+    requires solver { S.may solver.now }
     requires plain { seeks_consequences (Some options.now.mode) ≡ false }
     requires sound { IsSoundSeries series.now }
     ensures asked { IfOk result (IsThrough options.now series.now.program series.now.queries (K.held sink.old) (K.held sink.new) (K.faults sink.old) (K.faults sink.new)) }
@@ -398,11 +417,13 @@ fn ask_each<K: Sink, W: Watch>(
     ensures heard { W.IsAfter watch.old watch.new }
 {
     if !asks_all(options, &series.program) {
-        return ask_anew(alloc, options, series, sink, counts, watch);
+        return ask_anew(alloc, solver, options, series, sink, counts, watch);
     }
     match whole(alloc, &series.program) {
         Ok(compiled) => {
-            let course = ask_whole(alloc, options, series, &compiled, sink, counts, watch);
+            let course = ask_whole(
+                alloc, solver, options, series, &compiled, sink, counts, watch,
+            );
             mem::drop(compiled);
             course
         }
@@ -481,14 +502,16 @@ fn close<K: Sink>(form: Form, mode: Mode, course: Course, sink: &mut K) -> Serie
 }
 
 // Asks the queries, one after another, and writes what stands after the last one's text.
-fn ask_and_close<K: Sink, W: Watch>(
+fn ask_and_close<K: Sink, S: Solver, W: Watch>(
     alloc: Global,
+    solver: &S,
     options: &Options,
     series: &Series,
     sink: &mut K,
     counts: &mut Counts,
     watch: &mut W,
 ) -> SeriesEnd
+    requires solver { S.may solver.now }
     requires plain { seeks_consequences (Some options.now.mode) ≡ false }
     requires sound { IsSoundSeries series.now }
     ensures asks { AsksOn options.now series.now (K.held sink.old) (K.held sink.new) (K.faults sink.old) (K.faults sink.new) result }
@@ -496,7 +519,7 @@ fn ask_and_close<K: Sink, W: Watch>(
     ensures closed { TellsClosed result (K.is_closed sink.new) }
     ensures heard { W.IsAfter watch.old watch.new }
 {
-    match ask_each(alloc, options, series, sink, counts, watch) {
+    match ask_each(alloc, solver, options, series, sink, counts, watch) {
         Ok(course) => {
             watch.end_series();
             close(
@@ -512,14 +535,16 @@ fn ask_and_close<K: Sink, W: Watch>(
 
 /// Asks the queries of a series, one after another, and says how that ended. What was found of a query is written, and sent on, before
 /// the next begins.
-pub fn ask_all<K: Sink, W: Watch>(
+pub fn ask_all<K: Sink, S: Solver, W: Watch>(
     alloc: Global,
+    solver: &S,
     options: &Options,
     series: &Series,
     sink: &mut K,
     counts: &mut Counts,
     watch: &mut W,
 ) -> SeriesEnd
+    requires solver { S.may solver.now }
     requires plain { seeks_consequences (Some options.now.mode) ≡ false }
     requires sound { IsSoundSeries series.now }
     ensures asks { Asks options.now series.now (K.held sink.old) (K.held sink.new) (K.faults sink.old) (K.faults sink.new) result }
@@ -529,7 +554,7 @@ pub fn ask_all<K: Sink, W: Watch>(
     ensures heard { W.IsAfter watch.old watch.new }
 {
     match write_opening(options.form, sink) {
-        Ok(()) => ask_and_close(alloc, options, series, sink, counts, watch),
+        Ok(()) => ask_and_close(alloc, solver, options, series, sink, counts, watch),
         Err(Failed) => SeriesEnd::WriteFault(sink.is_closed()),
     }
 }

@@ -519,11 +519,11 @@ pub record Misuses (a : Around) (o : Outcome) : Type 0 where
   pub untouched : IsUntouched a o.report
   pub unasked : IsUnasked a
 
--- No workers are started: one search does it all with one worker, of queries and for a stream, and none where parts are asked for.
+-- No workers search the program: one search does it all with one worker and for a stream, queries are asked in turn, and parts aren't searched.
 abbrev pub is_alone : Options → Bool
 is_alone given = (given.workers == 1) || is_some given.split || given.queries || given.stream
 
--- how many workers are started
+-- how many workers search the program
 abbrev pub crew_of : Options → ℕ
 crew_of given = if is_alone given then 0 else given.workers
 

@@ -14,6 +14,7 @@ ghost use Rattle.asp_top.specs.Whole.{IsWhole};
 ghost use Rattle.asp_model.specs.declared.program.Program.{Program};
 
 use crate::counts::Tally;
+use crate::crew::Crew;
 use crate::deliver::failed;
 use crate::notes::{note_status, write};
 use crate::parts::divide;
@@ -28,6 +29,7 @@ use asp_cli::{CliError, Options, WordFault, page_back, page_front, usage, versio
 use asp_counts::watch::Watch;
 use asp_io::{Failed, Sink, Source};
 use asp_prepare::prepared::Prepared;
+use asp_series::solver::{Alone, Solver};
 use asp_team::gate::Gate;
 use std::alloc::Global;
 use std::mem;
@@ -123,14 +125,16 @@ fn outcome_alone<S: Source, K: Sink, W: Watch>(
 }
 
 // The outcome of a run after the words that starts no workers, with queries or without.
-fn outcome<S: Source, K: Sink, W: Watch>(
+fn outcome<V: Solver, S: Source, K: Sink, W: Watch>(
     alloc: Global,
+    solver: &V,
     options: &Options,
     source: &mut S,
     sink: &mut K,
     tally: &mut Tally,
     watch: &mut W,
 ) -> Outcome
+    requires solver { V.may solver.now }
     requires ring { IsRing options.now.make }
     requires parts { IsPartCount options.now.split }
     requires apart { IsApart options.now }
@@ -144,7 +148,7 @@ fn outcome<S: Source, K: Sink, W: Watch>(
     ensures heard { W.IsAfter watch.old watch.new }
 {
     if options.queries {
-        run_series(alloc, options, source, sink, watch)
+        run_series(alloc, solver, options, source, sink, watch)
     } else {
         outcome_alone(alloc, options, source, sink, tally, watch)
     }
@@ -184,6 +188,50 @@ fn outcome_by_crew<R: Threads + Wait + Sync, S: Source, K: Sink, G: Gate + Sync,
     }
 }
 
+// A run after the words with one search; queries that are searched from scratch are the solver's.
+fn run_with<V: Solver, S: Source, K: Sink, N: Sink>(
+    alloc: Global,
+    solver: &V,
+    options: &Options,
+    source: &mut S,
+    sink: &mut K,
+    notes: &mut N,
+) -> Outcome
+    requires solver { V.may solver.now }
+    requires ring { IsRing options.now.make }
+    requires parts { IsPartCount options.now.split }
+    requires apart { IsApart options.now }
+    requires asking { IsAsking options.now }
+    ensures runs { RunsBy options.now.queries options.now (around (S.left source.old) (S.left source.new) (S.faults source.old) (S.faults source.new)
+        (K.held sink.old) (K.held sink.new) (K.faults sink.old) (K.faults sink.new)) result }
+    ensures flushed { TellsFaults (K.faults sink.old) (K.faults sink.new) result.status }
+    ensures sent { IsSentOn result.status (K.is_sent sink.new) }
+    ensures closed { TellsClosed result.status (K.is_closed sink.new) }
+    ensures notes { NotesRun 0 options.now (N.held notes.old) (N.held notes.new) (N.faults notes.old) (N.faults notes.new) result }
+{
+    let mut tally = Tally::new(alloc);
+    let mut progress = Progress::new(notes, options);
+    let outcome = outcome(
+        alloc,
+        solver,
+        options,
+        source,
+        sink,
+        &mut tally,
+        &mut progress,
+    );
+    let Progress {
+        notes,
+        on: _,
+        state,
+        last: _,
+        parts: _,
+        before: _,
+    } = progress;
+    end(notes, state, options, &tally, &outcome);
+    outcome
+}
+
 /// A run after the words. It reads a program from the source, or makes a ring, solves it with one search, writes the text
 /// of its results to the sink, or of the proof that was asked for, and flushes it; where that was asked for, it writes each answer as
 /// soon as no smaller one can come. Where parts are asked for, it divides the program and writes these. The notes get a line for each status
@@ -208,19 +256,7 @@ pub fn run_alone<S: Source, K: Sink, N: Sink>(
     ensures closed { TellsClosed result.status (K.is_closed sink.new) }
     ensures notes { NotesRun 0 options.now (N.held notes.old) (N.held notes.new) (N.faults notes.old) (N.faults notes.new) result }
 {
-    let mut tally = Tally::new(alloc);
-    let mut progress = Progress::new(notes, options);
-    let outcome = outcome(alloc, options, source, sink, &mut tally, &mut progress);
-    let Progress {
-        notes,
-        on: _,
-        state,
-        last: _,
-        parts: _,
-        before: _,
-    } = progress;
-    end(notes, state, options, &tally, &outcome);
-    outcome
+    run_with(alloc, &Alone, options, source, sink, notes)
 }
 
 // A run after the words with workers side by side.
@@ -262,14 +298,43 @@ fn run_by_crew<R: Threads + Wait + Sync, S: Source, K: Sink, N: Sink, G: Gate + 
     outcome
 }
 
-// Whether no workers are started: with one worker, of queries, for a stream, and where nothing is solved.
+// Whether a program isn't searched by workers: with one, of queries, for a stream, and where nothing is solved.
 fn is_alone(options: &Options) -> bool
     ensures { result ≡ is_alone options.now }
 {
     options.workers == 1 || options.split.is_some() || options.queries || options.stream
 }
 
-// A run after the words, with as many workers as are asked for. One search starts no thread.
+// A run after the words with one search. With several workers queries that are searched from scratch are theirs.
+fn run_in_turn<R: Threads + Wait + Sync, S: Source, K: Sink, N: Sink, G: Gate + Sync>(
+    rt: &R,
+    alloc: Global,
+    options: &Options,
+    source: &mut S,
+    sink: &mut K,
+    notes: &mut N,
+    gate: &G,
+) -> Outcome
+    requires ring { IsRing options.now.make }
+    requires crew { IsCrew options.now.workers }
+    requires parts { IsPartCount options.now.split }
+    requires apart { IsApart options.now }
+    requires asking { IsAsking options.now }
+    ensures runs { RunsBy options.now.queries options.now (around (S.left source.old) (S.left source.new) (S.faults source.old) (S.faults source.new)
+        (K.held sink.old) (K.held sink.new) (K.faults sink.old) (K.faults sink.new)) result }
+    ensures flushed { TellsFaults (K.faults sink.old) (K.faults sink.new) result.status }
+    ensures sent { IsSentOn result.status (K.is_sent sink.new) }
+    ensures closed { TellsClosed result.status (K.is_closed sink.new) }
+    ensures notes { NotesRun 0 options.now (N.held notes.old) (N.held notes.new) (N.faults notes.old) (N.faults notes.new) result }
+{
+    if options.workers == 1 {
+        return run_alone(alloc, options, source, sink, notes);
+    }
+    let crew = Crew::new(rt, gate, options);
+    run_with(alloc, &crew, options, source, sink, notes)
+}
+
+// A run after the words, with as many workers as are asked for.
 fn run_given<R: Threads + Wait + Sync, S: Source, K: Sink, N: Sink, G: Gate + Sync>(
     rt: &R,
     alloc: Global,
@@ -292,7 +357,7 @@ fn run_given<R: Threads + Wait + Sync, S: Source, K: Sink, N: Sink, G: Gate + Sy
     ensures notes { NotesRun (crew_of options.now) options.now (N.held notes.old) (N.held notes.new) (N.faults notes.old) (N.faults notes.new) result }
 {
     if is_alone(options) {
-        run_alone(alloc, options, source, sink, notes)
+        run_in_turn(rt, alloc, options, source, sink, notes, gate)
     } else {
         run_by_crew(rt, alloc, options, source, sink, notes, gate)
     }

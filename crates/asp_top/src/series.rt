@@ -14,6 +14,7 @@ use asp_io::{Sink, Source};
 use asp_read::read_queries;
 use asp_series::end::SeriesEnd;
 use asp_series::series::ask_all;
+use asp_series::solver::Solver;
 use std::alloc::Global;
 use std::mem;
 
@@ -31,14 +32,17 @@ fn status_at(end: SeriesEnd) -> Status
     }
 }
 
-/// Reads a program with queries, and answers each.
-pub fn run_series<S: Source, K: Sink, W: Watch>(
+/// Reads a program with queries, and answers each. The solver searches from scratch where no search is kept, or the one that is can't say
+/// anything.
+pub fn run_series<V: Solver, S: Source, K: Sink, W: Watch>(
     alloc: Global,
+    solver: &V,
     options: &Options,
     source: &mut S,
     sink: &mut K,
     watch: &mut W,
 ) -> Outcome
+    requires solver { V.may solver.now }
     requires plain { seeks_consequences (Some options.now.mode) ≡ false }
     ensures runs { RunsSeries options.now (around (S.left source.old) (S.left source.new) (S.faults source.old) (S.faults source.new)
         (K.held sink.old) (K.held sink.new) (K.faults sink.old) (K.faults sink.new)) result }
@@ -50,7 +54,7 @@ pub fn run_series<S: Source, K: Sink, W: Watch>(
     let mut counts = Counts::new();
     match read_queries(alloc, source) {
         Ok(series) => {
-            let end = ask_all(alloc, options, &series, sink, &mut counts, watch);
+            let end = ask_all(alloc, solver, options, &series, sink, &mut counts, watch);
             mem::drop(series);
             failed(status_at(end))
         }

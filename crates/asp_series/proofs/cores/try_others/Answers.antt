@@ -1,8 +1,8 @@
 use Rattle.asp_series.proofs.AskLaws.{tries-by}
 use Rattle.asp_series.proofs.cores.try_others.Goals as goal
 
-pub seek-requires : goal.seek-requires
-seek-requires g c = c.requires.askable.sound
+pub seek-requires-clause-sound : goal.seek-requires-clause-sound
+seek-requires-clause-sound g c = c.requires.askable.sound
 
 pub returns-clause-tries : goal.returns-clause-tries
 returns-clause-tries g c =

@@ -1,8 +1,8 @@
 use Rattle.asp_top.proofs.SeriesLaws.{runs-program, runs-queries}
 use Rattle.asp_top.proofs.runs.outcome.Goals as goal
 
-pub run_series-requires : goal.run_series-requires
-run_series-requires g c = record { plain = (c.requires.asking c.if-options.true).7 }
+pub run_series-requires-clause-plain : goal.run_series-requires-clause-plain
+run_series-requires-clause-plain g c = (c.requires.asking c.if-options.true).7
 
 pub returns-then-options-clause-runs : goal.returns-then-options-clause-runs
 returns-then-options-clause-runs g c = runs-queries c.args.options.now.queries c.args.options.now _ _ c.if-options.true c.run_series.ensures.runs

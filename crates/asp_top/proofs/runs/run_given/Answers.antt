@@ -6,7 +6,7 @@ use Rattle.asp_top.proofs.SeriesLaws.{runs-program}
 use Rattle.asp_top.specs.Runs.{is_alone}
 use Rattle.asp_top.proofs.runs.run_given.Goals as goal
 
--- where workers are started the program is solved at once, and there are no queries
+-- where workers search the program it is solved at once, and there are no queries
 no-stream : (o : Options) → is_alone o ≡ false → o.stream ≡ false
 no-stream o e = second-false ((o.workers == 1) || is_some o.split || o.queries) o.stream e
 
@@ -25,7 +25,7 @@ pub run_by_crew-requires-clause-at_once : goal.run_by_crew-requires-clause-at_on
 run_by_crew-requires-clause-at_once g c = λ _ _. no-stream c.args.options.now (sym c.is_alone.ensures ∙ c.if-is_alone.false)
 
 pub returns-then-is_alone-clause-notes : goal.returns-then-is_alone-clause-notes
-returns-then-is_alone-clause-notes g c = rw (sym c.is_alone.ensures ∙ c.if-is_alone.true) c.run_alone.ensures.notes
+returns-then-is_alone-clause-notes g c = rw (sym c.is_alone.ensures ∙ c.if-is_alone.true) c.run_in_turn.ensures.notes
 
 pub returns-else-is_alone-clause-runs : goal.returns-else-is_alone-clause-runs
 returns-else-is_alone-clause-runs g c =
