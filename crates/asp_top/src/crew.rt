@@ -1,7 +1,7 @@
 //! Workers side by side, who search a query of a series from scratch.
 //!
-//! Threads are made for a query and joined before its results are written. A query that is over soon is none of theirs: where a trial
-//! of one search ends within so few conflicts and answers, one search does it.
+//! Threads are made for a query and joined before its results are written. Where a search is kept over the queries, one that it finishes
+//! within so few conflicts is none of theirs.
 ghost use Rattle.std.specs.Prelude.{◌≡◌, ◌≤◌, IfOk, false};
 ghost use Rattle.asp_crew_laws.specs.Reports.{IsReport};
 ghost use Rattle.asp_crew_laws.specs.Proofs.{HasProof};
@@ -10,13 +10,12 @@ ghost use Rattle.asp_cli.specs.Values.{is_row};
 
 use asp_cli::Options;
 use asp_counts::counts::Counts;
-use asp_counts::watch::{Unwatched, Watch};
-use asp_crew::alone::solve_alone;
+use asp_counts::watch::Watch;
 use asp_crew::report::Report;
 use asp_model::cost::Cost;
-use asp_model::results::{Ask, End};
+use asp_model::results::Ask;
 use asp_series::solver::Solver;
-use asp_team::gate::Gate;
+use asp_team::gate::OpenGate;
 use asp_team::many;
 use asp_team::many::{Deeds, Plan};
 use asp_vars::compiled::Compiled;
@@ -25,22 +24,17 @@ use std::mem;
 use std::sync::Wait;
 use std::thread::Threads;
 
-/// How many conflicts one search meets before workers begin.
+/// How many conflicts a search that is kept may meet before workers begin.
 const PATIENCE: u64 = 1000;
 
 /// For so many atoms and bodies a search that is kept may meet one conflict more: so long it takes to begin from scratch.
 const SHARE: u64 = 8;
 
-/// How many answers a trial looks for, where all are asked for.
-const TRIED: u64 = 1000;
-
-/// Workers side by side.
+/// Workers side by side, who pass no gate: what a bound of this impl may do isn't known to be for other threads, too.
 #[derive(Drop)]
-pub struct Crew<'a, R, G> {
+pub struct Crew<'a, R> {
     /// Who makes threads.
     pub rt: &'a R,
-    /// What each worker passes before it takes on a path.
-    pub gate: &'a G,
     /// How many there are.
     pub workers: u32,
     /// Whether they tell one another nogoods by a row of slots.
@@ -119,69 +113,9 @@ fn emptied(counts: &Counts) -> Counts
     }
 }
 
-// What a trial looks for.
-fn tried(ask: Ask) -> Ask {
-    Ask {
-        models: if ask.models == 0 { TRIED } else { ask.models },
-        ..ask
-    }
-}
-
-// Whether a search ended with all that was asked for.
-fn is_over(ask: Ask, end: End) -> bool {
-    match end {
-        End::Finished => true,
-        End::Limited => ask.models != 0,
-        End::Unfinished => false,
-    }
-}
-
-// Whether one search doesn't have soon all that is asked for. Then its trial is counted.
-fn fails(
-    alloc: Global,
-    compiled: &Compiled,
-    ask: Ask,
-    counts: &mut Counts,
-) -> Result<bool, AllocError> {
-    let mut trial = emptied(counts);
-    let report = solve_alone(
-        alloc,
-        compiled,
-        tried(ask),
-        PATIENCE,
-        false,
-        &mut trial,
-        &mut Unwatched,
-    )?;
-    let is_over = is_over(ask, report.results.end);
-    mem::drop(report);
-    if !is_over {
-        *counts = trial;
-    }
-    Ok(!is_over)
-}
-
-// Whether workers are to search: where a search was given up, or a trial fails.
-fn is_hard(
-    alloc: Global,
-    compiled: &Compiled,
-    ask: Ask,
-    units: u64,
-    wasted: u64,
-    counts: &mut Counts,
-) -> Result<bool, AllocError> {
-    if wasted >= PATIENCE {
-        return Ok(true);
-    }
-    if units <= PATIENCE {
-        return Ok(false);
-    }
-    fails(alloc, compiled, ask, counts)
-}
-
 // What workers find. What they do is added to what was done before.
-fn search<R: Threads + Wait + Sync, G: Gate + Sync, W: Watch>(
-    crew: &Crew<'_, R, G>,
+fn search<R: Threads + Wait + Sync, W: Watch>(
+    crew: &Crew<'_, R>,
     alloc: Global,
     compiled: &Compiled,
     ask: Ask,
@@ -204,7 +138,7 @@ fn search<R: Threads + Wait + Sync, G: Gate + Sync, W: Watch>(
     *counts = emptied(counts);
     let before = InSeries::new(watch, *counts);
     let (report, told) = many::solve(
-        crew.rt, alloc, compiled, plan, crew.gate, &mut deeds, before,
+        crew.rt, alloc, compiled, plan, &OpenGate, &mut deeds, before,
     );
     let InSeries { watch, before: _ } = told;
     close(watch);
@@ -213,9 +147,9 @@ fn search<R: Threads + Wait + Sync, G: Gate + Sync, W: Watch>(
     report
 }
 
-impl<'a, R, G> Crew<'a, R, G> {
+impl<'a, R> Crew<'a, R> {
     /// As many as are asked for.
-    pub fn new(rt: &'a R, gate: &'a G, options: &Options) -> Crew<'a, R, G>
+    pub fn new(rt: &'a R, options: &Options) -> Crew<'a, R>
         requires some { 1 ≤ options.now.workers }
         requires few { options.now.workers ≤ 64 }
         ensures workers { result.workers ≡ options.now.workers }
@@ -223,17 +157,16 @@ impl<'a, R, G> Crew<'a, R, G> {
     {
         Crew {
             rt,
-            gate,
             workers: options.workers,
             row: options.log.is_row(),
         }
     }
 }
 
-impl<R: Threads + Wait + Sync, G: Gate + Sync> Solver for Crew<'_, R, G> {
+impl<R: Threads + Wait + Sync> Solver for Crew<'_, R> {
     ghost use denote.Param.Send.{IsSync};
 
-    ghost may = { λ crew. IsSync R.row × IsSync G.row };
+    ghost may = { λ crew. IsSync R.row };
 
     fn patience(&self, compiled: &Compiled) -> u64 {
         let size = compiled.atom_count().saturating_add(compiled.body_count());
@@ -246,13 +179,9 @@ impl<R: Threads + Wait + Sync, G: Gate + Sync> Solver for Crew<'_, R, G> {
         compiled: &Compiled,
         ask: Ask,
         units: u64,
-        wasted: u64,
         counts: &mut Counts,
         watch: &mut W,
     ) -> Result<Report, AllocError> {
-        if !is_hard(alloc, compiled, ask, units, wasted, counts)? {
-            return solve_alone(alloc, compiled, ask, units, false, counts, watch);
-        }
         search(self, alloc, compiled, ask, units, counts, watch)
     }
 }
