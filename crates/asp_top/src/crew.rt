@@ -16,7 +16,7 @@ use asp_crew::report::Report;
 use asp_model::cost::Cost;
 use asp_model::results::{Ask, End};
 use asp_series::solver::Solver;
-use asp_team::gate::Gate;
+use asp_team::gate::OpenGate;
 use asp_team::many;
 use asp_team::many::{Deeds, Plan};
 use asp_vars::compiled::Compiled;
@@ -34,13 +34,11 @@ const SHARE: u64 = 8;
 /// How many answers a trial looks for, where all are asked for.
 const TRIED: u64 = 1000;
 
-/// Workers side by side.
+/// Workers side by side, who pass no gate: what a bound of this impl may do isn't known to be for other threads, too.
 #[derive(Drop)]
-pub struct Crew<'a, R, G> {
+pub struct Crew<'a, R> {
     /// Who makes threads.
     pub rt: &'a R,
-    /// What each worker passes before it takes on a path.
-    pub gate: &'a G,
     /// How many there are.
     pub workers: u32,
     /// Whether they tell one another nogoods by a row of slots.
@@ -180,8 +178,8 @@ fn is_hard(
 }
 
 // What workers find. What they do is added to what was done before.
-fn search<R: Threads + Wait + Sync, G: Gate + Sync, W: Watch>(
-    crew: &Crew<'_, R, G>,
+fn search<R: Threads + Wait + Sync, W: Watch>(
+    crew: &Crew<'_, R>,
     alloc: Global,
     compiled: &Compiled,
     ask: Ask,
@@ -204,7 +202,7 @@ fn search<R: Threads + Wait + Sync, G: Gate + Sync, W: Watch>(
     *counts = emptied(counts);
     let before = InSeries::new(watch, *counts);
     let (report, told) = many::solve(
-        crew.rt, alloc, compiled, plan, crew.gate, &mut deeds, before,
+        crew.rt, alloc, compiled, plan, &OpenGate, &mut deeds, before,
     );
     let InSeries { watch, before: _ } = told;
     close(watch);
@@ -213,9 +211,9 @@ fn search<R: Threads + Wait + Sync, G: Gate + Sync, W: Watch>(
     report
 }
 
-impl<'a, R, G> Crew<'a, R, G> {
+impl<'a, R> Crew<'a, R> {
     /// As many as are asked for.
-    pub fn new(rt: &'a R, gate: &'a G, options: &Options) -> Crew<'a, R, G>
+    pub fn new(rt: &'a R, options: &Options) -> Crew<'a, R>
         requires some { 1 ≤ options.now.workers }
         requires few { options.now.workers ≤ 64 }
         ensures workers { result.workers ≡ options.now.workers }
@@ -223,17 +221,16 @@ impl<'a, R, G> Crew<'a, R, G> {
     {
         Crew {
             rt,
-            gate,
             workers: options.workers,
             row: options.log.is_row(),
         }
     }
 }
 
-impl<R: Threads + Wait + Sync, G: Gate + Sync> Solver for Crew<'_, R, G> {
+impl<R: Threads + Wait + Sync> Solver for Crew<'_, R> {
     ghost use denote.Param.Send.{IsSync};
 
-    ghost may = { λ crew. IsSync R.row × IsSync G.row };
+    ghost may = { λ crew. IsSync R.row };
 
     fn patience(&self, compiled: &Compiled) -> u64 {
         let size = compiled.atom_count().saturating_add(compiled.body_count());

@@ -306,14 +306,13 @@ fn is_alone(options: &Options) -> bool
 }
 
 // A run after the words with one search. With several workers queries that are searched from scratch are theirs.
-fn run_in_turn<R: Threads + Wait + Sync, S: Source, K: Sink, N: Sink, G: Gate + Sync>(
+fn run_in_turn<R: Threads + Wait + Sync, S: Source, K: Sink, N: Sink>(
     rt: &R,
     alloc: Global,
     options: &Options,
     source: &mut S,
     sink: &mut K,
     notes: &mut N,
-    gate: &G,
 ) -> Outcome
     requires ring { IsRing options.now.make }
     requires crew { IsCrew options.now.workers }
@@ -330,7 +329,7 @@ fn run_in_turn<R: Threads + Wait + Sync, S: Source, K: Sink, N: Sink, G: Gate + 
     if options.workers == 1 {
         return run_alone(alloc, options, source, sink, notes);
     }
-    let crew = Crew::new(rt, gate, options);
+    let crew = Crew::new(rt, options);
     run_with(alloc, &crew, options, source, sink, notes)
 }
 
@@ -357,7 +356,7 @@ fn run_given<R: Threads + Wait + Sync, S: Source, K: Sink, N: Sink, G: Gate + Sy
     ensures notes { NotesRun (crew_of options.now) options.now (N.held notes.old) (N.held notes.new) (N.faults notes.old) (N.faults notes.new) result }
 {
     if is_alone(options) {
-        run_in_turn(rt, alloc, options, source, sink, notes, gate)
+        run_in_turn(rt, alloc, options, source, sink, notes)
     } else {
         run_by_crew(rt, alloc, options, source, sink, notes, gate)
     }
