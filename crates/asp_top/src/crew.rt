@@ -30,7 +30,7 @@ const PATIENCE: u64 = 1000;
 /// For so many atoms and bodies a search that is kept may meet one conflict more: so long it takes to begin from scratch.
 const SHARE: u64 = 8;
 
-/// Workers side by side, who pass no gate: what a bound of this impl may do isn't known to be for other threads, too.
+/// Workers side by side. They pass no gate: only a function's own bounds can go to other threads, and not those of an `impl`.
 #[derive(Drop)]
 pub struct Crew<'a, R> {
     /// Who makes threads.
