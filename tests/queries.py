@@ -188,7 +188,7 @@ def shares(program):
     """Whether workers search each hard query, by other counts than one thread has, and one search the easy ones, by the same counts; the results are those of one thread."""
     hard, queries = switched_sat(180, 4.6, 3, 1)
     easy, some = switched_sat(20, 4.6, 3, 1)
-    rows = [("enum", hard, queries, True), ("opt", minimised(hard), queries, True), ("enum", easy, some, False)]
+    rows = [("enum", hard, queries, True), ("opt", minimised(hard), queries, True), ("opt", minimised(easy), some, False)]
     for mode, text, asked, is_hard in rows:
         source = text + "".join(map(statement, asked)) + "0\n"
         (alone, one), (crew, four) = (counted([program, "--mode", mode, "--workers", workers], source) for workers in ("1", "4"))

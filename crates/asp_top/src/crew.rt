@@ -1,7 +1,7 @@
 //! Workers side by side, who search a query of a series from scratch.
 //!
-//! Threads are made for a query and joined before its results are written. Where a search is kept over the queries, one that it finishes
-//! within so few conflicts is none of theirs.
+//! Threads are made for a query and joined before its results are written. An easy query is none of theirs: where a search is kept over
+//! the queries, one that it finishes within so few conflicts; and of a small program one that a trial of one search finishes.
 ghost use Rattle.std.specs.Prelude.{◌≡◌, ◌≤◌, IfOk, false};
 ghost use Rattle.asp_crew_laws.specs.Reports.{IsReport};
 ghost use Rattle.asp_crew_laws.specs.Proofs.{HasProof};
@@ -10,10 +10,11 @@ ghost use Rattle.asp_cli.specs.Values.{is_row};
 
 use asp_cli::Options;
 use asp_counts::counts::Counts;
-use asp_counts::watch::Watch;
+use asp_counts::watch::{Unwatched, Watch};
+use asp_crew::alone::solve_alone;
 use asp_crew::report::Report;
 use asp_model::cost::Cost;
-use asp_model::results::Ask;
+use asp_model::results::{Ask, End};
 use asp_series::solver::Solver;
 use asp_team::gate::OpenGate;
 use asp_team::many;
@@ -24,8 +25,14 @@ use std::mem;
 use std::sync::Wait;
 use std::thread::Threads;
 
-/// How many conflicts a search that is kept may meet before workers begin.
+/// How many conflicts a search that is kept, or a trial, may meet before workers begin.
 const PATIENCE: u64 = 1000;
+
+/// A program is small with fewer atoms and bodies than this: to begin a search of it takes less than threads do.
+const SMALL: u64 = 1000;
+
+/// How many answers a trial looks for, where all are asked for.
+const TRIED: u64 = 1000;
 
 /// For so many atoms and bodies a search that is kept may meet one conflict more: so long it takes to begin from scratch.
 const SHARE: u64 = 8;
@@ -113,6 +120,70 @@ fn emptied(counts: &Counts) -> Counts
     }
 }
 
+// How many atoms and bodies a program has.
+fn size(compiled: &Compiled) -> u64 {
+    compiled.atom_count().saturating_add(compiled.body_count()) as u64
+}
+
+// What a trial looks for.
+fn tried(ask: Ask) -> Ask {
+    Ask {
+        models: if ask.models == 0 { TRIED } else { ask.models },
+        ..ask
+    }
+}
+
+// Whether a search ended with all that was asked for.
+fn is_over(ask: Ask, end: End) -> bool {
+    match end {
+        End::Finished => true,
+        End::Limited => ask.models != 0,
+        End::Unfinished => false,
+    }
+}
+
+// Whether one search doesn't have soon all that is asked for. Then its trial is counted.
+fn fails(
+    alloc: Global,
+    compiled: &Compiled,
+    ask: Ask,
+    counts: &mut Counts,
+) -> Result<bool, AllocError> {
+    let mut trial = emptied(counts);
+    let report = solve_alone(
+        alloc,
+        compiled,
+        tried(ask),
+        PATIENCE,
+        false,
+        &mut trial,
+        &mut Unwatched,
+    )?;
+    let is_over = is_over(ask, report.results.end);
+    mem::drop(report);
+    if !is_over {
+        *counts = trial;
+    }
+    Ok(!is_over)
+}
+
+// Whether workers are to search: a program that isn't small, and one of which a trial fails.
+fn is_hard(
+    alloc: Global,
+    compiled: &Compiled,
+    ask: Ask,
+    units: u64,
+    counts: &mut Counts,
+) -> Result<bool, AllocError> {
+    if units <= PATIENCE {
+        return Ok(false);
+    }
+    if size(compiled) >= SMALL {
+        return Ok(true);
+    }
+    fails(alloc, compiled, ask, counts)
+}
+
 // What workers find. What they do is added to what was done before.
 fn search<R: Threads + Wait + Sync, W: Watch>(
     crew: &Crew<'_, R>,
@@ -169,8 +240,7 @@ impl<R: Threads + Wait + Sync> Solver for Crew<'_, R> {
     ghost may = { λ crew. IsSync R.row };
 
     fn patience(&self, compiled: &Compiled) -> u64 {
-        let size = compiled.atom_count().saturating_add(compiled.body_count());
-        PATIENCE + size as u64 / SHARE
+        PATIENCE + size(compiled) / SHARE
     }
 
     fn solve<W: Watch>(
@@ -182,6 +252,9 @@ impl<R: Threads + Wait + Sync> Solver for Crew<'_, R> {
         counts: &mut Counts,
         watch: &mut W,
     ) -> Result<Report, AllocError> {
+        if !is_hard(alloc, compiled, ask, units, counts)? {
+            return solve_alone(alloc, compiled, ask, units, false, counts, watch);
+        }
         search(self, alloc, compiled, ask, units, counts, watch)
     }
 }
