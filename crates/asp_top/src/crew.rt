@@ -34,7 +34,7 @@ const SHARE: u64 = 8;
 /// How many answers a trial looks for, where all are asked for.
 const TRIED: u64 = 1000;
 
-/// Workers side by side, who pass no gate: what a bound of this impl may do isn't known to be for other threads, too.
+/// Workers side by side. They pass no gate: in a method of a trait a bound isn't known to hold in other threads.
 #[derive(Drop)]
 pub struct Crew<'a, R> {
     /// Who makes threads.
