@@ -31,8 +31,6 @@ pub struct Asking<'a, S> {
     pub units: u64,
     /// Who searches it from scratch.
     pub solver: &'a S,
-    /// The conflicts that a search met in vain which was given up.
-    pub wasted: u64,
 }
 
 /// What was searched, and what was found.
@@ -69,15 +67,7 @@ fn search<S: Solver, W: Watch>(
     ensures searches { IfOk result (Searches prepared ask asking.now.units) }
     ensures heard { W.IsAfter watch.old watch.new }
 {
-    match asking.solver.solve(
-        alloc,
-        &prepared.compiled,
-        ask,
-        asking.units,
-        asking.wasted,
-        counts,
-        watch,
-    ) {
+    match asking.solver.solve(alloc, &prepared.compiled, ask, asking.units, counts, watch) {
         Ok(report) => Ok(Sought {
             prepared: Some(prepared),
             report,

@@ -126,7 +126,6 @@ fn shrink<S: Solver, W: Watch>(
         literals: others.as_slice(),
         units: state.left,
         solver: asking.solver,
-        wasted: 0,
     };
     let tried = try_others(alloc, &rest, counts, watch)?;
     state.left -= tried.spent;
@@ -218,7 +217,6 @@ fn least_reason<S: Solver, W: Watch>(
         literals,
         units: asking.units,
         solver: asking.solver,
-        wasted: 0,
     };
     let core = least_core(alloc, &all, counts, watch);
     mem::drop(bare);

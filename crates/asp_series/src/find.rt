@@ -61,31 +61,6 @@ fn ask_kept<S, W: Watch>(
     }
 }
 
-// What is found of a query from scratch, where a search that is kept may have been given up since there were so many conflicts.
-fn find_anew<S: Solver, W: Watch>(
-    alloc: Global,
-    asking: &Asking<'_, S>,
-    before: u64,
-    counts: &mut Counts,
-    watch: &mut W,
-) -> Result<Sought, AllocError>
-    requires solver { S.may asking.now.solver.now }
-    requires askable { IsAskable asking.now.options.now asking.now.program.now asking.now.literals.now }
-    ensures found { IfOk result (IsFoundBy asking.now.options.now asking.now.program.now asking.now.literals.now asking.now.units) }
-    ensures heard { W.IsAfter watch.old watch.new }
-{
-    let anew = Asking {
-        options: asking.options,
-        program: asking.program,
-        literals: asking.literals,
-        units: asking.units,
-        solver: asking.solver,
-        wasted: counts.conflicts.saturating_sub(before),
-    };
-    let ask = about(asking.options, asking.program);
-    seek(alloc, &anew, ask, counts, watch)
-}
-
 /// What is found of a query: by the search that is kept, where there is one that can say something of it, or else from scratch.
 pub fn find<S: Solver, W: Watch>(
     alloc: Global,
@@ -101,12 +76,14 @@ pub fn find<S: Solver, W: Watch>(
     ensures found { IfOk result (IsFoundBy asking.now.options.now asking.now.program.now asking.now.literals.now asking.now.units) }
     ensures heard { W.IsAfter watch.old watch.new }
 {
-    let before = counts.conflicts;
     match ask_kept(asking, kept, counts, watch)? {
         Some(report) => Ok(Sought {
             prepared: None,
             report,
         }),
-        None => find_anew(alloc, asking, before, counts, watch),
+        None => {
+            let ask = about(asking.options, asking.program);
+            seek(alloc, asking, ask, counts, watch)
+        }
     }
 }

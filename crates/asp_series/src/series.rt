@@ -86,7 +86,6 @@ fn answer<S: Solver, W: Watch>(
         literals: asking.literals,
         units: asking.units - sought.report.spent,
         solver: asking.solver,
-        wasted: 0,
     };
     match core_of(alloc, &rest, &sought.report.results, counts, watch) {
         Ok(core) => {
@@ -318,7 +317,6 @@ fn ask_in_turn<K: Sink, S: Solver, W: Watch>(
             literals: queries[i].as_slice(),
             units: course.left,
             solver,
-            wasted: 0,
         };
         match step(
             alloc,

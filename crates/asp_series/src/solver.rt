@@ -19,15 +19,14 @@ pub trait Solver {
     /// How many units a query may take of a search of this program that is kept, before it is searched from scratch.
     fn patience(&self, compiled: &Compiled) -> u64;
 
-    /// What is asked of a program, with so many units, and without a proof. So many conflicts were met in vain by a search that was
-    /// given up. Want of memory is the one error. What it does is added to the counts, and told.
+    /// What is asked of a program, with so many units, and without a proof. Want of memory is the one error. What it does is added to
+    /// the counts, and told.
     fn solve<W: Watch>(
         &self,
         alloc: Global,
         compiled: &Compiled,
         ask: Ask,
         units: u64,
-        wasted: u64,
         counts: &mut Counts,
         watch: &mut W,
     ) -> Result<Report, AllocError>
@@ -54,7 +53,6 @@ impl Solver for Alone {
         compiled: &Compiled,
         ask: Ask,
         units: u64,
-        _wasted: u64,
         counts: &mut Counts,
         watch: &mut W,
     ) -> Result<Report, AllocError> {

@@ -1,7 +1,7 @@
 //! Workers side by side, who search a query of a series from scratch.
 //!
-//! Threads are made for a query and joined before its results are written. A query that is over soon is none of theirs: where a trial
-//! of one search ends within so few conflicts and answers, one search does it.
+//! Threads are made for a query and joined before its results are written. An easy query is none of theirs: where a search is kept over
+//! the queries, one that it finishes within so few conflicts; and of a small program one that a trial of one search finishes.
 ghost use Rattle.std.specs.Prelude.{◌≡◌, ◌≤◌, IfOk, false};
 ghost use Rattle.asp_crew_laws.specs.Reports.{IsReport};
 ghost use Rattle.asp_crew_laws.specs.Proofs.{HasProof};
@@ -25,16 +25,19 @@ use std::mem;
 use std::sync::Wait;
 use std::thread::Threads;
 
-/// How many conflicts one search meets before workers begin.
+/// How many conflicts a search that is kept, or a trial, may meet before workers begin.
 const PATIENCE: u64 = 1000;
 
-/// For so many atoms and bodies a search that is kept may meet one conflict more: so long it takes to begin from scratch.
-const SHARE: u64 = 8;
+/// A program is small with fewer atoms and bodies than this: to begin a search of it takes less than threads do.
+const SMALL: u64 = 1000;
 
 /// How many answers a trial looks for, where all are asked for.
 const TRIED: u64 = 1000;
 
-/// Workers side by side. They pass no gate: in a method of a trait a bound isn't known to hold in other threads.
+/// For so many atoms and bodies a search that is kept may meet one conflict more: so long it takes to begin from scratch.
+const SHARE: u64 = 8;
+
+/// Workers side by side. They pass no gate: only a function's own bounds can go to other threads, and not those of an `impl`.
 #[derive(Drop)]
 pub struct Crew<'a, R> {
     /// Who makes threads.
@@ -117,6 +120,11 @@ fn emptied(counts: &Counts) -> Counts
     }
 }
 
+// How many atoms and bodies a program has.
+fn size(compiled: &Compiled) -> u64 {
+    compiled.atom_count().saturating_add(compiled.body_count()) as u64
+}
+
 // What a trial looks for.
 fn tried(ask: Ask) -> Ask {
     Ask {
@@ -159,20 +167,19 @@ fn fails(
     Ok(!is_over)
 }
 
-// Whether workers are to search: where a search was given up, or a trial fails.
+// Whether workers are to search: a program that isn't small, and one of which a trial fails.
 fn is_hard(
     alloc: Global,
     compiled: &Compiled,
     ask: Ask,
     units: u64,
-    wasted: u64,
     counts: &mut Counts,
 ) -> Result<bool, AllocError> {
-    if wasted >= PATIENCE {
-        return Ok(true);
-    }
     if units <= PATIENCE {
         return Ok(false);
+    }
+    if size(compiled) >= SMALL {
+        return Ok(true);
     }
     fails(alloc, compiled, ask, counts)
 }
@@ -233,8 +240,7 @@ impl<R: Threads + Wait + Sync> Solver for Crew<'_, R> {
     ghost may = { λ crew. IsSync R.row };
 
     fn patience(&self, compiled: &Compiled) -> u64 {
-        let size = compiled.atom_count().saturating_add(compiled.body_count());
-        PATIENCE + size as u64 / SHARE
+        PATIENCE + size(compiled) / SHARE
     }
 
     fn solve<W: Watch>(
@@ -243,11 +249,10 @@ impl<R: Threads + Wait + Sync> Solver for Crew<'_, R> {
         compiled: &Compiled,
         ask: Ask,
         units: u64,
-        wasted: u64,
         counts: &mut Counts,
         watch: &mut W,
     ) -> Result<Report, AllocError> {
-        if !is_hard(alloc, compiled, ask, units, wasted, counts)? {
+        if !is_hard(alloc, compiled, ask, units, counts)? {
             return solve_alone(alloc, compiled, ask, units, false, counts, watch);
         }
         search(self, alloc, compiled, ask, units, counts, watch)
