@@ -413,7 +413,7 @@ pub fn end_without_words<N: Sink>(notes: &mut N, status: Status) -> Outcome
 }
 
 /// A whole run of the program, with as many workers as its words ask for. It returns if the workers do, for whom it waits
-/// where there are several. Workers who search a query of a series pass no gate.
+/// where there are several.
 pub fn run<R: Threads + Wait + Sync, S: Source, K: Sink, N: Sink, G: Gate + Sync>(
     rt: &R,
     alloc: Global,
