@@ -8,7 +8,8 @@ query's literals assumed; in an optimisation the closing lines, cost and count. 
 no answer: some of the program's assumptions and the query's literals, by ascending atoms and each once, such that the program
 without its own assumptions and with these has no answer. A core that is called minimal must have answers without each of its
 literals, and with --core-min each has to be. As JSON, with names or without, each series has to say what the lines say. Before that one series is asked whose second query has no end for a test: the first
-one's results have to be there; one of 2,000 queries, by whose counts one search has to be kept for all of them; one whose query, refuted by conflicts,
+one's results have to be there; one of 2,000 queries, by whose counts one search has to be kept for all of them; two of a refuted query, whose core has to be a
+front of it with one literal more; one whose query, refuted by conflicts,
 comes again after others that have answers, and has to be refuted without a conflict then; and hard and easy ones, by whose counts workers have to
 search the hard ones, and one search the easy ones.
 """
@@ -210,6 +211,16 @@ def keeps_one(program):
     return len(counts) == 2000 and status == 20 and all(few)
 
 
+def tells_why(program):
+    """Whether a core without --core-min is the literal that is false and what was decided up to it, and one of a program without answers is empty."""
+    words = [*(word for word in program if word != "--core-min"), "--queries", "--mode", "enum"]
+    text = f"asp 1 0 0\n1 1 20 {' '.join(map(str, range(1, 21)))} 0 0\n1 0 0 0 2 3 4\n"
+    asked = "".join(map(statement, [[9, 3, 7, 4, 8, 10], [3, -5, 4]]))
+    told = compare.run(words, f"{text}0\n{asked}0\n").stdout.decode()
+    none = compare.run(words, f"{text}1 0 0 0 0 0\n0\n{statement([1, -2])}0\n").stdout.decode()
+    return [line for line in told.split("\n") if "ore:" in line] == ["Core: 3 4 9", "Core: 3 4"] and "\nCore:\n" in none
+
+
 def keeps_what_it_learnt(program):
     """Whether a query that was refuted by conflicts is refuted without one when it comes again, also after one with answers."""
     counts, status = counts_of(program, pigeons(5) + "".join(map(statement, [[1], [-1], [1], [-1, 2], [1]])) + "0\n")
@@ -221,6 +232,9 @@ def main():
     program = sys.argv[1].split()
     if not keeps_one(program) or not keeps_what_it_learnt(program):
         print("queries aren't asked of one search")
+        return True
+    if not tells_why(program):
+        print("a core isn't what the kept search says")
         return True
     fault = shares(program[0])
     if fault:

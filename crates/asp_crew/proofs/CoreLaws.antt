@@ -118,7 +118,7 @@ fold-some : (L A : List Atoms) → is_nothing L ≡ false → is_nothing (fold (
 fold-some L [] h = h
 fold-some L (S ∷ A) h = fold-some (with_set S L) A (with_set-some S L)
 
-once-nothing : (A : List Atoms) → is_nothing (sorted_once A) ≡ is_nothing A
+pub once-nothing : (A : List Atoms) → is_nothing (sorted_once A) ≡ is_nothing A
 once-nothing [] = refl
 once-nothing (S ∷ A) = fold-some (with_set S []) A refl
 

@@ -3,9 +3,8 @@ use Rattle.std.proofs.Common.{◌≡◌, ℕ, true, List, [], ◌∷◌, None, r
 use Rattle.std.specs.Prelude.{slice_get}
 use Rattle.asp_model.specs.declared.results.Mode.TheVariants.{Enum}
 use Rattle.asp_vars.specs.Conflicts.{has_all}
-use Rattle.asp_vars.specs.Literals.{Literal, has_literal}
+use Rattle.asp_vars.specs.Literals.{Literal}
 use Rattle.asp_vars.specs.Paid.{Units}
-use Rattle.asp_trail_laws.proofs.LitLaws.{all_pass}
 use Rattle.asp_path.specs.declared.status.Status.TheVariants as status
 use Rattle.asp_path.specs.Trees.{Node, cube_of, open_from, status_of, with_status}
 use Rattle.asp_core.specs.declared.event.Event.{Event}
@@ -21,10 +20,6 @@ use Rattle.asp_crew.proofs.BookLaws.{board-with, ready-with}
 use Rattle.asp_crew.proofs.FinishLaws.{IsBetween, IsTaken, between-next}
 use Rattle.asp_query.specs.Turns.{ClosesAll, ClosesLeaf, IsAsking, IsThrough}
 use Rattle.asp_query.proofs.TurnLaws.{not-enough}
-
--- a list has all of its literals
-pub has_itself : (q : List Literal) → has_all q q ≡ true
-has_itself q = all_pass (has_literal q) q (λ l h. h)
 
 -- ---- the leaf while answers are delivered
 pub still_held : (v w : Booked) (leaf : ℕ) → OnlyRecords v w → status_of (board v).nodes leaf ≡ status.Held 0 → status_of (board w).nodes leaf ≡ status.Held 0

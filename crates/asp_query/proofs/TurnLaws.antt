@@ -25,6 +25,7 @@ use Rattle.asp_core.specs.declared.task.Task.{Task}
 use Rattle.asp_core.specs.Boards.{distinct, is_answer, is_enough, lists, sought, wanted}
 use Rattle.asp_book.specs.Books.{Booked, board}
 use Rattle.asp_search.specs.Beside.{Propagates}
+use Rattle.asp_search.specs.Refuting.{IsRefutation}
 use Rattle.asp_search_laws.specs.Searching.{Searching, used}
 use Rattle.asp_search_laws.specs.Steps.{HasSameTask, Records, Steps, burnt, IsStep}
 use Rattle.asp_search_laws.specs.declared.step.Step.{Step}
@@ -206,15 +207,17 @@ along-ahead u v s t f a p = record {
   only = a.only;
 }
 
--- where the search refutes these literals, the board excuses all that has them
-pub along-refuted : (u v : Booked) (t : Searching) (f : Units) (n : List Literal) → IsAlong u v t f → Settled t.program (used t) t.bound ([] ++ n) → IsThrough u v t f n
-along-refuted u v t f n a settled =
-    let is = a.asking in
-    record {
-      asking = is;
-      only = a.only;
-      settled =
-          settled-excused (board v) t.known t.bound n is.ready.work.agrees
-          (subst (λ (p : Program). Settled p (used_up (sought (board v).task.goal) p t.known) t.bound n) (program-is Enum v t f is.ready)
-          (subst (λ (k : Option Reasoning). Settled t.program (used_up k t.program t.known) t.bound n) (sym (seeks Enum v t f is.ready)) settled));
-    }
+-- where the search refutes some of the literals, the board excuses all that has them
+pub along-refuted : (u v : Booked) (t : Searching) (f : Units) (cube n : List Literal) → IsAlong u v t f → IsRefutation t [] cube n → IsThrough u v t f n × IsTrue (has_all cube n)
+along-refuted u v t f cube n a refutes =
+    let is = a.asking in (
+      record {
+        asking = is;
+        only = a.only;
+        settled =
+            settled-excused (board v) t.known t.bound n is.ready.work.agrees
+            (subst (λ (p : Program). Settled p (used_up (sought (board v).task.goal) p t.known) t.bound n) (program-is Enum v t f is.ready)
+            (subst (λ (k : Option Reasoning). Settled t.program (used_up k t.program t.known) t.bound n) (sym (seeks Enum v t f is.ready)) refutes.settled));
+      },
+      refutes.among,
+    )

@@ -1,17 +1,19 @@
 -- A search that is kept over several queries, and what the report of one says.
-use Rattle.std.specs.Prelude.{◌≡◌, ℕ, ◌+◌, ◌^◌, ◌<◌, ◌≤◌, Bool, false, List, [], length, ℤ, Option, Some, None}
+use Rattle.std.specs.Prelude.{◌≡◌, ℕ, ◌+◌, ◌^◌, ◌<◌, ◌≤◌, Bool, false, List, [], ◌∷◌, length, ℤ, Option, Some, None}
 use Rattle.std.specs.List.{list_all}
 use Rattle.asp_model.specs.Holding.{atom_of}
 use Rattle.asp_model.specs.Models.{atoms_of}
-use Rattle.asp_model.specs.Sets.{has}
+use Rattle.asp_model.specs.Sets.{Atoms, has}
 use Rattle.asp_model.specs.declared.program.Program.{Program}
 use Rattle.asp_model.specs.declared.results.End.TheVariants.{Finished}
 use Rattle.asp_model.specs.declared.results.Mode.TheVariants.{Enum}
 use Rattle.asp_core.specs.declared.goal.Goal.TheVariants as goal
 use Rattle.asp_core.specs.declared.task.Task.{Task}
+use Rattle.asp_core.specs.Boards.{wanted}
 use Rattle.asp_core.specs.Sorting.{answers_of, sorted_once}
 use Rattle.asp_book.specs.Books.{Booked, board}
 use Rattle.asp_search_laws.specs.Searching.{Searching}
+use Rattle.asp_unsat.specs.Cores.{IsCore}
 use Rattle.asp_crew_laws.specs.declared.report.Report.{Report}
 use Rattle.asp_crew_laws.specs.Reports.{IsIdle, IsPlayed, IsWorkedOff}
 use Rattle.asp_crew.specs.Running.{QueryStands}
@@ -58,14 +60,35 @@ pub record IsOver (v w : Booked) (t : Searching) : Type 0 where
   pub over : IsWorkedOff (board w) None
   pub fresh : sorted_once (board w).answers ≡ [] → IsFresh v.task.program t
 
--- The report of a query that was finished: it has exactly the query's answers, each once, in their order. Each unit that was spent was
--- burnt for a conflict of the program, by no more answers than are reported. Its journal is lawful, and leads to all that is told.
+-- Nobody is at work on a query, and all its leaves are closed.
+pub record IsWorkedThrough (v : Booked) : Type 0 where
+  pub query : QueryStands v.task
+  pub asks : v.task ≡ query_of v.task.program v.task.query v.task.budget
+  pub idle : IsIdle (board v)
+  pub over : IsWorkedOff (board v) None
+
+-- These of the query's literals, and of the program's assumptions, suffice for there being no answer.
+pub record IsCoreOf (t : Task) (core : List ℤ) : Type 0 where
+  pub core : IsCore t.program (wanted t) core
+  pub few : length core ≤ length (wanted t)
+
+-- exactly where no answer was found there is a core
+abbrev pub HasCore : Task → List Atoms → Option (List ℤ) → Type 0
+HasCore t [] (Some core) = IsCoreOf t core
+HasCore t [] None = ⊥
+HasCore t (S ∷ A) (Some core) = ⊥
+HasCore t (S ∷ A) None = Unit {0}
+
+-- The report of a query that was finished: it has exactly the query's answers, each once, in their order, or where there are none a core.
+-- Each unit that was spent was burnt for a conflict of the program, by no more answers than are reported. Its journal is lawful, and
+-- leads to all that is told.
 pub record IsQueryReport (t : Task) (r : Report) : Type 0 where
   pub end : r.results.end ≡ Finished
   pub mode_is : r.results.mode ≡ Enum
   pub answers : r.results.answers ≡ answers_of t
   pub best : r.results.best ≡ None
   pub untold : r.results.known ≡ None
+  pub core : HasCore t r.results.answers r.core
   pub program : r.paid.program ≡ t.program
   pub spent : r.paid.burnt ≡ r.spent
   pub budget : r.paid.left + r.spent ≡ t.budget

@@ -1,7 +1,8 @@
 -- A search that is asked for a query: what holds between its steps, and how they end.
-use Rattle.std.specs.Prelude.{◌≡◌, ℕ, ◌^◌, ◌<◌, List, [], Some, None}
+use Rattle.std.specs.Prelude.{◌≡◌, ℕ, ◌^◌, ◌<◌, List, [], Some, None, IsTrue}
 use Rattle.asp_model.specs.declared.results.Mode.TheVariants.{Enum}
 use Rattle.asp_model.specs.Sets.{Atoms}
+use Rattle.asp_vars.specs.Conflicts.{has_all}
 use Rattle.asp_vars.specs.Entailment.{HitsOnly}
 use Rattle.asp_vars.specs.Literals.{Literal}
 use Rattle.asp_vars.specs.Paid.{Units}
@@ -60,7 +61,7 @@ pub record IsThrough (v w : Booked) (t : Searching) (g : Units) (n : List Litera
 
 abbrev pub Leaves : Booked → Booked → Searching → Units → List Literal → Left → Type 0
 Leaves v w t g cube left.Exhausted = IsThrough v w t g []
-Leaves v w t g cube left.Refuted = IsThrough v w t g cube
+Leaves v w t g cube (left.Refuted n) = IsThrough v w t g n.items × IsTrue (has_all cube n.items)
 Leaves v w t g cube left.Lost = IsFree v.task.program t
 
 -- the leaf is closed

@@ -129,9 +129,11 @@ impl<'a> KeptSearch<'a> {
         }
     }
 
-    /// All answers of the program that have the query's literals, with so many units. None where nothing can be said of the query by
-    /// the search that is kept: an atom of the query doesn't stand in the program, a set was found that isn't the query's and which no
-    /// clause rules out, or a conflict was met for which no unit was left. Then the query is to be searched from scratch.
+    /// All answers of the program that have the query's literals, with so many units, or where there are none a core: literals of the
+    /// program's assumptions and the query that no stable model has together. None where nothing can be said of the query by the search
+    /// that is kept: an atom of the query doesn't stand in the program, a set was found that isn't the query's and which no clause rules
+    /// out, a conflict was met for which no unit was left, or more units were spent than a query takes at most. Then the query is to be
+    /// searched from scratch.
     ///
     /// Want of memory is the one error. What it does is added to the counts, and told after each step.
     pub fn ask<W: Watch>(
@@ -211,7 +213,16 @@ impl<'a> KeptSearch<'a> {
         ensures heard { W.IsAfter watch.old watch.new }
     {
         let mut search = search;
-        match answer(book, literals, &mut search, self.most, counts, watch) {
+        match answer(
+            self.alloc,
+            self.compiled,
+            book,
+            literals,
+            &mut search,
+            self.most,
+            counts,
+            watch,
+        ) {
             Ok(Some(report)) => {
                 self.keep(search, &report);
                 Ok(Some(report))

@@ -1,7 +1,7 @@
 //! The leaf of a query, by a search that has entered no cube.
 //!
 //! The literals that each answer of the query has are decided first. The leaf is closed where the search has nothing left, and where one
-//! of these literals is false by decisions that are all among them. An answer that lacks one of them, which nothing rules out, ends the
+//! of these literals is false by decisions that are all among them: then by that literal and these decisions. An answer that lacks one of them, which nothing rules out, ends the
 //! search for the query, as a conflict without a unit does: then nothing is said of it.
 ghost use Rattle.std.specs.Prelude.{◌≡◌, ◌+◌, ◌≤◌, false, true, length, IfOk, IsSome, IsTrue};
 ghost use Rattle.asp_model.specs.Holding.{all_hold};
@@ -40,12 +40,12 @@ pub(crate) enum Turn {
 }
 
 /// How a search left the query.
-#[derive(Clone, Copy)]
+#[derive(Drop)]
 pub(crate) enum Left {
     /// The program has no other answer.
     Exhausted,
-    /// The query has no other answer.
-    Refuted,
+    /// The query has no other answer: none has these of its literals.
+    Refuted(Vec<Lit>),
     /// Nothing can be said of the query by this search.
     Lost,
 }
@@ -125,8 +125,8 @@ fn run<P: Propagator, W: Watch>(
             return Ok(Left::Lost);
         }
         search.propagate()?;
-        if search.refutes(cube) {
-            return Ok(Left::Refuted);
+        if let Some(refutation) = search.refutation(cube)? {
+            return Ok(Left::Refuted(refutation));
         }
         let turn = advance(book, literals, search, fuel, counts)?;
         watch.tell(counts, None);
@@ -181,8 +181,8 @@ pub(crate) fn work_off<P: Propagator, W: Watch>(
             book.close(0, leaf, &none)?;
             Ok(true)
         }
-        Left::Refuted => {
-            book.close(0, leaf, cube.as_slice())?;
+        Left::Refuted(refutation) => {
+            book.close(0, leaf, refutation.as_slice())?;
             Ok(true)
         }
         Left::Lost => Ok(false),

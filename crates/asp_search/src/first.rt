@@ -2,7 +2,7 @@
 //!
 //! A search that is kept over a series of queries is entered once, under no cube: at its level 0 stays all that the program alone
 //! implies. The literals that a query's answers have to have are its first decisions then. As soon as one of them is false by decisions
-//! that are all among them, the query has no other answer (`refutes`).
+//! that are all among them, the query has no other answer (`refutation`).
 ghost use Rattle.std.specs.Prelude.{◌≡◌, [], None};
 ghost use Rattle.asp_trail.specs.Entries.{cut};
 

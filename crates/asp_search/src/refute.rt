@@ -1,17 +1,15 @@
 //! Which literals no answer has together that is still to come.
-ghost use Rattle.std.specs.Prelude.{◌≡◌, ◌≤◌, ◌++◌, List, None, Some, IfSome, IsSome, IsTrue, OnErr, OnOk};
-ghost use Rattle.asp_vars.specs.Entailment.{Settled};
+ghost use Rattle.std.specs.Prelude.{◌≡◌, ◌≤◌, ◌++◌, ◌∷◌, [], List, None, Some, IfOk, IfSome, IsSome, IsTrue, OnErr, OnOk, take};
 ghost use Rattle.asp_vars.specs.Literals.{Literal, complement, has_literal, holds_in};
 ghost use Rattle.asp_trail.specs.Entries.{assignment};
-ghost use Rattle.asp_search_laws.specs.Searching.{used};
 ghost use Rattle.asp_search.specs.Beside.{IsAhead, Propagates};
-ghost use Rattle.asp_search.specs.Refuting.{IsFalseAmong, are_first};
+ghost use Rattle.asp_search.specs.Refuting.{IsFalseAmong, IsRefutation, are_first};
 
 use crate::search::Search;
 use asp_propagate::propagator::Propagator;
 use asp_trail::trail::Trail;
 use asp_vars::lit::{Lit, Var};
-use std::alloc::AllocError;
+use std::alloc::{AllocError, Global};
 
 // Whether the literal stands in the list.
 fn has_literal(lits: &[Lit], wanted: Lit) -> bool
@@ -39,17 +37,48 @@ fn is_false(trail: &Trail, vars: Var, lit: Lit) -> bool
     lit.var() <= vars && trail.assignment().is_false(lit)
 }
 
-// The level of the first of the literals that is false.
-fn false_level(trail: &Trail, vars: Var, lits: &[Lit]) -> Option<usize>
+// A literal that is false, and its level.
+#[derive(Clone, Copy)]
+struct FalseLit {
+    lit: Lit,
+    level: usize,
+}
+
+// The first of the literals that is false.
+fn false_literal(trail: &Trail, vars: Var, lits: &[Lit]) -> Option<FalseLit>
     requires { trail.now.vars ≡ vars }
-    ensures { IfSome result (IsFalseAmong vars trail.now.entries lits.now) }
+    ensures { IfSome result (λ found. IsFalseAmong vars trail.now.entries lits.now found.lit found.level) }
 {
     for lit in lits {
         if is_false(trail, vars, *lit) {
-            return Some(trail.level_of(lit.var()));
+            return Some(FalseLit {
+                lit: *lit,
+                level: trail.level_of(lit.var()),
+            });
         }
     }
     None
+}
+
+// The first decisions, so many of them.
+fn first(alloc: Global, decisions: &[Lit], count: usize) -> Result<Vec<Lit>, AllocError>
+    ensures { IfOk result (λ lits. lits.items ≡ take count decisions.now) }
+{
+    decisions.iter().take(count).copied().collect(alloc)
+}
+
+// The first decisions, so many of them, and the literal.
+fn with_first(
+    alloc: Global,
+    decisions: &[Lit],
+    count: usize,
+    lit: Lit,
+) -> Result<Vec<Lit>, AllocError>
+    ensures { IfOk result (λ lits. lits.items ≡ take count decisions.now ++ lit ∷ []) }
+{
+    let mut lits = first(alloc, decisions, count)?;
+    lits.push(lit)?;
+    Ok(lits)
 }
 
 impl<P: Propagator> Search<'_, P> {
@@ -69,7 +98,7 @@ impl<P: Propagator> Search<'_, P> {
         Ok(())
     }
 
-    /// Implies what follows, as a step does first, so that `refutes` knows it. Where a kept nogood is violated then, the next step learns
+    /// Implies what follows, as a step does first, so that `refutation` knows it. Where a kept nogood is violated then, the next step learns
     /// from it. What propagators give here isn't noted.
     ///
     /// Want of memory is the one error: then no path is entered.
@@ -90,21 +119,28 @@ impl<P: Propagator> Search<'_, P> {
         }
     }
 
-    /// Whether no answer that is still to come on the path has all of these literals: one of them is false, by decisions that are all
-    /// among them. Where it says no there may be such an answer or none. It looks at each literal, and where one is false at each
-    /// decision of its level and of those below.
-    pub fn refutes(&self, lits: &[Lit]) -> bool
-        ensures { (q : List Literal) → self.now.cube ≡ Some q → IsTrue result → Settled self.now.program (used self.now) self.now.bound (q ++ lits.now) }
+    /// Some of these literals, which no answer has together that is still to come on the path: one of them is false, and these are that
+    /// one and the decisions up to its level. None where none is false, or one of these decisions isn't among the literals: then there may
+    /// be such an answer or none. It looks at each literal, and where one is false at each decision of its level and of those below.
+    ///
+    /// Want of memory is the one error.
+    pub fn refutation(&self, lits: &[Lit]) -> Result<Option<Vec<Lit>>, AllocError>
+        ensures { (q : List Literal) → self.now.cube ≡ Some q → IfOk result (λ found. IfSome found (λ n. IsRefutation self.now q lits.now n.items)) }
     {
         if self.state.is_clashing() {
-            return false;
+            return Ok(None);
         }
         let _program = self.compiled.program();
         let _store = self.state.store();
         let vars = self.compiled.vars();
-        match false_level(self.state.trail(), vars, lits) {
-            None => false,
-            Some(level) => are_first(self.state.decisions(), level, lits),
+        let Some(found) = false_literal(self.state.trail(), vars, lits) else {
+            return Ok(None);
+        };
+        if !are_first(self.state.decisions(), found.level, lits) {
+            return Ok(None);
         }
+        let decisions = self.state.decisions();
+        let refutation = with_first(self.alloc, decisions, found.level, found.lit)?;
+        Ok(Some(refutation))
     }
 }

@@ -1,6 +1,6 @@
 -- What was found of a query, from scratch or by a search that is kept: what it says of the program, and its text.
 use Rattle.std.proofs.Common.{◌≡◌, ◌∙◌, ℕ, ◌+◌, Bool, true, false, cond, List, [], ◌∷◌, ◌++◌, map, refl, sym, ap, subst, inl, inr}
-use Rattle.std.specs.Prelude.{ℤ, Option, None, Some, codes}
+use Rattle.std.specs.Prelude.{ℤ, Option, None, Some, IfSome, codes}
 use Rattle.std.specs.List.{join_with_byte}
 use Rattle.asp_model.specs.declared.program.Output.{Output}
 use Rattle.asp_model.specs.declared.program.Program.{Program}
@@ -25,6 +25,7 @@ use Rattle.asp_cli.specs.declared.Options.{Options}
 use Rattle.asp_cli.specs.Found.{seeks_consequences}
 use Rattle.asp_crew_laws.specs.declared.report.Report.{Report}
 use Rattle.asp_crew_laws.specs.Reports.{IsAllFound, Says as SaysReport}
+use Rattle.asp_query.specs.Kept.{HasCore, query_of}
 use Rattle.asp_read.specs.Queries.{with_query}
 use Rattle.asp_prepare.specs.declared.prepared.Prepared.{Prepared}
 use Rattle.asp_prepare.specs.Meaning.{has_model, has_model_in, mode_of}
@@ -33,7 +34,7 @@ use Rattle.asp_prepare.specs.Told.{found_with, report_with}
 use Rattle.asp_prepare.proofs.AskedLaws.{unsought}
 use Rattle.asp_prepare.proofs.ToldLaws.{listed-entry, listed-text, told-plain}
 use Rattle.asp_series.specs.declared.ask.Sought.{Sought}
-use Rattle.asp_series.specs.Asking.{IsFoundBy, Refutes, aside_in, searched_in}
+use Rattle.asp_series.specs.Asking.{IsEnough, IsFoundBy, Refutes, aside_in, kept_core, searched_in}
 use Rattle.asp_series.specs.Series.{IsAsked, IsDoneBy, about, is_done, is_enum, is_refuted, query_in}
 use Rattle.asp_series.proofs.AskLaws.{listed-of, no-answer, parts, plain, same-mode, says-of}
 use Rattle.asp_series.proofs.CoreLaws.{refuted}
@@ -100,6 +101,19 @@ module _ (given : Options) (p : Program) (query : List ℤ) (units : ℕ) (s : S
       let none : has_model_in (mode_of given.mode asking) r.results ≡ false = subst (λ (m : Mode). has_model_in m r.results ≡ false) (found-mode found) both.1 in
       refuted p (p.assumptions ++ query) itself sound
       (no-answer asking (aside_in s.prepared) (mode_of given.mode asking) r r.results.end both.0 (unsought given.mode asking e) none (found-says e sound found))
+
+  -- the core that the search that is kept told suffices
+  core-enough : (A : List Atoms) (o : Option (List ℤ)) → HasCore (query_of p query units) A o → IfSome o (IsEnough p (p.assumptions ++ query))
+  core-enough [] None h = tt
+  core-enough [] (Some core) h = record { among = h.core.among; few = h.few; none = h.core.suffices }
+  core-enough (S ∷ A) None h = tt
+  core-enough (S ∷ A) (Some core) h = absurd h
+
+  pub found-core : IsFoundBy given p query units s → IfSome (kept_core s.prepared s.report.core) (IsEnough p (p.assumptions ++ query))
+  found-core (inl is) = subst (λ (o : Option Prepared). IfSome (kept_core o s.report.core) (IsEnough p (p.assumptions ++ query))) (sym is.prepared) tt
+  found-core (inr is) =
+      subst (λ (o : Option Prepared). IfSome (kept_core o s.report.core) (IsEnough p (p.assumptions ++ query))) (sym is.0)
+      (core-enough s.report.results.answers s.report.core is.1.report.core)
 
 -- ---- its text: a program shows the same with a query's literals assumed
 module _ (p : Program) (query : List ℤ) where

@@ -10,7 +10,7 @@ use Rattle.asp_unsat.specs.Cores.{is_listed}
 use Rattle.asp_vars.proofs.NumberingLaws.{int_eq_same}
 use Rattle.asp_series.specs.declared.cores.Core.{Core}
 use Rattle.asp_series.specs.declared.cores.Shrinking.{Shrinking}
-use Rattle.asp_series.specs.Asking.{AreAmong, AreSame, IsLeast, IsReason, IsShrunk, IsSoundWith, Meets, Refutes, Shrinks}
+use Rattle.asp_series.specs.Asking.{AreAmong, AreSame, IsEnough, IsLeast, IsReason, IsShrunk, IsSoundWith, Meets, Refutes, Shrinks}
 use Rattle.asp_series.specs.Series.{without}
 use Rattle.asp_series.proofs.CoreLaws.{among-without, assuming, either, gone, length-without, listed-push, meets-fewer, meets-itself, refutes-bare, refutes-itself, refutes-more, sound-with, without-among}
 
@@ -48,12 +48,29 @@ shrunk-more p all units tried l s t was step = record {
   open_at = step.open_at was.open_at;
 }
 
+-- ---- what suffices
+-- all that was assumed
+pub same-enough : (p : Program) (all literals : List ℤ) → AreSame all literals → Refutes p all → IsEnough p all literals
+same-enough p all literals same none = record {
+  among = λ l h. sym (same.same l) ∙ h;
+  few = same.few;
+  none = refutes-more p all literals (λ l h. same.same l ∙ h) none;
+}
+
+-- the same in another order
+pub enough-same : (p : Program) (all some literals : List ℤ) → IsEnough p all some → AreSame some literals → IsEnough p all literals
+enough-same p all some literals is same = record {
+  among = λ l h. is.among l (sym (same.same l) ∙ h);
+  few = let a = is.few in let b = same.few in omega (arith, a, b);
+  none = refutes-more p some literals (λ l h. same.same l ∙ h) is.none;
+}
+
 -- ---- of the program itself
-pub least-reason : (p : Program) (literals all : List ℤ) (units : ℕ) (c : Core) → IsSound p → IsSound (assuming p []) → AreSame literals all → IsLeast (assuming p []) all units c
+pub least-reason : (p : Program) (literals some : List ℤ) (units : ℕ) (c : Core) → IsSound p → IsSound (assuming p []) → IsEnough p literals some → IsLeast (assuming p []) some units c
     → IsReason true p literals true units (Some c)
-least-reason p literals all units c sound bare same least = record {
+least-reason p literals some units c sound bare enough least = record {
   core = (
-    record { among = λ l h. sym (same.same l) ∙ least.core.among l h; suffices = refutes-itself p [] c.literals sound bare least.core.suffices },
+    record { among = λ l h. enough.among l (least.core.among l h); suffices = refutes-itself p [] c.literals sound bare least.core.suffices },
     λ e l h. meets-itself p [] (without l c.literals) sound bare (least.minimal e l h),
   );
   paid = least.paid;
@@ -61,30 +78,30 @@ least-reason p literals all units c sound bare same least = record {
   spends = λ e all_spent. least.open_at all_spent;
 }
 
--- all that was assumed
-pub whole-reason : (p : Program) (literals all : List ℤ) (units : ℕ) → AreSame literals all → Refutes p literals →
-    IsReason false p literals true units (Some (record { literals = all; minimal = false; spent = 0 }))
-whole-reason p literals all units same none = record {
-  core = (record { among = λ l h. sym (same.same l) ∙ h; suffices = refutes-more p literals all (λ l h. same.same l ∙ h) none }, λ e. absurd (false≢true e));
+-- what is told as it is
+pub whole-reason : (p : Program) (literals some : List ℤ) (units : ℕ) → IsEnough p literals some →
+    IsReason false p literals true units (Some (record { literals = some; minimal = false; spent = 0 }))
+whole-reason p literals some units enough = record {
+  core = (record { among = enough.among; suffices = enough.none }, λ e. absurd (false≢true e));
   paid = omega arith;
   plain = λ e. refl;
   spends = λ e. absurd (false≢true e);
 }
 
-pub least-reasons : {E : Type 0} (p : Program) (literals all : List ℤ) (units : ℕ) (q : Program) (r : Result Core E) → IsSound p → IsSound (assuming p []) → q ≡ assuming p [] → AreSame literals all
-    → IfOk r (IsLeast q all units) → IfOk r (λ c. IsReason true p literals true units (Some c))
-least-reasons p literals all units q (Err e) sound bare is same h = tt
-least-reasons p literals all units q (Ok c) sound bare is same h = least-reason p literals all units c sound bare same (subst (λ (x : Program). IsLeast x all units c) is h)
+pub least-reasons : {E : Type 0} (p : Program) (literals some : List ℤ) (units : ℕ) (q : Program) (r : Result Core E) → IsSound p → IsSound (assuming p []) → q ≡ assuming p [] → IsEnough p literals some
+    → IfOk r (IsLeast q some units) → IfOk r (λ c. IsReason true p literals true units (Some c))
+least-reasons p literals some units q (Err e) sound bare is enough h = tt
+least-reasons p literals some units q (Ok c) sound bare is enough h = least-reason p literals some units c sound bare enough (subst (λ (x : Program). IsLeast x some units c) is h)
 
 pub nothing-assumed : (p : Program) (literals : List ℤ) → IsSound (assuming p literals) → IsSound (assuming p [])
 nothing-assumed p literals sound = (sound-with p literals [] sound (λ l h. absurd (false≢true h)) (omega arith)).itself
 
 -- what the least core is made of
-pub bare-sound : (p q : Program) (literals all : List ℤ) → q ≡ assuming p [] → IsSound (assuming p literals) → AreSame literals all → IsSoundWith q all
-bare-sound p q literals all is sound same = subst (λ (x : Program). IsSoundWith x all) (sym is) (sound-with p literals all sound (λ l h. sym (same.same l) ∙ h) same.few)
+pub bare-sound : (p q : Program) (literals some : List ℤ) → q ≡ assuming p [] → IsSound (assuming p literals) → IsEnough p literals some → IsSoundWith q some
+bare-sound p q literals some is sound enough = subst (λ (x : Program). IsSoundWith x some) (sym is) (sound-with p literals some sound enough.among enough.few)
 
-pub bare-none : (p q : Program) (literals all : List ℤ) → q ≡ assuming p [] → IsSound p → IsSound (assuming p []) → AreSame literals all → Refutes p literals → Refutes q all
-bare-none p q literals all is sound bare same none = subst (λ (x : Program). Refutes x all) (sym is) (refutes-bare p [] all sound bare (refutes-more p literals all (λ l h. same.same l ∙ h) none))
+pub bare-none : (p q : Program) (literals some : List ℤ) → q ≡ assuming p [] → IsSound p → IsSound (assuming p []) → IsEnough p literals some → Refutes q some
+bare-none p q literals some is sound bare enough = subst (λ (x : Program). Refutes x some) (sym is) (refutes-bare p [] some sound bare enough.none)
 
 -- where the query has a model, or isn't finished
 pub no-reason : (least : Bool) (p : Program) (literals : List ℤ) (refuted : Bool) (units : ℕ) → refuted ≡ false → IsReason least p literals refuted units None

@@ -90,9 +90,20 @@ Refutes p literals = (S : Atoms) → is_stable p S ≡ true → all_hold S liter
 abbrev pub Meets : Program → List ℤ → Type 0
 Meets p literals = (S : Atoms) × (is_stable p S ≡ true) × (all_hold S literals ≡ true)
 
+-- the core that the search that is kept told; what was prepared was searched from scratch
+abbrev pub kept_core : Option Prepared → Option (List ℤ) → Option (List ℤ)
+kept_core None core = core
+kept_core (Some x) core = None
+
 -- each literal of the one stands in the other
 abbrev pub AreAmong : List ℤ → List ℤ → Type 0
 AreAmong some all = (l : ℤ) → is_listed some l ≡ true → is_listed all l ≡ true
+
+-- Some of the literals, which no stable model has together.
+pub record IsEnough (p : Program) (all literals : List ℤ) : Type 0 where
+  pub among : AreAmong literals all
+  pub few : length literals ≤ length all
+  pub none : Refutes p literals
 
 -- The program is within the limits, also with no more literals than these, taken from them.
 pub record IsSoundWith (p : Program) (literals : List ℤ) : Type 0 where

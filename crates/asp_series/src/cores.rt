@@ -1,12 +1,12 @@
 //! The core of a query without an answer: literals that no stable model has together.
-ghost use Rattle.std.specs.Prelude.{◌≡◌, ◌++◌, [], IfOk, OnOk, Some, false, true};
+ghost use Rattle.std.specs.Prelude.{◌≡◌, ◌++◌, [], IfOk, IfSome, OnOk, Some, false, option_map, true};
 ghost use Rattle.asp_cli.specs.Found.{seeks_consequences};
-ghost use Rattle.asp_series.specs.Asking.{AreSame, IsAskable, IsLeast, IsReason, IsShrunk, IsSoundWith, Refutes, Shrinks, Tries, verdict_by};
+ghost use Rattle.asp_series.specs.Asking.{IsAskable, IsEnough, IsLeast, IsReason, IsShrunk, IsSoundWith, Refutes, Shrinks, Tries, kept_core, verdict_by};
 ghost use Rattle.asp_prepare.specs.Meaning.{is_some_of};
 ghost use Rattle.asp_series.specs.Series.{is_refuted};
 
-use crate::ask::{Asking, seek};
-use crate::literals::{all_assumed, without};
+use crate::ask::{Asking, Sought, seek};
+use crate::literals::{all_assumed, in_order, without};
 use crate::solver::Solver;
 use asp_counts::counts::Counts;
 use asp_counts::watch::Watch;
@@ -195,6 +195,36 @@ fn bare(alloc: Global, program: &Program) -> Result<Program, AllocError>
     Ok(bare)
 }
 
+// The core that the search that is kept told of a query.
+fn kept_core(sought: &Sought) -> Option<&[i32]>
+    ensures { option_map (λ core. core.now) result ≡ kept_core sought.entry.prepared sought.entry.report.core }
+{
+    match (&sought.prepared, &sought.report.core) {
+        (None, Some(core)) => Some(core.as_slice()),
+        _ => None,
+    }
+}
+
+// Literals with which no stable model is left: the core that the search that is kept told, or else all that the query assumes.
+fn first_core<S>(
+    alloc: Global,
+    asking: &Asking<'_, S>,
+    sought: &Sought,
+) -> Result<Vec<i32>, AllocError>
+    requires none { Refutes asking.now.program.now (asking.now.program.now.assumptions ++ asking.now.literals.now) }
+    requires kept { IfSome (kept_core sought.now.prepared sought.now.report.core) (IsEnough asking.now.program.now (asking.now.program.now.assumptions ++ asking.now.literals.now)) }
+    ensures { IfOk result (λ literals. IsEnough asking.now.program.now (asking.now.program.now.assumptions ++ asking.now.literals.now) literals.items) }
+{
+    match kept_core(sought) {
+        Some(core) => in_order(alloc, core),
+        None => all_assumed(
+            alloc,
+            asking.program.assumptions.as_slice(),
+            asking.literals,
+        ),
+    }
+}
+
 // The core of a query that has no answer, with `--core-min` as little as may be.
 fn least_reason<S: Solver, W: Watch>(
     alloc: Global,
@@ -205,8 +235,7 @@ fn least_reason<S: Solver, W: Watch>(
 ) -> Result<Core, AllocError>
     requires solver { S.may asking.now.solver.now }
     requires askable { IsAskable asking.now.options.now asking.now.program.now asking.now.literals.now }
-    requires none { Refutes asking.now.program.now (asking.now.program.now.assumptions ++ asking.now.literals.now) }
-    requires assumed { AreSame (asking.now.program.now.assumptions ++ asking.now.literals.now) literals.now }
+    requires enough { IsEnough asking.now.program.now (asking.now.program.now.assumptions ++ asking.now.literals.now) literals.now }
     ensures reason { IfOk result (λ c. IsReason true asking.now.program.now (asking.now.program.now.assumptions ++ asking.now.literals.now) true asking.now.units (Some c)) }
     ensures heard { W.IsAfter watch.old watch.new }
 {
@@ -223,24 +252,22 @@ fn least_reason<S: Solver, W: Watch>(
     core
 }
 
-// The core of a query that has no answer: all that it assumes, or with `--core-min` as little as may be.
+// The core of a query that has no answer: the first one, or with `--core-min` as little of it as may be.
 fn reason<S: Solver, W: Watch>(
     alloc: Global,
     asking: &Asking<'_, S>,
+    sought: &Sought,
     counts: &mut Counts,
     watch: &mut W,
 ) -> Result<Core, AllocError>
     requires solver { S.may asking.now.solver.now }
     requires askable { IsAskable asking.now.options.now asking.now.program.now asking.now.literals.now }
     requires none { Refutes asking.now.program.now (asking.now.program.now.assumptions ++ asking.now.literals.now) }
+    requires kept { IfSome (kept_core sought.now.prepared sought.now.report.core) (IsEnough asking.now.program.now (asking.now.program.now.assumptions ++ asking.now.literals.now)) }
     ensures reason { IfOk result (λ c. IsReason asking.now.options.now.core_min asking.now.program.now (asking.now.program.now.assumptions ++ asking.now.literals.now) true asking.now.units (Some c)) }
     ensures heard { W.IsAfter watch.old watch.new }
 {
-    let literals = all_assumed(
-        alloc,
-        asking.program.assumptions.as_slice(),
-        asking.literals,
-    )?;
+    let literals = first_core(alloc, asking, sought)?;
     if asking.options.core_min {
         least_reason(alloc, asking, literals.as_slice(), counts, watch)
     } else {
@@ -266,18 +293,19 @@ fn is_refuted(results: &Results<Sets>) -> bool
 pub fn core_of<S: Solver, W: Watch>(
     alloc: Global,
     asking: &Asking<'_, S>,
-    results: &Results<Sets>,
+    sought: &Sought,
     counts: &mut Counts,
     watch: &mut W,
 ) -> Result<Option<Core>, AllocError>
     requires solver { S.may asking.now.solver.now }
     requires askable { IsAskable asking.now.options.now asking.now.program.now asking.now.literals.now }
-    requires none { is_refuted results.now ≡ true → Refutes asking.now.program.now (asking.now.program.now.assumptions ++ asking.now.literals.now) }
-    ensures reason { IfOk result (IsReason asking.now.options.now.core_min asking.now.program.now (asking.now.program.now.assumptions ++ asking.now.literals.now) (is_refuted results.now) asking.now.units) }
+    requires kept { IfSome (kept_core sought.now.prepared sought.now.report.core) (IsEnough asking.now.program.now (asking.now.program.now.assumptions ++ asking.now.literals.now)) }
+    requires none { is_refuted sought.now.report.results ≡ true → Refutes asking.now.program.now (asking.now.program.now.assumptions ++ asking.now.literals.now) }
+    ensures reason { IfOk result (IsReason asking.now.options.now.core_min asking.now.program.now (asking.now.program.now.assumptions ++ asking.now.literals.now) (is_refuted sought.now.report.results) asking.now.units) }
     ensures heard { W.IsAfter watch.old watch.new }
 {
-    if is_refuted(results) {
-        let core = reason(alloc, asking, counts, watch)?;
+    if is_refuted(&sought.report.results) {
+        let core = reason(alloc, asking, sought, counts, watch)?;
         Ok(Some(core))
     } else {
         Ok(None)

@@ -1,4 +1,4 @@
-//! Lists of literals: those that a query assumes, and the others of one.
+//! Lists of literals: those that a query assumes, those of a core, and the others of one.
 ghost use Rattle.std.specs.Prelude.{◌≡◌, ◌++◌, ◌∷◌, [], IfOk, OnOk};
 ghost use Rattle.asp_series.specs.Asking.{AreSame};
 ghost use Rattle.asp_series.specs.Series.{without};
@@ -23,6 +23,15 @@ pub fn all_assumed(
 {
     let mut all = Vec::from_slice(alloc, assumptions)?;
     all.extend_from_slice(query)?;
+    put_in_order(&mut all);
+    Ok(all)
+}
+
+/// The literals of a core, in order, each once.
+pub fn in_order(alloc: Global, core: &[i32]) -> Result<Vec<i32>, AllocError>
+    ensures { IfOk result (λ all. AreSame core.now all.items) }
+{
+    let mut all = Vec::from_slice(alloc, core)?;
     put_in_order(&mut all);
     Ok(all)
 }

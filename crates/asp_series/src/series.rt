@@ -87,7 +87,7 @@ fn answer<S: Solver, W: Watch>(
         units: asking.units - sought.report.spent,
         solver: asking.solver,
     };
-    match core_of(alloc, &rest, &sought.report.results, counts, watch) {
+    match core_of(alloc, &rest, &sought, counts, watch) {
         Ok(core) => {
             let spent = sought.report.spent + spent_in(&core);
             Ok(Reply {

@@ -1,5 +1,5 @@
 use Rattle.std.proofs.Common.{ℕ, ◌+◌, ap, refl}
-use Rattle.asp_series.proofs.FindLaws.{query-refuted}
+use Rattle.asp_series.proofs.FindLaws.{found-core, query-refuted}
 use Rattle.asp_series.proofs.SeriesLaws.{reply-is}
 use Rattle.asp_series.proofs.series.answer.Goals as goal
 
@@ -8,6 +8,11 @@ core_of-requires-clause-none g c =
     let x = c.args.asking.now in
     query-refuted x.options.now x.program.now x.literals.now x.units c.in_ok-sought.sought c.requires.askable.plain c.requires.askable.itself c.requires.askable.sound
     c.in_ok-sought.ensures.found
+
+pub core_of-requires-clause-kept : goal.core_of-requires-clause-kept
+core_of-requires-clause-kept g c =
+    let x = c.args.asking.now in
+    found-core x.options.now x.program.now x.literals.now x.units c.in_ok-sought.sought c.in_ok-sought.ensures.found
 
 pub returns-in-Ok-clause-reply : goal.returns-in-Ok-clause-reply
 returns-in-Ok-clause-reply g c =

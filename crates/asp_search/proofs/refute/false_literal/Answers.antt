@@ -2,7 +2,7 @@ use Rattle.std.proofs.Common.{ℕ, IsSome, sym, subst}
 use Rattle.asp_vars.specs.Literals.{complement, value_of}
 use Rattle.asp_trail.specs.Entries.{assignment}
 use Rattle.asp_search.proofs.RefuteLaws.{has_value}
-use Rattle.asp_search.proofs.refute.false_level.Goals as goal
+use Rattle.asp_search.proofs.refute.false_literal.Goals as goal
 
 pub level_of-requires-clause-has : goal.level_of-requires-clause-has
 level_of-requires-clause-has c =
