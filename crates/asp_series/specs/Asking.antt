@@ -37,7 +37,7 @@ use Rattle.asp_equal.specs.declared.reduce.Aside.{Aside}
 use Rattle.asp_equal.specs.Reduced.{none_aside}
 use Rattle.asp_prepare.specs.Meaning.{has_model, mode_of}
 use Rattle.asp_prepare.specs.Naming.{prepared_of}
-use Rattle.asp_series.specs.Series.{Answered, AreAnswered, AreSome, HasCore, IsAnsweredBy, IsAsked, IsMinimal, about, all_done, answered_text, any_model, asks_all, closing_in, end_by, is_done, models_of, query_in, series_text, sums_of, without}
+use Rattle.asp_series.specs.Series.{Answered, AreAnswered, AreSome, HasCore, IsAnsweredBy, IsAsked, IsMinimal, about, all_done, answered_text, any_model, asks_all, closing_in, end_by, is_done, models_of, query_in, series_text, sums_of, TellsClosed, without}
 
 -- ---- a search
 -- what was prepared was searched
@@ -304,3 +304,8 @@ abbrev pub StopMeans : Options → Series → Option (List ℕ) → Option (List
 StopMeans given s held held' writes writes' Memory = Stops given s held held' × (writes' ≡ writes)
 StopMeans given s held held' writes writes' (WriteFault closed) = Fails given s held held' writes writes'
 StopMeans given s held held' writes writes' end = ⊥
+
+-- what asking them in turn came to: all of them were, unless one isn't finished, or it is said why not
+abbrev pub AsksInTurn : Options → Series → Option (List ℕ) → Option (List ℕ) → ℕ → ℕ → Bool → Result Course SeriesEnd → Type 0
+AsksInTurn given s held held' writes writes' closed (Ok c) = IsThrough given s.program s.queries held held' writes writes' c
+AsksInTurn given s held held' writes writes' closed (Err end) = StopMeans given s held held' writes writes' end × TellsClosed end closed

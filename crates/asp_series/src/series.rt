@@ -2,7 +2,7 @@
 ghost use Rattle.std.specs.Prelude.{◌≡◌, ◌≤◌, ◌-◌, ◌*◌, IfErr, IfOk, OnOk, false, option_map, true, Some};
 ghost use Rattle.asp_cli.specs.Found.{seeks_consequences};
 ghost use Rattle.asp_read.specs.Queries.{IsSoundSeries};
-ghost use Rattle.asp_series.specs.Asking.{AsksOn, CloseMeans, IsAskable, IsKeptOf, IsReply, IsThrough, StepMeans, StopMeans, answered_of, end_of, gone_on, literals_in, minimal_in, most_recorded, reply_text, searched_in, spent_in, sums_at};
+ghost use Rattle.asp_series.specs.Asking.{AsksInTurn, AsksOn, CloseMeans, IsAskable, IsKeptOf, IsReply, StepMeans, answered_of, end_of, gone_on, literals_in, minimal_in, most_recorded, reply_text, searched_in, spent_in, sums_at};
 ghost use Rattle.asp_faults.specs.Writing.{Writes};
 ghost use Rattle.asp_series.specs.Series.{Asks, IsSentOn, TellsClosed, TellsFaults, asks_all, closing_in, is_done, opening_in, query_in};
 
@@ -297,9 +297,7 @@ fn ask_in_turn<K: Sink, S: Solver, W: Watch>(
     requires plain { seeks_consequences (Some options.now.mode) ≡ false }
     requires sound { IsSoundSeries series.now }
     requires kept { IsKeptOf options.now series.now.program kept.old }
-    ensures asked { IfOk result (IsThrough options.now series.now.program series.now.queries (K.held sink.old) (K.held sink.new) (K.faults sink.old) (K.faults sink.new)) }
-    ensures stops { IfErr result (λ s. StopMeans options.now series.now (K.held sink.old) (K.held sink.new) (K.faults sink.old) (K.faults sink.new) s) }
-    ensures closed { IfErr result (λ s. TellsClosed s (K.is_closed sink.new)) }
+    ensures asks { AsksInTurn options.now series.now (K.held sink.old) (K.held sink.new) (K.faults sink.old) (K.faults sink.new) (K.is_closed sink.new) result }
     ensures heard { W.IsAfter watch.old watch.new }
 {
     let mut course = Course {
@@ -357,9 +355,7 @@ fn ask_whole<K: Sink, S: Solver, W: Watch>(
     requires sound { IsSoundSeries series.now }
     requires all { asks_all options.now series.now.program ≡ true }
     requires whole { compiled.now ≡ series.now.program }
-    ensures asked { IfOk result (IsThrough options.now series.now.program series.now.queries (K.held sink.old) (K.held sink.new) (K.faults sink.old) (K.faults sink.new)) }
-    ensures stops { IfErr result (λ s. StopMeans options.now series.now (K.held sink.old) (K.held sink.new) (K.faults sink.old) (K.faults sink.new) s) }
-    ensures closed { IfErr result (λ s. TellsClosed s (K.is_closed sink.new)) }
+    ensures asks { AsksInTurn options.now series.now (K.held sink.old) (K.held sink.new) (K.faults sink.old) (K.faults sink.new) (K.is_closed sink.new) result }
     ensures heard { W.IsAfter watch.old watch.new }
 {
     let mut kept = Some(KeptSearch::new(alloc, compiled, solver.patience(compiled)));
@@ -383,9 +379,7 @@ fn ask_anew<K: Sink, S: Solver, W: Watch>(
     requires solver { S.may solver.now }
     requires plain { seeks_consequences (Some options.now.mode) ≡ false }
     requires sound { IsSoundSeries series.now }
-    ensures asked { IfOk result (IsThrough options.now series.now.program series.now.queries (K.held sink.old) (K.held sink.new) (K.faults sink.old) (K.faults sink.new)) }
-    ensures stops { IfErr result (λ s. StopMeans options.now series.now (K.held sink.old) (K.held sink.new) (K.faults sink.old) (K.faults sink.new) s) }
-    ensures closed { IfErr result (λ s. TellsClosed s (K.is_closed sink.new)) }
+    ensures asks { AsksInTurn options.now series.now (K.held sink.old) (K.held sink.new) (K.faults sink.old) (K.faults sink.new) (K.is_closed sink.new) result }
     ensures heard { W.IsAfter watch.old watch.new }
 {
     let mut none = None;
@@ -409,9 +403,7 @@ fn ask_each<K: Sink, S: Solver, W: Watch>(
     requires solver { S.may solver.now }
     requires plain { seeks_consequences (Some options.now.mode) ≡ false }
     requires sound { IsSoundSeries series.now }
-    ensures asked { IfOk result (IsThrough options.now series.now.program series.now.queries (K.held sink.old) (K.held sink.new) (K.faults sink.old) (K.faults sink.new)) }
-    ensures stops { IfErr result (λ s. StopMeans options.now series.now (K.held sink.old) (K.held sink.new) (K.faults sink.old) (K.faults sink.new) s) }
-    ensures closed { IfErr result (λ s. TellsClosed s (K.is_closed sink.new)) }
+    ensures asks { AsksInTurn options.now series.now (K.held sink.old) (K.held sink.new) (K.faults sink.old) (K.faults sink.new) (K.is_closed sink.new) result }
     ensures heard { W.IsAfter watch.old watch.new }
 {
     if !asks_all(options, &series.program) {

@@ -28,8 +28,8 @@ loop-i-preserved g c =
       heard = g.met.W.Watch.goes_on c.args.watch.now c.loop-i.watch c.step.new.watch c.loop-i.invariant.heard c.step.ensures.heard;
     }
 
-pub returns-else-next-clause-asked : goal.returns-else-next-clause-asked
-returns-else-next-clause-asked g c =
+pub returns-else-next-clause-asks : goal.returns-else-next-clause-asks
+returns-else-next-clause-asks g c =
     let next =
     next-query c.args.series.now.queries c.as_slice-queries.result.now c.loop-i.i c.index-queries-i.result c.as_slice.result.now
     c.as_slice-queries.ensures.value c.loop-i-test.true c.index-queries-i.is c.as_slice.ensures.value in
@@ -41,18 +41,18 @@ returns-else-next-clause-asked g c =
 pub returns-else-next-clause-heard : goal.returns-else-next-clause-heard
 returns-else-next-clause-heard g c = g.met.W.Watch.goes_on c.args.watch.now c.loop-i.watch c.step.new.watch c.loop-i.invariant.heard c.step.ensures.heard
 
-pub returns-in-Err-clause-stops : goal.returns-in-Err-clause-stops
-returns-in-Err-clause-stops g c =
+pub returns-in-Err-clause-asks : goal.returns-in-Err-clause-asks
+returns-in-Err-clause-asks g c =
     let next =
     next-query c.args.series.now.queries c.as_slice-queries.result.now c.loop-i.i c.index-queries-i.result c.as_slice.result.now
     c.as_slice-queries.ensures.value c.loop-i-test.true c.index-queries-i.is c.as_slice.ensures.value in
-    at-stops c.args.options.now c.args.series.now c.loop-i.i c.as_slice.result.now (drop (c.loop-i.i + 1) c.args.series.now.queries) _ _ _ _ _ _
-    c.loop-i.course c.in-Err.end c.loop-i.invariant.at next c.in-Err.ensures.means
+    (at-stops c.args.options.now c.args.series.now c.loop-i.i c.as_slice.result.now (drop (c.loop-i.i + 1) c.args.series.now.queries) _ _ _ _ _ _
+    c.loop-i.course c.in-Err.end c.loop-i.invariant.at next c.in-Err.ensures.means, c.in-Err.ensures.closed)
 
 pub returns-in-Err-clause-heard : goal.returns-in-Err-clause-heard
 returns-in-Err-clause-heard g c = g.met.W.Watch.goes_on c.args.watch.now c.loop-i.watch c.step.new.watch c.loop-i.invariant.heard c.step.ensures.heard
 
-pub returns-clause-asked : goal.returns-clause-asked
-returns-clause-asked g c =
+pub returns-clause-asks : goal.returns-clause-asks
+returns-clause-asks g c =
     let same = ap (λ (qs : List (List ℤ)). length qs) c.as_slice-queries.ensures.value in
     at-end c.args.options.now c.args.series.now _ _ _ _ c.loop-i.i c.loop-i.course c.loop-i.invariant.at (omega (arith, same))
