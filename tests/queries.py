@@ -185,16 +185,21 @@ def minimised(text):
     return text.removesuffix("0\n") + f"2 0 12 {' '.join(f'{atom} 1' for atom in range(1, 13))}\n0\n"
 
 
+def without_cores(done):
+    """What a series wrote, but for the literals of its cores, and its status. Which core is told depends on who searched the query."""
+    return re.sub(b"ore: .*", b"ore:", done.stdout), done.returncode
+
+
 def shares(program):
-    """Whether workers search each hard query, by other counts than one thread has, and one search the easy ones, by the same counts; the results are those of one thread."""
+    """Whether workers search each hard query, by other counts than one thread has, and one search the easy ones, by the same counts; the results are those of one thread, but for which core is told."""
     hard, queries = switched_sat(180, 4.6, 3, 1)
     easy, some = switched_sat(20, 4.6, 3, 1)
     rows = [("enum", hard, queries, True), ("opt", minimised(hard), queries, True), ("opt", minimised(easy), some, False)]
     for mode, text, asked, is_hard in rows:
         source = text + "".join(map(statement, asked)) + "0\n"
         (alone, one), (crew, four) = (counted([program, "--mode", mode, "--workers", workers], source) for workers in ("1", "4"))
-        if (alone.stdout, alone.returncode) != (crew.stdout, crew.returncode) or len(one) != len(asked):
-            return f"{mode}: {alone.stdout!r}, by four workers {crew.stdout!r}"
+        if without_cores(alone) != without_cores(crew) or len(one) != len(asked):
+            return f"{mode}: {alone.stdout[-200:]!r}, by four workers {crew.stdout[-200:]!r}"
         if [counts != others for counts, others in zip(one, four)] != [is_hard] * len(asked):
             return f"{mode}: {one}, of four workers {four}"
     return None
@@ -217,7 +222,7 @@ def tells_why(program):
     text = f"asp 1 0 0\n1 1 20 {' '.join(map(str, range(1, 21)))} 0 0\n1 0 0 0 2 3 4\n"
     asked = "".join(map(statement, [[9, 3, 7, 4, 8, 10], [3, -5, 4]]))
     told = compare.run(words, f"{text}0\n{asked}0\n").stdout.decode()
-    none = compare.run(words, f"{text}1 0 0 0 0 0\n0\n{statement([1, -2])}0\n").stdout.decode()
+    none = compare.run(words, f"{text}1 0 0 0 0\n0\n{statement([1, -2])}0\n").stdout.decode()
     return [line for line in told.split("\n") if "ore:" in line] == ["Core: 3 4 9", "Core: 3 4"] and "\nCore:\n" in none
 
 

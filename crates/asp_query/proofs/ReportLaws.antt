@@ -7,7 +7,9 @@ use Rattle.std.proofs.lemmas.Bool.{false≢true}
 use Rattle.std.proofs.lemmas.List.Filters.{length-filter_both}
 use Rattle.asp_model.specs.declared.program.Program.{Program}
 use Rattle.asp_model.specs.declared.results.Mode.TheVariants.{Enum}
-use Rattle.asp_model.specs.Sets.{Atoms, same_set}
+use Rattle.asp_model.specs.Holding.{atom_of}
+use Rattle.asp_model.specs.Models.{atoms_of}
+use Rattle.asp_model.specs.Sets.{Atoms, has, same_set}
 use Rattle.asp_vars.specs.Numbering.{literal_of}
 use Rattle.asp_vars.specs.Paid.{Units}
 use Rattle.asp_path.specs.Trees.{all_closed}
@@ -18,6 +20,7 @@ use Rattle.asp_core.specs.declared.task.Task.{Task}
 use Rattle.asp_core.specs.Boards.{Board, IsQuery, distinct, is_enough, listed_by, showing, sought, wanted}
 use Rattle.asp_core.specs.Events.{replay}
 use Rattle.asp_core.specs.Sorting.{answers_of, sorted_once}
+use Rattle.asp_core.proofs.BoardLaws.{wanted-stand}
 use Rattle.asp_core.proofs.ResultLaws.{HasResult-finished}
 use Rattle.asp_core.proofs.SortingLaws.{sorted-has}
 use Rattle.asp_book.specs.Books.{Booked, board, with_events, IsJournalOf}
@@ -62,6 +65,16 @@ none-best p q n r stands lawful told =
     none-kept b.task b.best (ap (λ (x : Task). x.goal) (task-is t r stands lawful told)) (is-board t r stands lawful told).best
 
 -- ---- the core
+-- what it is made of
+pub nothing-sought : (v : Booked) → IsWorkedThrough v → sought (board v).task.goal ≡ None
+nothing-sought v is = ap (λ (x : Task). sought x.goal) (board-task v ∙ is.asks)
+
+pub wanted-are : (v : Booked) (p : Program) (literals : List ℤ) → IsWorkedThrough v → p ≡ v.task.program → literals ≡ wanted v.task →
+    AllByRecursion (λ l. has (atoms_of p) (atom_of l) ≡ true) literals
+wanted-are v p literals is same all =
+    subst (λ (q : Program). AllByRecursion (λ l. has (atoms_of q) (atom_of l) ≡ true) literals) (sym same)
+    (subst (AllByRecursion (λ l. has (atoms_of v.task.program) (atom_of l) ≡ true)) (sym all) (wanted-stand v.task is.query))
+
 few-filtered : (f : ℤ → Bool) (xs : List ℤ) → length (filter f xs) ≤ length xs
 few-filtered f xs = let both = length-filter_both f (λ x. not (f x)) (λ x. refl) xs in omega (arith, both)
 
@@ -74,7 +87,7 @@ is-core v is lawful closed best none =
     let core : IsCore v.task.program (wanted v.task) (blamed_by (board v).task.program (board v).reasons (wanted (board v).task)) =
     blamed-core v.task v.journal is.query lawful closed nothing in
     record {
-      core = subst (λ (x : Task). IsCore v.task.program (wanted v.task) (blamed_by x.program (board v).reasons (wanted x))) (board-task v) core;
+      is = subst (λ (x : Task). IsCore v.task.program (wanted v.task) (blamed_by x.program (board v).reasons (wanted x))) (board-task v) core;
       few = few-filtered (λ l. is_blamed (board v).reasons (literal_of v.task.program l)) (wanted v.task);
     }
 

@@ -69,7 +69,7 @@ pub record IsWorkedThrough (v : Booked) : Type 0 where
 
 -- These of the query's literals, and of the program's assumptions, suffice for there being no answer.
 pub record IsCoreOf (t : Task) (core : List ℤ) : Type 0 where
-  pub core : IsCore t.program (wanted t) core
+  pub is : IsCore t.program (wanted t) core
   pub few : length core ≤ length (wanted t)
 
 -- exactly where no answer was found there is a core

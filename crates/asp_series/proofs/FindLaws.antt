@@ -105,7 +105,7 @@ module _ (given : Options) (p : Program) (query : List ℤ) (units : ℕ) (s : S
   -- the core that the search that is kept told suffices
   core-enough : (A : List Atoms) (o : Option (List ℤ)) → HasCore (query_of p query units) A o → IfSome o (IsEnough p (p.assumptions ++ query))
   core-enough [] None h = tt
-  core-enough [] (Some core) h = record { among = h.core.among; few = h.few; none = h.core.suffices }
+  core-enough [] (Some core) h = record { among = h.is.among; few = h.few; none = h.is.suffices }
   core-enough (S ∷ A) None h = tt
   core-enough (S ∷ A) (Some core) h = absurd h
 

@@ -45,9 +45,11 @@ pub returns-in-Err-clause-asks : goal.returns-in-Err-clause-asks
 returns-in-Err-clause-asks g c =
     let next =
     next-query c.args.series.now.queries c.as_slice-queries.result.now c.loop-i.i c.index-queries-i.result c.as_slice.result.now
-    c.as_slice-queries.ensures.value c.loop-i-test.true c.index-queries-i.is c.as_slice.ensures.value in
-    (at-stops c.args.options.now c.args.series.now c.loop-i.i c.as_slice.result.now (drop (c.loop-i.i + 1) c.args.series.now.queries) _ _ _ _ _ _
-    c.loop-i.course c.in-Err.end c.loop-i.invariant.at next c.in-Err.ensures.means, c.in-Err.ensures.closed)
+    c.as_slice-queries.ensures.value c.loop-i-test.true c.index-queries-i.is c.as_slice.ensures.value in (
+      at-stops c.args.options.now c.args.series.now c.loop-i.i c.as_slice.result.now (drop (c.loop-i.i + 1) c.args.series.now.queries) _ _ _ _ _ _
+          c.loop-i.course c.in-Err.end c.loop-i.invariant.at next c.in-Err.ensures.means,
+      c.in-Err.ensures.closed,
+    )
 
 pub returns-in-Err-clause-heard : goal.returns-in-Err-clause-heard
 returns-in-Err-clause-heard g c = g.met.W.Watch.goes_on c.args.watch.now c.loop-i.watch c.step.new.watch c.loop-i.invariant.heard c.step.ensures.heard
