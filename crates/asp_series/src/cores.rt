@@ -197,7 +197,7 @@ fn bare(alloc: Global, program: &Program) -> Result<Program, AllocError>
 
 // The core that the search that is kept told of a query.
 fn kept_core(sought: &Sought) -> Option<&[i32]>
-    ensures { option_map (λ core. core.now) result ≡ kept_core sought.entry.prepared sought.entry.report.core }
+    ensures { option_map (λ core. core.now) result ≡ kept_core sought.entry.now.prepared sought.entry.now.report.core }
 {
     match (&sought.prepared, &sought.report.core) {
         (None, Some(core)) => Some(core.as_slice()),
