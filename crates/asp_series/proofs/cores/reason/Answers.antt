@@ -7,7 +7,7 @@ use Rattle.asp_series.proofs.cores.reason.Goals as goal
 pub least_reason-requires-clause-enough : goal.least_reason-requires-clause-enough
 least_reason-requires-clause-enough g c =
     let p = c.args.asking.now.program.now in
-    subst (IsEnough p (p.assumptions ++ c.args.asking.now.literals.now)) (sym c.as_slice-then-asking.ensures.value) c.in_ok-literals.ensures
+    subst (IsEnough p (p.assumptions ++ c.args.asking.now.literals.now)) (sym c.as_slice.ensures.value) c.in_ok-literals.ensures
 
 pub returns-else-asking-clause-reason : goal.returns-else-asking-clause-reason
 returns-else-asking-clause-reason g c =
