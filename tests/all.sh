@@ -15,6 +15,7 @@ step tests/examples.sh "$1" "$2"
 step tests/aspground.sh "$1"
 step tests/checks.sh "$2"
 step tests/memory.sh "$1" 128
+step python3 tests/held.py "$1"
 step python3 tests/recorded.py "$1" "$2"
 step python3 tests/second.py "$1" "$2"
 step python3 tests/json_output.py "$1"

@@ -2,6 +2,7 @@ pub mod Codes
 pub mod Usage
 pub mod Counts
 pub mod Notes
+pub mod Held
 pub mod Progress
 pub mod Telling
 pub mod Meaning

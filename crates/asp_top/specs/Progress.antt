@@ -8,6 +8,7 @@ pub use Rattle.asp_counts.specs.Counting.{nothing}
 use Rattle.asp_counts.specs.Counting.{since}
 use Rattle.asp_cli.specs.declared.Options.{Options}
 use Rattle.asp_top.specs.Counts.{item_text, part_items, search_items, told_items}
+use Rattle.asp_top.specs.Held.{IsMuch, held_text}
 use Rattle.asp_top.specs.Notes.{IsNoted}
 
 -- what a line tells: the counts, and in an optimisation the cost of the best answer so far
@@ -38,22 +39,24 @@ pub record Part : Type 0 where
 abbrev pub part_text : Part → List ℕ
 part_text x = flat_map item_text (part_items x.all x.counts) ++ flat_map item_text (search_items x.counts) ++ codes "\n"
 
--- a line of a run that goes on, or a part of a series
+-- a line of a run that goes on, a part of a series, or that so many answers are held
 abbrev pub Entry : Type 0
-Entry = Told ⊎ Part
+Entry = Told ⊎ (Part ⊎ ℕ)
 
 abbrev pub entry_text : Entry → List ℕ
 entry_text (inl t) = line_of t
-entry_text (inr x) = part_text x
+entry_text (inr (inl x)) = part_text x
+entry_text (inr (inr answers)) = held_text answers
 
 -- whether parts are told: of a series, where counts are asked for
 abbrev pub tells_parts : Options → Bool
 tells_parts given = given.stats && given.queries
 
--- what is told is asked for
-abbrev pub IsAskedFor : Bool → Bool → Entry → Type 0
-IsAskedFor on parts (inl t) = on ≡ true
-IsAskedFor on parts (inr x) = parts ≡ true
+-- What is told is asked for; that answers are held is told where they take much, each so many bytes.
+abbrev pub IsDue : Bool → Bool → ℕ → Entry → Type 0
+IsDue on parts row (inl t) = on ≡ true
+IsDue on parts row (inr (inl x)) = parts ≡ true
+IsDue on parts row (inr (inr answers)) = IsMuch answers row
 
 -- neither conflicts nor answers are fewer, and one of them are more
 pub record IsMore (c d : Counts) : Type 0 where
@@ -65,7 +68,8 @@ pub record IsMore (c d : Counts) : Type 0 where
 abbrev pub Rises : Counts → List Entry → Counts → Type 0
 Rises c [] d = c ≡ d
 Rises c (inl t ∷ told) d = IsMore c t.counts × Rises t.counts told d
-Rises c (inr x ∷ told) d = Rises c told d
+Rises c (inr (inl x) ∷ told) d = Rises c told d
+Rises c (inr (inr answers) ∷ told) d = Rises c told d
 
 -- A part of a query is what was done since the end of the query before, that of all queries what was done until the end of the last one.
 abbrev pub IsCountedTo : Bool → Counts → Counts → Counts → Type 0
@@ -79,15 +83,25 @@ IsPartOf c x d = IsCountedTo x.all c x.counts d
 abbrev pub Adds : Counts → List Entry → Counts → Type 0
 Adds c [] d = c ≡ d
 Adds c (inl t ∷ told) d = Adds c told d
-Adds c (inr x ∷ told) d = (e : Counts) × IsPartOf c x e × Adds e told d
+Adds c (inr (inl x) ∷ told) d = (e : Counts) × IsPartOf c x e × Adds e told d
+Adds c (inr (inr answers) ∷ told) d = Adds c told d
+
+-- That answers are held is told once at most, and not where it was told before.
+abbrev pub Warns : Bool → List Entry → Bool → Type 0
+Warns w [] v = w ≡ v
+Warns w (inl t ∷ told) v = Warns w told v
+Warns w (inr (inl x) ∷ told) v = Warns w told v
+Warns w (inr (inr answers) ∷ told) v = (w ≡ false) × Warns true told v
 
 -- A front of the lines of a run that went on, of the parts of a series, and of this text was written, and all of it where no fault was
--- counted. What isn't asked for isn't told.
-pub record IsTold (on parts : Bool) (held held' : Option (List ℕ)) (faults faults' : ℕ) (text : List ℕ) : Type 0 where
+-- counted. What isn't due isn't told.
+pub record IsTold (on parts : Bool) (row : ℕ) (held held' : Option (List ℕ)) (faults faults' : ℕ) (text : List ℕ) : Type 0 where
   pub told : List Entry
-  pub asked : AllByRecursion (IsAskedFor on parts) told
+  pub due : AllByRecursion (IsDue on parts row) told
   pub last : Counts
   pub rises : Rises nothing told last
   pub before : Counts
   pub adds : Adds nothing told before
+  pub warned : Bool
+  pub warns : Warns false told warned
   pub noted : IsNoted held held' faults faults' (flat_map entry_text told ++ text)

@@ -51,7 +51,9 @@ use Rattle.asp_stream.specs.declared.told.End.TheVariants as ends
 use Rattle.asp_stream.specs.declared.told.Told.{Told}
 use Rattle.asp_top.specs.Notes.{IsNoted, is_answered, is_streamed, is_written, note_of, notes_of}
 use Rattle.asp_top.specs.Parting.{AreParts, Divides}
+use Rattle.asp_top.specs.Held.{row_of}
 use Rattle.asp_top.specs.Progress.{IsTold, tells_parts}
+use Rattle.asp_top.specs.Telling.{Point, Tells}
 use Rattle.asp_top.specs.Usage.{misuse_note}
 
 -- the source and the sink before and after a run: the bytes that are left and held, where they are told, and the counts of faults
@@ -535,16 +537,27 @@ pub record IsCounted (workers : ℕ) (t : Tally) (r : Report) : Type 0 where
   pub loops : IfSome t.loops (HasLoops r.paid.program)
   pub numbered : AreNumbered workers t.workers
 
--- What the notes get of a run after the words: lines while it goes on, where they are asked for, then the line of its status, lines for
--- options that had no effect, and the counts, where they are asked for
-pub record NotesRun (workers : ℕ) (given : Options) (held held' : Option (List ℕ)) (faults faults' : ℕ) (o : Outcome) : Type 0 where
+-- So many bytes each answer takes that is held until the end, where `--stream` would write it sooner; 0 where none is, as where there is
+-- no program.
+abbrev pub IsRow : Options → Around → ℕ → Type 0
+IsRow given a row = (row ≡ 0) ⊎ ((p : Program) × IsGiven given.format given.make a p × (row ≡ row_of given p))
+
+-- what was told while such a run went on
+abbrev pub Hears : Options → Around → Bool → Bool → Point → Point → Type 0
+Hears given a on parts p q = (row : ℕ) × IsRow given a row × Tells on parts row p q
+
+-- What the notes get of a run after the words: lines while it goes on, where they are asked for, and one where answers are held that take
+-- much; then the line of its status, lines for options that had no effect, and the counts, where they are asked for
+pub record NotesRun (workers : ℕ) (given : Options) (a : Around) (held held' : Option (List ℕ)) (faults faults' : ℕ) (o : Outcome) : Type 0 where
   pub tally : Tally
   pub counted : IfSome o.report (IsCounted workers tally)
-  pub told : IsTold given.progress (tells_parts given) held held' faults faults' (notes_of given tally o)
+  pub row : ℕ
+  pub row_is : IsRow given a row
+  pub told : IsTold given.progress (tells_parts given) row held held' faults faults' (notes_of given tally o)
 
 -- what the notes get of a run whose words give this
-abbrev pub NotesOn : Given → Option (List ℕ) → Option (List ℕ) → ℕ → ℕ → Outcome → Type 0
-NotesOn help held held' faults faults' o = IsNoted held held' faults faults' (note_of o.status)
-NotesOn version held held' faults faults' o = IsNoted held held' faults faults' (note_of o.status)
-NotesOn (misuse m) held held' faults faults' o = IsNoted held held' faults faults' (misuse_note m)
-NotesOn (options given) held held' faults faults' o = NotesRun (crew_of given) given held held' faults faults' o
+abbrev pub NotesOn : Given → Around → Option (List ℕ) → Option (List ℕ) → ℕ → ℕ → Outcome → Type 0
+NotesOn help a held held' faults faults' o = IsNoted held held' faults faults' (note_of o.status)
+NotesOn version a held held' faults faults' o = IsNoted held held' faults faults' (note_of o.status)
+NotesOn (misuse m) a held held' faults faults' o = IsNoted held held' faults faults' (misuse_note m)
+NotesOn (options given) a held held' faults faults' o = NotesRun (crew_of given) given a held held' faults faults' o

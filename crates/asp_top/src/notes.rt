@@ -297,7 +297,8 @@ fn write_optima<N: Sink>(notes: &mut N, options: &Options, mode: Mode) -> Result
     }
 }
 
-fn is_enumeration(mode: Mode) -> bool
+/// Whether all answers are sought.
+pub fn is_enumeration(mode: Mode) -> bool
     ensures { result ≡ is_enumeration mode }
 {
     match mode {
@@ -306,8 +307,8 @@ fn is_enumeration(mode: Mode) -> bool
     }
 }
 
-// Whether answers are written as lines, where they are listed.
-fn lists_lines(options: &Options) -> bool
+/// Whether answers are written as lines, where they are listed.
+pub fn lists_lines(options: &Options) -> bool
     ensures { result ≡ lists_lines options.now }
 {
     match options.form {

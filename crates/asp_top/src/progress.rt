@@ -1,12 +1,14 @@
 //! Lines on the notes while a run goes on.
-ghost use Rattle.std.specs.Prelude.{◌≡◌, ◌<◌, IsTrue, true};
+ghost use Rattle.std.specs.Prelude.{◌≡◌, ◌<◌, IsTrue, false, true};
 ghost use Rattle.std.specs.Option.{option_copied};
 ghost use Rattle.asp_buffer.specs.Out.{Puts, out};
+ghost use Rattle.asp_top.specs.Held.{IsMuch, row_in};
 ghost use Rattle.asp_top.specs.Notes.{Writes, notes_of};
 ghost use Rattle.asp_top.specs.Progress.{IsMore, best_text, end_of, line_of, nothing, part_text, query_text, tells_parts};
-ghost use Rattle.asp_top.specs.Telling.{EndsWith};
+ghost use Rattle.asp_top.specs.Telling.{EndsWith, Tells, point};
 
 use crate::counts::{Tally, part_items, put_items, search_items, told_items};
+use crate::held::{is_much, row_in, write_held};
 use crate::notes::note;
 use crate::status::Outcome;
 use asp_buffer::{Waiting, flush, put, put_number};
@@ -16,6 +18,7 @@ use asp_counts::watch::Watch;
 use asp_io::{Failed, Sink};
 use asp_model::cost::Cost;
 use asp_print::put_sums;
+use asp_vars::compiled::Compiled;
 
 fn put_cost<N: Sink>(notes: &mut N, waiting: &mut Waiting, cost: &Cost) -> Result<(), Failed>
     ensures { Puts (out (N.held notes.old) (N.faults notes.old) waiting.old)
@@ -147,6 +150,10 @@ pub struct Progress<'a, N: Sink> {
     pub parts: bool,
     /// The counts at the end of the last query.
     pub before: Counts,
+    /// How many bytes each answer takes that is held until the end, where `--stream` would write it sooner; 0 where none is.
+    pub row: u64,
+    /// Whether it was told that the answers held take much.
+    pub warned: bool,
 }
 
 impl<'a, N: Sink> Progress<'a, N> {
@@ -159,6 +166,8 @@ impl<'a, N: Sink> Progress<'a, N> {
         ensures last { result.last ≡ nothing }
         ensures parts { result.parts ≡ tells_parts options.now }
         ensures before { result.before ≡ nothing }
+        ensures row { result.row ≡ 0 }
+        ensures warned { result.warned ≡ false }
     {
         Progress {
             notes,
@@ -167,7 +176,16 @@ impl<'a, N: Sink> Progress<'a, N> {
             last: Counts::new(),
             parts: options.stats && options.queries,
             before: Counts::new(),
+            row: 0,
+            warned: false,
         }
+    }
+
+    /// From now on this program is searched, whose answers may be held until the end.
+    pub fn weigh(&mut self, options: &Options, compiled: &Compiled)
+        ensures { self.new ≡ record self.old { row = row_in options.now compiled.now } }
+    {
+        self.row = row_in(options, compiled);
     }
 
     // Whether a line is to be written.
@@ -180,6 +198,33 @@ impl<'a, N: Sink> Progress<'a, N> {
             Ok(()) => self.on && is_more(&self.last, counts, cheaper),
             Err(Failed) => false,
         }
+    }
+
+    // Whether it is to be written that the answers held take much.
+    fn is_heavy(&self, counts: &Counts) -> bool
+        ensures state { IsTrue result → self.now.state ≡ Ok tt }
+        ensures once { IsTrue result → self.now.warned ≡ false }
+        ensures much { IsTrue result → IsMuch counts.now.answers self.now.row }
+    {
+        match self.state {
+            Ok(()) => !self.warned && is_much(counts.answers, self.row),
+            Err(Failed) => false,
+        }
+    }
+
+    // Writes that the answers held take much, where it is due.
+    fn tell_held(&mut self, counts: &Counts)
+        ensures notes { self.new.notes.ghost_name ≡ self.old.notes.ghost_name }
+        ensures same { (self.new.on ≡ self.old.on) × (self.new.parts ≡ self.old.parts) × (self.new.row ≡ self.old.row) }
+        ensures told { Tells self.old.on self.old.parts self.old.row
+            (point (N.held self.old.notes.now) (N.faults self.old.notes.now) self.old.state self.old.last self.old.before self.old.warned)
+            (point (N.held self.new.notes.now) (N.faults self.new.notes.now) self.new.state self.new.last self.new.before self.new.warned) }
+    {
+        if !self.is_heavy(counts) {
+            return;
+        }
+        self.state = write_held(self.notes, counts.answers);
+        self.warned = true;
     }
 
     // Whether a part is to be written.
@@ -212,15 +257,16 @@ pub fn end<N: Sink>(
 }
 
 impl<N: Sink> Watch for Progress<'_, N> {
-    ghost use Rattle.std.proofs.Common.{◌∙◌, Bool, refl, subst};
+    ghost use Rattle.std.proofs.Common.{◌∙◌, refl};
     ghost use Rattle.std.specs.Prelude.{◌≡◌};
-    ghost use Rattle.asp_top.specs.Telling.{Tells, more_told, nothing_told, point};
+    ghost use Rattle.asp_top.specs.Telling.{Tells, as_told, more_told, nothing_told, point};
 
-    ghost IsAfter = { λ p q. (q.notes.ghost_name ≡ p.notes.ghost_name) × (q.on ≡ p.on) × (q.parts ≡ p.parts)
-        × Tells p.on p.parts (point (N.held p.notes.now) (N.faults p.notes.now) p.state p.last p.before)
-        (point (N.held q.notes.now) (N.faults q.notes.now) q.state q.last q.before) };
+    ghost IsAfter = { λ p q. (q.notes.ghost_name ≡ p.notes.ghost_name) × (q.on ≡ p.on) × (q.parts ≡ p.parts) × (q.row ≡ p.row)
+        × Tells p.on p.parts p.row (point (N.held p.notes.now) (N.faults p.notes.now) p.state p.last p.before p.warned)
+        (point (N.held q.notes.now) (N.faults q.notes.now) q.state q.last q.before q.warned) };
 
     fn tell(&mut self, counts: &Counts, best: Option<&Cost>) {
+        self.tell_held(counts);
         if !self.is_due(counts, best.is_some()) {
             return;
         }
@@ -243,16 +289,22 @@ impl<N: Sink> Watch for Progress<'_, N> {
         self.state = write_part(self.notes, &self.before, true);
     }
 
-    ghost begins = { λ w. (refl, refl, refl, nothing_told w.on w.parts (point (N.held w.notes.now) (N.faults w.notes.now) w.state w.last w.before)) };
+    ghost begins = { λ w. (
+      refl,
+      refl,
+      refl,
+      refl,
+      nothing_told w.on w.parts w.row (point (N.held w.notes.now) (N.faults w.notes.now) w.state w.last w.before w.warned),
+    ) };
 
     ghost goes_on = { λ u v w a b.
-        let p = point (N.held u.notes.now) (N.faults u.notes.now) u.state u.last u.before in
-        let q = point (N.held v.notes.now) (N.faults v.notes.now) v.state v.last v.before in
-        let r = point (N.held w.notes.now) (N.faults w.notes.now) w.state w.last w.before in (
+        let p = point (N.held u.notes.now) (N.faults u.notes.now) u.state u.last u.before u.warned in
+        let q = point (N.held v.notes.now) (N.faults v.notes.now) v.state v.last v.before v.warned in
+        let r = point (N.held w.notes.now) (N.faults w.notes.now) w.state w.last w.before w.warned in (
           b.0 ∙ a.0,
           b.1 ∙ a.1,
           b.2 ∙ a.2,
-          more_told u.on u.parts p q r a.3
-              (subst (λ (parts : Bool). Tells u.on parts q r) a.2 (subst (λ (on : Bool). Tells on v.parts q r) a.1 b.3)),
+          b.3 ∙ a.3,
+          more_told u.on u.parts u.row p q r a.4 (as_told u.on v.on u.parts v.parts u.row v.row q r a.1 a.2 a.3 b.4),
         ) };
 }

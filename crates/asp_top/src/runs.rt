@@ -8,8 +8,9 @@ ghost use Rattle.asp_cli.specs.Values.{IsCrew, IsPartCount, IsRing};
 ghost use Rattle.asp_prepare.specs.Naming.{prepared_of};
 ghost use Rattle.asp_top.specs.Notes.{IsNoted, Writes, note_of};
 ghost use Rattle.asp_top.specs.Usage.{misuse_note};
-ghost use Rattle.asp_top.specs.Runs.{Does, IsCounted, IsSentOn, NotesOn, NotesRun, Runs, TellsClosed, TellsFaults, TextMeans, around, crew_of, is_alone};
+ghost use Rattle.asp_top.specs.Runs.{Does, Hears, IsCounted, IsSentOn, NotesOn, NotesRun, Runs, TellsClosed, TellsFaults, TextMeans, around, crew_of, is_alone};
 ghost use Rattle.asp_top.specs.Series.{RunsBy, RunsOn};
+ghost use Rattle.asp_top.specs.Telling.{point};
 ghost use Rattle.asp_top.specs.Whole.{IsWhole};
 ghost use Rattle.asp_model.specs.declared.program.Program.{Program};
 
@@ -95,13 +96,13 @@ fn divide_or_solve<K: Sink, W: Watch>(
 }
 
 // The outcome of a run after the words, whose program is divided, or solved by one search.
-fn outcome_alone<S: Source, K: Sink, W: Watch>(
+fn outcome_alone<S: Source, K: Sink, N: Sink>(
     alloc: Global,
     options: &Options,
     source: &mut S,
     sink: &mut K,
     tally: &mut Tally,
-    watch: &mut W,
+    progress: &mut Progress<'_, N>,
 ) -> Outcome
     requires ring { IsRing options.now.make }
     requires parts { IsPartCount options.now.split }
@@ -112,11 +113,16 @@ fn outcome_alone<S: Source, K: Sink, W: Watch>(
     ensures sent { IsSentOn result.status (K.is_sent sink.new) }
     ensures closed { TellsClosed result.status (K.is_closed sink.new) }
     ensures counted { IfSome result.report (IsCounted 0 tally.new) }
-    ensures heard { W.IsAfter watch.old watch.new }
+    ensures same { progress.new.notes.ghost_name ≡ progress.old.notes.ghost_name }
+    ensures heard { Hears options.now (around (S.left source.old) (S.left source.new) (S.faults source.old) (S.faults source.new)
+        (K.held sink.old) (K.held sink.new) (K.faults sink.old) (K.faults sink.new)) progress.old.on progress.old.parts
+        (point (N.held progress.old.notes.now) (N.faults progress.old.notes.now) progress.old.state progress.old.last progress.old.before progress.old.warned)
+        (point (N.held progress.new.notes.now) (N.faults progress.new.notes.now) progress.new.state progress.new.last progress.new.before progress.new.warned) }
 {
     match prepare(alloc, options, source) {
         Ok(prepared) => {
-            let outcome = divide_or_solve(alloc, options, &prepared, sink, tally, watch);
+            progress.weigh(options, &prepared.compiled);
+            let outcome = divide_or_solve(alloc, options, &prepared, sink, tally, progress);
             mem::drop(prepared);
             outcome
         }
@@ -125,37 +131,42 @@ fn outcome_alone<S: Source, K: Sink, W: Watch>(
 }
 
 // The outcome of a run after the words that starts no workers, with queries or without.
-fn outcome<V: Solver, S: Source, K: Sink, W: Watch>(
+fn outcome<V: Solver, S: Source, K: Sink, N: Sink>(
     alloc: Global,
     solver: &V,
     options: &Options,
     source: &mut S,
     sink: &mut K,
     tally: &mut Tally,
-    watch: &mut W,
+    progress: &mut Progress<'_, N>,
 ) -> Outcome
     requires solver { V.may solver.now }
     requires ring { IsRing options.now.make }
     requires parts { IsPartCount options.now.split }
     requires apart { IsApart options.now }
     requires asking { IsAsking options.now }
+    requires row { progress.old.row ≡ 0 }
     ensures runs { RunsBy options.now.queries options.now (around (S.left source.old) (S.left source.new) (S.faults source.old) (S.faults source.new)
         (K.held sink.old) (K.held sink.new) (K.faults sink.old) (K.faults sink.new)) result }
     ensures flushed { TellsFaults (K.faults sink.old) (K.faults sink.new) result.status }
     ensures sent { IsSentOn result.status (K.is_sent sink.new) }
     ensures closed { TellsClosed result.status (K.is_closed sink.new) }
     ensures counted { IfSome result.report (IsCounted 0 tally.new) }
-    ensures heard { W.IsAfter watch.old watch.new }
+    ensures same { progress.new.notes.ghost_name ≡ progress.old.notes.ghost_name }
+    ensures heard { Hears options.now (around (S.left source.old) (S.left source.new) (S.faults source.old) (S.faults source.new)
+        (K.held sink.old) (K.held sink.new) (K.faults sink.old) (K.faults sink.new)) progress.old.on progress.old.parts
+        (point (N.held progress.old.notes.now) (N.faults progress.old.notes.now) progress.old.state progress.old.last progress.old.before progress.old.warned)
+        (point (N.held progress.new.notes.now) (N.faults progress.new.notes.now) progress.new.state progress.new.last progress.new.before progress.new.warned) }
 {
     if options.queries {
-        run_series(alloc, solver, options, source, sink, watch)
+        run_series(alloc, solver, options, source, sink, progress)
     } else {
-        outcome_alone(alloc, options, source, sink, tally, watch)
+        outcome_alone(alloc, options, source, sink, tally, progress)
     }
 }
 
-// The same where workers side by side solve it. The watch comes back.
-fn outcome_by_crew<R: Threads + Wait + Sync, S: Source, K: Sink, G: Gate + Sync, W: Watch + Drop>(
+// The same where workers side by side solve it. Who tells of it comes back.
+fn outcome_by_crew<'a, R: Threads + Wait + Sync, S: Source, K: Sink, N: Sink, G: Gate + Sync>(
     rt: &R,
     alloc: Global,
     options: &Options,
@@ -163,8 +174,8 @@ fn outcome_by_crew<R: Threads + Wait + Sync, S: Source, K: Sink, G: Gate + Sync,
     sink: &mut K,
     gate: &G,
     tally: &mut Tally,
-    watch: W,
-) -> (Outcome, W)
+    mut progress: Progress<'a, N>,
+) -> (Outcome, Progress<'a, N>)
     requires ring { IsRing options.now.make }
     requires crew { IsCrew options.now.workers }
     requires whole { options.now.split ≡ None }
@@ -176,15 +187,20 @@ fn outcome_by_crew<R: Threads + Wait + Sync, S: Source, K: Sink, G: Gate + Sync,
     ensures sent { IsSentOn result.0.status (K.is_sent sink.new) }
     ensures closed { TellsClosed result.0.status (K.is_closed sink.new) }
     ensures counted { IfSome result.0.report (IsCounted options.now.workers tally.new) }
-    ensures heard { W.IsAfter watch result.1 }
+    ensures same { result.1.notes.ghost_name ≡ progress.entry.notes.ghost_name }
+    ensures heard { Hears options.now (around (S.left source.old) (S.left source.new) (S.faults source.old) (S.faults source.new)
+        (K.held sink.old) (K.held sink.new) (K.faults sink.old) (K.faults sink.new)) progress.entry.on progress.entry.parts
+        (point (N.held progress.entry.notes.now) (N.faults progress.entry.notes.now) progress.entry.state progress.entry.last progress.entry.before progress.entry.warned)
+        (point (N.held result.1.notes.now) (N.faults result.1.notes.now) result.1.state result.1.last result.1.before result.1.warned) }
 {
     match prepare(alloc, options, source) {
         Ok(prepared) => {
-            let done = solve_by_crew(rt, alloc, options, &prepared, sink, gate, tally, watch);
+            progress.weigh(options, &prepared.compiled);
+            let done = solve_by_crew(rt, alloc, options, &prepared, sink, gate, tally, progress);
             mem::drop(prepared);
             done
         }
-        Err(status) => (failed(status), watch),
+        Err(status) => (failed(status), progress),
     }
 }
 
@@ -207,7 +223,8 @@ fn run_with<V: Solver, S: Source, K: Sink, N: Sink>(
     ensures flushed { TellsFaults (K.faults sink.old) (K.faults sink.new) result.status }
     ensures sent { IsSentOn result.status (K.is_sent sink.new) }
     ensures closed { TellsClosed result.status (K.is_closed sink.new) }
-    ensures notes { NotesRun 0 options.now (N.held notes.old) (N.held notes.new) (N.faults notes.old) (N.faults notes.new) result }
+    ensures notes { NotesRun 0 options.now (around (S.left source.old) (S.left source.new) (S.faults source.old) (S.faults source.new)
+        (K.held sink.old) (K.held sink.new) (K.faults sink.old) (K.faults sink.new)) (N.held notes.old) (N.held notes.new) (N.faults notes.old) (N.faults notes.new) result }
 {
     let mut tally = Tally::new(alloc);
     let mut progress = Progress::new(notes, options);
@@ -227,6 +244,8 @@ fn run_with<V: Solver, S: Source, K: Sink, N: Sink>(
         last: _,
         parts: _,
         before: _,
+        row: _,
+        warned: _,
     } = progress;
     end(notes, state, options, &tally, &outcome);
     outcome
@@ -254,7 +273,8 @@ pub fn run_alone<S: Source, K: Sink, N: Sink>(
     ensures flushed { TellsFaults (K.faults sink.old) (K.faults sink.new) result.status }
     ensures sent { IsSentOn result.status (K.is_sent sink.new) }
     ensures closed { TellsClosed result.status (K.is_closed sink.new) }
-    ensures notes { NotesRun 0 options.now (N.held notes.old) (N.held notes.new) (N.faults notes.old) (N.faults notes.new) result }
+    ensures notes { NotesRun 0 options.now (around (S.left source.old) (S.left source.new) (S.faults source.old) (S.faults source.new)
+        (K.held sink.old) (K.held sink.new) (K.faults sink.old) (K.faults sink.new)) (N.held notes.old) (N.held notes.new) (N.faults notes.old) (N.faults notes.new) result }
 {
     run_with(alloc, &Alone, options, source, sink, notes)
 }
@@ -279,7 +299,8 @@ fn run_by_crew<R: Threads + Wait + Sync, S: Source, K: Sink, N: Sink, G: Gate + 
     ensures flushed { TellsFaults (K.faults sink.old) (K.faults sink.new) result.status }
     ensures sent { IsSentOn result.status (K.is_sent sink.new) }
     ensures closed { TellsClosed result.status (K.is_closed sink.new) }
-    ensures notes { NotesRun options.now.workers options.now (N.held notes.old) (N.held notes.new) (N.faults notes.old) (N.faults notes.new) result }
+    ensures notes { NotesRun options.now.workers options.now (around (S.left source.old) (S.left source.new) (S.faults source.old) (S.faults source.new)
+        (K.held sink.old) (K.held sink.new) (K.faults sink.old) (K.faults sink.new)) (N.held notes.old) (N.held notes.new) (N.faults notes.old) (N.faults notes.new) result }
 {
     let mut tally = Tally::new(alloc);
     let progress = Progress::new(notes, options);
@@ -293,6 +314,8 @@ fn run_by_crew<R: Threads + Wait + Sync, S: Source, K: Sink, N: Sink, G: Gate + 
         last: _,
         parts: _,
         before: _,
+        row: _,
+        warned: _,
     } = progress;
     end(notes, state, options, &tally, &outcome);
     outcome
@@ -324,7 +347,8 @@ fn run_in_turn<R: Threads + Wait + Sync, S: Source, K: Sink, N: Sink>(
     ensures flushed { TellsFaults (K.faults sink.old) (K.faults sink.new) result.status }
     ensures sent { IsSentOn result.status (K.is_sent sink.new) }
     ensures closed { TellsClosed result.status (K.is_closed sink.new) }
-    ensures notes { NotesRun 0 options.now (N.held notes.old) (N.held notes.new) (N.faults notes.old) (N.faults notes.new) result }
+    ensures notes { NotesRun 0 options.now (around (S.left source.old) (S.left source.new) (S.faults source.old) (S.faults source.new)
+        (K.held sink.old) (K.held sink.new) (K.faults sink.old) (K.faults sink.new)) (N.held notes.old) (N.held notes.new) (N.faults notes.old) (N.faults notes.new) result }
 {
     if options.workers == 1 {
         return run_alone(alloc, options, source, sink, notes);
@@ -353,7 +377,8 @@ fn run_given<R: Threads + Wait + Sync, S: Source, K: Sink, N: Sink, G: Gate + Sy
     ensures flushed { TellsFaults (K.faults sink.old) (K.faults sink.new) result.status }
     ensures sent { IsSentOn result.status (K.is_sent sink.new) }
     ensures closed { TellsClosed result.status (K.is_closed sink.new) }
-    ensures notes { NotesRun (crew_of options.now) options.now (N.held notes.old) (N.held notes.new) (N.faults notes.old) (N.faults notes.new) result }
+    ensures notes { NotesRun (crew_of options.now) options.now (around (S.left source.old) (S.left source.new) (S.faults source.old) (S.faults source.new)
+        (K.held sink.old) (K.held sink.new) (K.faults sink.old) (K.faults sink.new)) (N.held notes.old) (N.held notes.new) (N.faults notes.old) (N.faults notes.new) result }
 {
     if is_alone(options) {
         run_in_turn(rt, alloc, options, source, sink, notes)
@@ -430,7 +455,8 @@ pub fn run<R: Threads + Wait + Sync, S: Source, K: Sink, N: Sink, G: Gate + Sync
     ensures flushed { TellsFaults (K.faults sink.old) (K.faults sink.new) result.status }
     ensures sent { IsSentOn result.status (K.is_sent sink.new) }
     ensures closed { TellsClosed result.status (K.is_closed sink.new) }
-    ensures notes { NotesOn (words_give (map string_bytes words.now)) (N.held notes.old) (N.held notes.new) (N.faults notes.old) (N.faults notes.new)
+    ensures notes { NotesOn (words_give (map string_bytes words.now)) (around (S.left source.old) (S.left source.new) (S.faults source.old) (S.faults source.new)
+        (K.held sink.old) (K.held sink.new) (K.faults sink.old) (K.faults sink.new)) (N.held notes.old) (N.held notes.new) (N.faults notes.old) (N.faults notes.new)
         result }
 {
     match asp_cli::words(words) {

@@ -1,3 +1,4 @@
+use Rattle.std.proofs.Common.{inl}
 use Rattle.asp_top.proofs.SeriesLaws.{runs-program, runs-queries}
 use Rattle.asp_top.proofs.runs.outcome.Goals as goal
 
@@ -12,3 +13,6 @@ returns-then-options-clause-counted g c = rw c.run_series.ensures.runs.none tt
 
 pub returns-else-options-clause-runs : goal.returns-else-options-clause-runs
 returns-else-options-clause-runs g c = runs-program c.args.options.now.queries c.args.options.now _ _ c.if-options.false c.outcome_alone.ensures.runs
+
+pub returns-then-options-clause-heard : goal.returns-then-options-clause-heard
+returns-then-options-clause-heard g c = (c.args.progress.now.row, inl c.requires.row, c.run_series.ensures.heard.4)

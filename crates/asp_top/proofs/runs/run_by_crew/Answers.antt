@@ -5,15 +5,19 @@ use Rattle.asp_top.proofs.TellLaws.{moved, told_in_all}
 use Rattle.asp_top.proofs.runs.run_by_crew.Goals as goal
 
 pub returns-clause-notes : goal.returns-clause-notes
-returns-clause-notes g c = record {
-  tally = c.outcome_by_crew-outcome.new.tally;
-  counted = c.outcome_by_crew-outcome.ensures.counted;
-  told = moved g.N.Sink.held g.N.Sink.faults _ _ _ _ _ c.end.new.notes _
-      (search (rules, c.outcome_by_crew-outcome.ensures.heard.0, c.new-progress.ensures.same))
-      (told_in_all c.args.options.now.progress (tells_parts c.args.options.now) c.new-progress.result.on c.new-progress.result.parts (g.N.Sink.held c.args.notes.now) (g.N.Sink.faults c.args.notes.now)
-      (point (g.N.Sink.held c.new-progress.result.notes.now) (g.N.Sink.faults c.new-progress.result.notes.now) c.new-progress.result.state c.new-progress.result.last c.new-progress.result.before)
-      (point (g.N.Sink.held c.outcome_by_crew-outcome.result.1.notes.now) (g.N.Sink.faults c.outcome_by_crew-outcome.result.1.notes.now)
-      c.outcome_by_crew-outcome.result.1.state c.outcome_by_crew-outcome.result.1.last c.outcome_by_crew-outcome.result.1.before)
-      _ _ _ c.new-progress.ensures.on c.new-progress.ensures.parts
-      (rw (c.new-progress.ensures.now, c.new-progress.ensures.state, c.new-progress.ensures.last, c.new-progress.ensures.before) refl) c.outcome_by_crew-outcome.ensures.heard.3 c.end.ensures);
-}
+returns-clause-notes g c =
+    let x = c.new-progress.result in
+    let y = c.outcome_by_crew-outcome.result.1 in record {
+      tally = c.outcome_by_crew-outcome.new.tally;
+      counted = c.outcome_by_crew-outcome.ensures.counted;
+      row = c.outcome_by_crew-outcome.ensures.heard.0;
+      row_is = c.outcome_by_crew-outcome.ensures.heard.1;
+      told = moved g.N.Sink.held g.N.Sink.faults _ _ _ _ _ _ c.end.new.notes _
+          (search (rules, c.outcome_by_crew-outcome.ensures.same, c.new-progress.ensures.same))
+          (told_in_all c.args.options.now.progress (tells_parts c.args.options.now) x.on x.parts c.outcome_by_crew-outcome.ensures.heard.0 (g.N.Sink.held c.args.notes.now) (g.N.Sink.faults c.args.notes.now)
+          (point (g.N.Sink.held x.notes.now) (g.N.Sink.faults x.notes.now) x.state x.last x.before x.warned)
+          (point (g.N.Sink.held y.notes.now) (g.N.Sink.faults y.notes.now) y.state y.last y.before y.warned)
+          _ _ _ c.new-progress.ensures.on c.new-progress.ensures.parts
+          (rw (c.new-progress.ensures.now, c.new-progress.ensures.state, c.new-progress.ensures.last, c.new-progress.ensures.before, c.new-progress.ensures.warned) refl)
+          c.outcome_by_crew-outcome.ensures.heard.2 c.end.ensures);
+    }

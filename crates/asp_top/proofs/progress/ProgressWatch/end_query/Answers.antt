@@ -7,6 +7,7 @@ returns g c = (
   refl,
   refl,
   refl,
-  part_told c.args.self.now.on c.args.self.now.parts _ _ (record { all = false; counts = c.since.result })
-      (search rules) (search rules) (search rules) refl c.write_part-self.ensures,
+  refl,
+  part_told c.args.self.now.on c.args.self.now.parts c.args.self.now.row _ _ (record { all = false; counts = c.since.result })
+      (search rules) (search rules) (search rules) refl refl c.write_part-self.ensures,
 )
