@@ -190,6 +190,16 @@ def without_cores(done):
     return re.sub(b"ore: .*", b"ore:", done.stdout), done.returncode
 
 
+def was_refuted(done):
+    """Of each query whether it has a core."""
+    return [b"Core:" in part for part in re.split(b"^Query: ", done.stdout, flags=re.M)[1:]]
+
+
+def cores_of(done):
+    """The literals of each core that was told."""
+    return [set(map(int, line.split(b":")[1].split())) for line in done.stdout.splitlines() if line.startswith(b"Core:")]
+
+
 def shares(program):
     """Whether workers search each hard query, by other counts than one thread has, and one search the easy ones, by the same counts; the results are those of one thread, but for which core is told."""
     hard, queries = switched_sat(180, 4.6, 3, 1)
@@ -200,6 +210,11 @@ def shares(program):
         (alone, one), (crew, four) = (counted([program, "--mode", mode, "--workers", workers], source) for workers in ("1", "4"))
         if without_cores(alone) != without_cores(crew) or len(one) != len(asked):
             return f"{mode}: {alone.stdout[-200:]!r}, by four workers {crew.stdout[-200:]!r}"
+        # (an optimum is searched from scratch by both, and then a core is all that was assumed, as by workers always)
+        if not all(core == other if mode == "opt" else core <= other for core, other in zip(cores_of(alone), cores_of(crew), strict=True)):
+            return f"{mode}: cores {cores_of(alone)}, by four workers {cores_of(crew)}"
+        if cores_of(crew) != [set(query) for query, core in zip(asked, was_refuted(crew)) if core]:
+            return f"{mode}: by four workers a core isn't all that was assumed"
         if [counts != others for counts, others in zip(one, four)] != [is_hard] * len(asked):
             return f"{mode}: {one}, of four workers {four}"
     return None
