@@ -1,6 +1,6 @@
 #!/usr/bin/env bash
 # Runs the built program with each of its allocations refused in turn, on a few programs, with one worker and with several.
-# Each run must end in want of memory, with status 33, its line and no output (with --stream: a front of the lines of answers), or as
+# Each run must end in want of memory, with status 33, its line and no output (with --stream or --proof: a front of the lines), or as
 # it ends with ample memory: the same bytes and status (a thread that can't be made is done without, and so are counts). It needs a C compiler, for a library that
 # stands before libc's malloc, and takes a few minutes: it isn't in the gate.
 # Usage: tests/allocations.sh [PROGRAM]     (build/aspenum)
@@ -37,10 +37,11 @@ cc -O1 -fno-builtin -shared -fPIC -o "$room/refuse.so" "$room/refuse.c" || exit 
 
 failed=0
 
-# is_front WORD..: whether nothing was given, or with --stream among the words a front of what is wanted, without its last two lines
+# is_front WORD..: whether nothing was given, or with --stream or --proof among the words a front of what is wanted, without its last two
+# lines
 is_front() {
     [ -s "$room/given" ] || return 0
-    case " $* " in *' --stream '*) ;; *) return 1 ;; esac
+    case " $* " in *' --stream '* | *' --proof '*) ;; *) return 1 ;; esac
     head -n -2 "$room/wanted" | head -c "$(wc -c < "$room/given")" | cmp -s - "$room/given"
 }
 
@@ -76,5 +77,7 @@ refuse 'an optimum' examples/independent_set.aspif --opt-all
 printf 'asp 1 0 0\n1 1 9 1 2 3 4 5 6 7 8 9 0 0\n0\n' > "$room/free"
 refuse '512 answers, as they come' "$room/free" --mode enum --stream
 refuse 'the first 100 of 512 answers' "$room/free" --mode enum --stream --models 100
+refuse '512 optima, as they come' "$room/free" --mode opt --opt-all --stream
+refuse 'the first 100 of 512 optima' "$room/free" --mode opt --opt-all --stream --models 100
 refuse 'an example' examples/colouring.aspif --split 4
 [ "$failed" -eq 0 ]

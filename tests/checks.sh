@@ -32,7 +32,7 @@ while IFS='~' read -r status arguments wanted note text; do
 done < tests/checks.txt
 
 # A read that fails, a write that fails, an input that is too long, and too little memory.
-right='asp 1 0 0\n1 1 1 1 0 0\n0\nproof 2\nenum\na 0\na 1 1\nc 0\n0\n'
+right='asp 1 0 0\n1 1 1 1 0 0\n0\nproof 3\nenum\nf 0\nf 1 1\nc 0\na 0\na 1 1\n0\n'
 given=$("$program" < / 2> "$notes")
 tell 'read of a folder' 66 '' 'aspcheck: read failed' $? "$given"
 printf '%b' "$right" | "$program" > /dev/full 2> "$notes"
@@ -48,7 +48,7 @@ given=$(ulimit -v 60000; head -c 100000000 /dev/zero | "$program" 2> "$notes")
 tell '60 MB of memory' 33 '' 'aspcheck: out of memory' $? "$given"
 # Where standard error fails, too, only the status tells.
 : > "$notes"
-given=$(printf 'nothing\nproof 2\n' | "$program" 2> /dev/full)
+given=$(printf 'nothing\nproof 3\n' | "$program" 2> /dev/full)
 tell 'full standard error' 65 '' '' $? "$given"
 
 # Proofs of a few random programs, right, changed and hostile.

@@ -3,8 +3,8 @@
 
     compare.py PROGRAM [COUNT [SEED]] [--no-clasp] [--smodels]     (PROGRAM may have words behind it: "build/aspenum --workers 4")
 
-With --smodels the programs are smodels texts, and the reference solves what tests/smodels.py makes of them. Each program has up to seven atoms and every kind of statement. In an enumeration, with --stream too, and where all optima are listed, the bytes
-must be the reference's, and with --stream and a limit those of its first answers, and where consequences are asked for, by numbers and by name, also of outputs of several literals and of some atoms alone, in lines and as JSON; in an optimisation the closing lines, cost and count, must be. With a limit the number of answers must be
+With --smodels the programs are smodels texts, and the reference solves what tests/smodels.py makes of them. Each program has up to seven atoms and every kind of statement. In an enumeration and where all optima are listed the bytes
+must be the reference's, with --stream too, and with --stream and a limit those of its first answers or optima, and where consequences are asked for, by numbers and by name, also of outputs of several literals and of some atoms alone, in lines and as JSON; in an optimisation the closing lines, cost and count, must be. With a limit the number of answers must be
 the reference's, and they must be some of its answers in its order. Every fourth program is solved in parts too. Where clasp lists other answers than the
 reference, or with a limit another number of them, that is told and counted, and is no failure: clasp 3.3.5 is known to lose
 answers of choices over weight bodies.
@@ -156,17 +156,18 @@ def limit_differs(aspenum, case, mode, limit):
     return None
 
 
-def first_differs(aspenum, case, limit):
-    """What is wrong with the first so many answers, or nothing."""
-    whole = wanted_of(case.text, "enum")
+def first_differs(aspenum, case, mode, limit):
+    """What is wrong with the first so many of a list, or nothing."""
+    whole = wanted_of(case.text, mode)
     found = answers(whole)
     if len(found) >= limit:
-        whole = "".join(f"Answer: {number}\n{answer}\n" for number, answer in enumerate(found[:limit], 1)) + f"LIMIT REACHED\nModels: {limit}+\n"
-    given = run([*aspenum, *case.words, "--mode", "enum", "--stream", "--models", str(limit)], case.source)
+        cost = "".join(line + "\n" for line in closing(whole) if line.startswith("Optimization:"))
+        whole = "".join(f"Answer: {number}\n{answer}\n" for number, answer in enumerate(found[:limit], 1)) + f"{cost}LIMIT REACHED\nModels: {limit}+\n"
+    given = run([*aspenum, *case.words, *MODES[mode][0], "--stream", "--models", str(limit)], case.source)
     if given.stdout.decode() != whole:
-        return f"--stream --models {limit} differs from the reference"
+        return f"--stream --models {limit} differs from the reference ({mode})"
     if given.returncode != (11 if "LIMIT" in whole else 20 if "UNSATISFIABLE" in whole else 30):
-        return f"the status is {given.returncode} with --stream --models {limit}"
+        return f"the status is {given.returncode} with --stream --models {limit} ({mode})"
     return None
 
 
@@ -179,9 +180,10 @@ def differs(aspenum, case):
             return f"{' '.join(words)} differs from the reference"
         if given.returncode != (20 if "UNSATISFIABLE" in wanted else 30):
             return f"the status is {given.returncode} with {' '.join(words)}"
-    given = run([*aspenum, *case.words, "--mode", "enum", "--stream"], case.source)
-    if given.stdout.decode() != wanted_of(case.text, "enum"):
-        return "--stream differs from the reference"
+    for mode in ("optima", "enum"):
+        given = run([*aspenum, *case.words, *MODES[mode][0], "--stream"], case.source)
+        if given.stdout.decode() != wanted_of(case.text, mode):
+            return f"--stream differs from the reference ({mode})"
     if not case.words:
         wrong = names_differ(aspenum, case)
         if wrong:
@@ -192,10 +194,10 @@ def differs(aspenum, case):
             wrong = limit_differs(aspenum, case, mode, limit)
             if wrong:
                 return wrong
-    for limit in sorted({1, max(count // 2, 1), max(count, 1), count + 1}):
-        wrong = first_differs(aspenum, case, limit)
-        if wrong:
-            return wrong
+        for limit in sorted({1, max(count // 2, 1), max(count, 1), count + 1}):
+            wrong = first_differs(aspenum, case, mode, limit)
+            if wrong:
+                return wrong
     return None
 
 

@@ -1,5 +1,5 @@
 #!/usr/bin/env python3
-"""Holds --progress to what no contract says: that lines come, when they are due, and with what was counted.
+"""Holds --progress to what no contract says: that lines come, when they are due, and with what was counted, and each better answer.
 
     progress.py PROGRAM
 
@@ -29,6 +29,27 @@ ROWS = [
 ]
 
 
+def answers_apart(notes):
+    """The lines of notes without the two lines of each answer, and those: how many lines stand before it, its number and its text."""
+    lines, answers = [], []
+    rest = iter(notes)
+    for line in rest:
+        if line.startswith("Answer: "):
+            answers.append((len(lines), int(line[8:]), next(rest, None)))
+        else:
+            lines.append(line)
+    return lines, answers
+
+
+def answer_faults(lines, answers, written):
+    """What is wrong with better answers: each new one stands behind its line, with its number, and the last one is the optimum."""
+    due = [(it + 1, int(line[5])) for it, line in enumerate(lines) if int(line[5]) > (int(lines[it - 1][5]) if it else 0)]
+    if [answer[:2] for answer in answers] != due:
+        yield f"answers {[answer[:2] for answer in answers]}, due {due}"
+    elif answers and f"Answer: 1\n{answers[-1][2]}\n" not in written:
+        yield f"the last better answer isn't the optimum: {answers[-1]}"
+
+
 def faults(name, text, words, optimum, least, crew_least):
     plain = subprocess.run([sys.argv[1], *words], input=text, capture_output=True, timeout=120)
     told = subprocess.run([sys.argv[1], "--progress", "--stats", *words], input=text, capture_output=True, timeout=120)
@@ -42,12 +63,13 @@ def faults(name, text, words, optimum, least, crew_least):
             yield f"another output or status of {workers} workers"
         for fault in crew_faults([LINE.fullmatch(line) for line in crew.stderr.decode().splitlines()], crew_least):
             yield f"{fault}, of {workers} workers"
-    notes = told.stderr.decode().splitlines()
+    notes, answers = answers_apart(told.stderr.decode().splitlines())
     lines = [LINE.fullmatch(line) for line in notes]
     count = next((it for it, line in enumerate(lines) if not line), len(lines))
     stats = {it[1]: int(it[2]) for it in map(COUNT.fullmatch, notes[count:]) if it}
     if count < least or any(lines[count:]):
         yield f"{count} lines in front of the counts, of {least}"
+    yield from answer_faults(lines[:count] if optimum else [], answers, plain.stdout.decode())
     last, cost = [0] * 5, None
     for line in lines[:count]:
         now = [int(it) for it in line.groups()[:5]]

@@ -3,11 +3,11 @@
 
     tests/proofs.py [PROGRAM [COUNT [SEED]]]     (build/aspcheck, 20 programs, seed 1)
 
-The proofs are made here, from the reference's answers: a line for each set of literals on the atoms, the longest first, and a
-line of a loop for each supported set that isn't stable. So no proof was made by the solver. Of each program
+The proofs are made here, from the reference's answers, which are found in any order: a line for each set of literals on the atoms, the
+longest first, and a line of a loop for each supported set that isn't stable. So no proof was made by the solver. Of each program
 
 - the proof as it was made must be a yes; then lines are left out that it doesn't need;
-- changed at a line, a literal or an answer it may be a yes only where what it lists is right;
+- changed at a line, a literal, an answer or a set that is found it may be a yes only where what it lists is right;
 - cut, swapped or with a number that is too great it must be refused as a text that is no proof's.
 """
 import random
@@ -190,9 +190,14 @@ def placed(line):
     return f"o 0{rest}" if kind == "o" else f"l 0{rest} 0" if kind == "l" else line
 
 
-def proof_of(numbered, mode, answers, lines):
-    changes = [sorted(set(s) ^ set(before)) for s, before in zip(answers, [set(), *answers])]
-    return "\n".join(["proof 2", mode] + [f"a {counted(it)}" for it in changes] + [placed(it) for it in lines] + ["0", ""])
+def told(kind, sets):
+    return [f"{kind} {counted(sorted(set(s) ^ set(before)))}" for s, before in zip(sets, [set(), *sets])]
+
+
+def proof_of(numbered, mode, answers, lines, found=None):
+    """The sets found are those listed, where no others are named."""
+    found = answers if found is None else found
+    return "\n".join(["proof 3", mode] + told("f", found) + [placed(it) for it in lines] + told("a", answers) + ["0", ""])
 
 
 def needed(numbered, mode, answers, lines, is_a_yes):
@@ -232,11 +237,15 @@ def changes(numbered, mode, answers, lines, r):
             words[-r.randint(1, int(words[nogood_count(words)]) or 1)] = str(r.choice([-1, 1]) * r.randint(1, len(numbered.atoms) + len(numbered.forms)))
             yield "literal changed", proof_of(numbered, mode, answers, lines[:at] + [" ".join(words)] + lines[at + 1 :])
     for at in range(len(answers)):
-        yield "answer left out", proof_of(numbered, mode, answers[:at] + answers[at + 1 :], lines)
+        others = answers[:at] + answers[at + 1 :]
+        yield "answer left out", proof_of(numbered, mode, others, lines)
+        yield "answer found but not listed", proof_of(numbered, mode, others, lines, answers)
+        yield "answer listed but not found", proof_of(numbered, mode, answers, lines, others)
     sets = [{a for a, b in zip(numbered.atoms, bits) if b} for bits in product((0, 1), repeat=len(numbered.atoms))]
     other = r.choice(sets)
     with_other = sorted(answers + [other], key=lambda s: [a in s for a in numbered.atoms])
     yield "set added", proof_of(numbered, mode, with_other, lines)
+    yield "set found", proof_of(numbered, mode, answers, lines, answers + [other])
     yield "other set", proof_of(numbered, mode, [other], lines)
     yield "only the last line", proof_of(numbered, mode, answers, lines[-1:])
     if len(lines) > 1:
@@ -248,7 +257,7 @@ def hostile(text, r):
     lines = text.split("\n")
     yield text[: r.randrange(len(text) - 1)]
     yield text + "0\n"
-    yield text.replace("proof 2\n", "proof 1\n")
+    yield text.replace("proof 3\n", "proof 2\n")
     yield "\n".join([lines[1], lines[0]] + lines[2:])
     at = r.randrange(2, len(lines) - 2)
     for word in ("18446744073709551616", "9" * 100, "4294967296", "-0", "+1", "01", "x", "", "1  1"):
@@ -283,7 +292,7 @@ def main():
         for mode in ("enum", "opt"):
             answers = listed(numbered, mode)
             lines = list(proof_lines(numbered, r))
-            proof = proof_of(numbered, mode, answers, lines)
+            proof = proof_of(numbered, mode, answers, lines, r.sample(answers, len(answers)))
             given = run(text + proof)
             note("right proof", given != (0, "YES\n"), text + proof, given)
             lines = needed(numbered, mode, answers, lines, lambda proof: run(text + proof)[0] == 0)

@@ -64,9 +64,9 @@ fn search(alloc: Global, compiled: &Compiled) -> Result<Report, AllocError>
         compiled,
         ask,
         BUDGET,
-        false,
         &mut counts,
         &mut Unwatched,
+        None,
     )
 }
 

@@ -353,7 +353,8 @@ kept_raised p a rows columns vars sums kept v b row s left i k none er es long e
 pub given_with_as : (p : Program) (a : List (Option Bool)) (rows : List (List Place)) (columns : List (List Item)) (vars : List ℕ) (sums : List ℤ) → IsKept p a rows columns vars sums →
     (c s limits : List ℤ) (x : Implied) (n : Nogood) (lits found : List Literal) (left : List ℤ) → s ≡ sums →
     limits ≡ c → Reaches a rows s limits x → (0 < x.lit.var) × (x.lit.var < length a) → AreHeld p a found →
-    OfRaising p a x.depth (λ v b. has_literal found (record { var = v; truth = b }) ≡ true) → IsKept p (set a x.lit.var (Some x.lit.truth)) rows columns vars left → lits ≡ needed rows limits x.depth left found →
+    OfRaising p a x.depth (λ v b. has_literal found (record { var = v; truth = b }) ≡ true) →
+    IsKept p (set a x.lit.var (Some x.lit.truth)) rows columns vars left → lits ≡ needed rows limits x.depth left found →
     n ≡ record { lits = lits ++ x.lit ∷ []; base = base.Below c } → IsGivenBy (record { program = p; values = a }) c n
 given_with_as p a rows columns vars sums kept c s limits x n lits found left es el r within held whole more elits e =
     let reaches : Reaches a rows sums c x = subst (λ (l : List ℤ). Reaches a rows sums l x) el (subst (λ (z : List ℤ). Reaches a rows z limits x) es r) in

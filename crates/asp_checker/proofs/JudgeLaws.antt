@@ -14,28 +14,30 @@ use Rattle.asp_model.specs.declared.program.Program.{Program}
 use Rattle.asp_model.specs.Sets.{Atoms, has, IsBefore, IsAscending, set_cmp}
 use Rattle.asp_model.specs.Holding.{all_hold}
 use Rattle.asp_model.specs.Models.{atoms_of, answers, is_stable}
-use Rattle.asp_model.specs.Costs.{cost, just_above}
+use Rattle.asp_model.specs.Costs.{cost, betters}
 use Rattle.asp_model.proofs.OrderLaws.{cmp_from_before}
 use Rattle.asp_model.proofs.ModelLaws.{answers-are}
 use Rattle.asp_model.proofs.MemberLaws.{each-append}
-use Rattle.asp_vars.specs.Literals.{Literal, has_literal}
-use Rattle.asp_vars.specs.Numbering.{literal_of}
+use Rattle.asp_vars.specs.Literals.{Literal}
 use Rattle.asp_vars.specs.Completion.{completion}
 use Rattle.asp_vars.specs.declared.nogood.Nogood.{Nogood}
 use Rattle.asp_complete.specs.Listed.{pure}
 use Rattle.asp_proof.specs.declared.proof.Line.{Line}
-use Rattle.asp_proof.specs.declared.proof.Line.TheVariants as line
-use Rattle.asp_proof.specs.declared.proof.Proof.{Proof}
 use Rattle.asp_proof.specs.declared.proof.Sought.{Sought}
 use Rattle.asp_proof.specs.declared.proof.Sought.TheVariants.{All, Best, Optima}
-use Rattle.asp_checker.specs.declared.bounds.Bound.{Bound}
 use Rattle.asp_checker.specs.declared.judge.Why.{Why}
 use Rattle.asp_checker.specs.declared.judge.Why.TheVariants as why
-use Rattle.asp_checker.specs.Propagation.{Known, LeadsToConflict}
-use Rattle.asp_checker.specs.Lines.{AreOf, IsLoop, AreConfirmed, IsConfirmed, literals_of, nogood_of, nogood_of_answer, with_nogood, Stock, all_of, with_line, bound_of, above_of, first_bound, avoided, known_at_first}
-use Rattle.asp_checker.specs.Right.{closes, CostsAlike, AreAlike}
-use Rattle.asp_checker.specs.Blocks.{known_by, known_with, cost_of_bound}
-use Rattle.asp_checker.specs.Judging.{IsWrongAnswer, HasAnswerFault, IsWrongLine, HasLineFault, IsInOrder, AreRightAnswers, IsRightAnswer, HasLiterals, HasLoopLiterals, known_after, no_line}
+use Rattle.asp_checker.specs.Lines.{AreOf, AreConfirmed, IsConfirmed, IsCheaper, CostsAlike, literals_of, bound_by, Gathered, first_gathered, with_line, gathered_after}
+use Rattle.asp_checker.specs.Right.{closes, AreAlike}
+use Rattle.asp_proof.proofs.ChangeLaws.{last_at}
+use Rattle.asp_checker.proofs.ExcuseLaws.{last_push}
+use Rattle.asp_proof.specs.Texts.{line_text}
+use Rattle.asp_proof.specs.Grammar.{IsLine}
+use Rattle.asp_proof.specs.Fields.{IsWhole}
+use Rattle.asp_checker.specs.declared.propagator.Propagator.{Propagator}
+use Rattle.asp_checker.specs.declared.propagator.Read.{Read}
+use Rattle.asp_checker.specs.declared.propagator.Read.TheVariants as read
+use Rattle.asp_checker.specs.Judging.{IsLineTaken, IsLineRead, IsWrongAnswer, HasAnswerFault, IsWrongLine, HasLineFault, IsInOrder, AreRightAnswers, IsRightAnswer, HasLoopLiterals, no_line}
 
 -- ---- the order of sets
 before_then : (S T U : Atoms) → IsBefore S T → IsBefore T U → IsBefore S U
@@ -122,29 +124,21 @@ lits_pure (n ∷ ns) = ap (λ ms. n ∷ ms) (lits_pure ns)
 pub completed_is : (p : Program) (nogoods : List Nogood) (rows : List (List Literal)) → nogoods ≡ map pure (completion p) → rows ≡ map (λ (n : Nogood). n.lits) nogoods → rows ≡ completion p
 completed_is p nogoods rows is e = e ∙ ap (map (λ (n : Nogood). n.lits)) is ∙ lits_pure (completion p)
 
-pub known_from : (p : Program) (proof : Proof) (L shunned : List Atoms) (rows : List (List Literal)) (b : Option Bound) → L ≡ proof.answers →
-    shunned ≡ avoided proof.sought L → rows ≡ completion p → cost_of_bound b ≡ first_bound p proof.sought L →
-    known_with p shunned rows b ≡ known_at_first p proof
-known_from p proof L shunned rows b same g is cost =
-    let first = map (nogood_of_answer p) (avoided proof.sought proof.answers) in
-    ap (λ (Ss : List Atoms). known_with p Ss rows b) (g ∙ ap (avoided proof.sought) same)
-    ∙ ap (λ (ns : List (List Literal)). known_by (first ++ ns) b) is
-    ∙ ap (λ (d : Option (List ℤ)). let k : Known = record { nogoods = first ++ completion p; bound = d } in k) (cost ∙ ap (first_bound p proof.sought) same)
+-- nothing is found before the first line
+pub no_bound : (p : Program) (o : Sought) → (let b : Option (List ℤ) = None in b) ≡ bound_by p o []
+no_bound p All = refl
+no_bound p Best = refl
+no_bound p Optima = refl
 
 -- ---- lines
-pub has_of : (p : Program) (l : Line) → HasLiterals p l → AreOf p (nogood_of l)
-has_of p (line.Loop place set nogood) h = h.1
-has_of p (line.Learned place nogood names) h = h
-has_of p (line.Cube nogood) h = h
+pub gathered_push : (g : Gathered) (lines : List Line) (l : Line) → gathered_after g (lines ++ l ∷ []) ≡ with_line (gathered_after g lines) l
+gathered_push g [] l = refl
+gathered_push g (m ∷ lines) l = gathered_push (with_line g m) lines l
 
-pub known_push : (s : Stock) (lines : List Line) (l : Line) → known_after s (lines ++ l ∷ []) ≡ with_line (known_after s lines) l
-known_push s [] l = refl
-known_push s (m ∷ lines) l = known_push (with_line s m) lines l
-
-pub confirmed_push : (p : Program) (s : Stock) (lines : List Line) (l : Line) → AreConfirmed p s lines → AreOf p (nogood_of l) →
-    IsConfirmed p (all_of (known_after s lines)) l → AreConfirmed p s (lines ++ l ∷ [])
-confirmed_push p s [] l h of now = (of, now, tt)
-confirmed_push p s (m ∷ lines) l h of now = (h.0, h.1, confirmed_push p (with_line s m) lines l h.2 of now)
+pub confirmed_push : (p : Program) (o : Sought) (g : Gathered) (lines : List Line) (l : Line) → AreConfirmed p o g lines →
+    IsConfirmed p o (gathered_after g lines) l → AreConfirmed p o g (lines ++ l ∷ [])
+confirmed_push p o g [] l h now = (now, tt)
+confirmed_push p o g (m ∷ lines) l h now = (h.0, confirmed_push p o (with_line g m) lines l h.1 now)
 
 or_no : (b : Bool) → (b || false) ≡ b
 or_no true = refl
@@ -155,15 +149,16 @@ pub closes_push : (p : Program) (lines : List Line) (l : Line) (whole closing bo
 closes_push p lines l whole closing both e f g =
     g ∙ ap (λ b. b || closing) e ∙ ap (λ b. list_any (closes p) lines || b) (f ∙ sym (or_no (closes p l))) ∙ sym (list_any-append (closes p) lines (l ∷ []))
 
-pub pushed_line_wrong : (p : Program) (s now : Stock) (lines : List Line) (l : Line) (w : Why) → now ≡ known_after s lines → AreConfirmed p s lines →
-    HasLineFault p (all_of now) l w → IsWrongLine p s (lines ++ l ∷ []) w (length lines)
-pushed_line_wrong p s now lines l w e h fault =
+pub pushed_line_wrong : (p : Program) (o : Sought) (lines : List Line) (l : Line) (w : Why) → AreConfirmed p o (first_gathered p) lines →
+    HasLineFault p o (gathered_after (first_gathered p) lines) l w → IsWrongLine p o (lines ++ l ∷ []) w (length lines)
+pushed_line_wrong p o lines l w h fault =
+    let g = first_gathered p in
     let front : take (length lines) (lines ++ l ∷ []) ≡ lines = take-append_seam lines (l ∷ []) in
     record {
       within = omega (arith, length_push lines l);
-      before = subst (AreConfirmed p s) (sym front) h;
-      fault = subst (λ ms. HasLineFault p (all_of (known_after s ms)) (get_or (lines ++ l ∷ []) (length lines) no_line) w) (sym front)
-          (subst (λ m. HasLineFault p (all_of (known_after s lines)) m w) (sym (get_or_push lines l no_line (length lines) refl)) (subst (λ (m : Stock). HasLineFault p (all_of m) l w) e fault));
+      before = subst (AreConfirmed p o g) (sym front) h;
+      fault = subst (λ ms. HasLineFault p o (gathered_after g ms) (get_or (lines ++ l ∷ []) (length lines) no_line) w) (sym front)
+          (subst (λ m. HasLineFault p o (gathered_after g lines) m w) (sym (get_or_push lines l no_line (length lines) refl)) fault);
     }
 
 pub empty_in_order : (opt : Bool) (before : List Atoms) (S : Atoms) → length before ≡ 0 → IsInOrder opt before S
@@ -192,86 +187,6 @@ pub loop_found : {V : Type 0} (p : Program) (set : Atoms) (n : List ℤ) (o : Op
 loop_found p set n None items stand m = λ h. m h.1
 loop_found p set n (Some v) items stand m = (m.0, (stand, m.1))
 
-pub closes_learned : (p : Program) (l : Line) {at : ℕ} {n : List ℤ} {names : List ℕ} (given lits : List Literal) (r : Bool) →
-    l ≡ line.Learned at n names → lits ≡ nogood_of l → given ≡ map (literal_of p) p.assumptions → r ≡ list_all (has_literal given) lits →
-    r ≡ closes p l
-closes_learned p l {at} {n} {names} given lits r e f g is =
-    is ∙ ap (λ xs. list_all (has_literal xs) lits) g ∙ ap (list_all (has_literal (map (literal_of p) p.assumptions))) (f ∙ ap nogood_of e) ∙ sym (ap (closes p) e)
-
-pub closes_cube : (p : Program) (l : Line) {n : List ℤ} (given lits : List Literal) (r : Bool) → l ≡ line.Cube n → lits ≡ nogood_of l →
-    given ≡ map (literal_of p) p.assumptions → r ≡ list_all (has_literal given) lits → r ≡ closes p l
-closes_cube p l {n} given lits r e f g is =
-    is ∙ ap (λ xs. list_all (has_literal xs) lits) g ∙ ap (list_all (has_literal (map (literal_of p) p.assumptions))) (f ∙ ap nogood_of e) ∙ sym (ap (closes p) e)
-
--- ---- the fault of a line
-abbrev LoopSays : Program → Atoms → List Literal → Option Why → Type 0
-LoopSays p set lits o = MatchOption o (IsLoop p set lits) (λ w. (w ≡ why.Loop) × (IsLoop p set lits → ⊥))
-
-abbrev NogoodSays : Program → Known → List Literal → Option Why → Type 0
-NogoodSays p k lits o = MatchOption o (LeadsToConflict p k lits) (λ w. (w ≡ why.NotImplied) × (LeadsToConflict p k lits → ⊥))
-
-abbrev LineSays : Program → Known → Line → Option Why → Type 0
-LineSays p k l o = MatchOption o (IsConfirmed p k l) (HasLineFault p k l)
-
-loop_says : (p : Program) (k : Known) (at : ℕ) (set : Atoms) (n : List ℤ) (o : Option Why) → HasLiterals p (line.Loop at set n) → LoopSays p set (literals_of n) o → LineSays p k (line.Loop at set n) o
-loop_says p k at set n None of h = h
-loop_says p k at set n (Some w) of h = subst (HasLineFault p k (line.Loop at set n)) (sym h.0) (of, h.1)
-
-learned_says : (p : Program) (k : Known) (at : ℕ) (n : List ℤ) (names : List ℕ) (o : Option Why) → HasLiterals p (line.Learned at n names) →
-    NogoodSays p k (literals_of n) o → LineSays p k (line.Learned at n names) o
-learned_says p k at n names None of h = h
-learned_says p k at n names (Some w) of h = subst (HasLineFault p k (line.Learned at n names)) (sym h.0) (of, h.1)
-
-cube_says : (p : Program) (k : Known) (n : List ℤ) (o : Option Why) → HasLiterals p (line.Cube n) → NogoodSays p k (literals_of n) o → LineSays p k (line.Cube n) o
-cube_says p k n None of h = h
-cube_says p k n (Some w) of h = subst (HasLineFault p k (line.Cube n)) (sym h.0) (of, h.1)
-
-pub loop_judged : {E : Type 0} (p : Program) (k : Known) (l : Line) (set : Atoms) {at : ℕ} {n : List ℤ} (lits : List Literal)
-    (r : Result (Option Why) E) → l ≡ line.Loop at set n → lits ≡ nogood_of l → HasLiterals p l → IfOk r (LoopSays p set lits) →
-    IfOk r (LineSays p k l)
-loop_judged p k l set {at} {n} lits (Ok o) e f of h =
-    subst (λ m. LineSays p k m o) (sym e) (loop_says p k at set n o (subst (HasLiterals p) e of) (subst (λ ls. LoopSays p set ls o) (f ∙ ap nogood_of e) h))
-loop_judged p k l set {at} {n} lits (Err x) e f of h = tt
-
-pub learned_judged : {E : Type 0} (p : Program) (k : Known) (l : Line) {at : ℕ} {n : List ℤ} {names : List ℕ} (lits : List Literal)
-    (r : Result (Option Why) E) → l ≡ line.Learned at n names → lits ≡ nogood_of l → HasLiterals p l → IfOk r (NogoodSays p k lits) →
-    IfOk r (LineSays p k l)
-learned_judged p k l {at} {n} {names} lits (Ok o) e f of h =
-    subst (λ m. LineSays p k m o) (sym e) (learned_says p k at n names o (subst (HasLiterals p) e of) (subst (λ ls. NogoodSays p k ls o) (f ∙ ap nogood_of e) h))
-learned_judged p k l {at} {n} {names} lits (Err x) e f of h = tt
-
-pub cube_judged : {E : Type 0} (p : Program) (k : Known) (l : Line) {n : List ℤ} (lits : List Literal) (r : Result (Option Why) E) → l ≡ line.Cube n →
-    lits ≡ nogood_of l → HasLiterals p l → IfOk r (NogoodSays p k lits) → IfOk r (LineSays p k l)
-cube_judged p k l {n} lits (Ok o) e f of h =
-    subst (λ m. LineSays p k m o) (sym e) (cube_says p k n o (subst (HasLiterals p) e of) (subst (λ ls. NogoodSays p k ls o) (f ∙ ap nogood_of e) h))
-cube_judged p k l {n} lits (Err x) e f of h = tt
-
-pub lits_are_of : (p : Program) (l : Line) (lits : List Literal) → lits ≡ nogood_of l → HasLiterals p l → AreOf p lits
-lits_are_of p l lits e of = subst (AreOf p) (sym e) (has_of p l of)
-
-pub loop_stands : (p : Program) (l : Line) (set : Atoms) {at : ℕ} {n : List ℤ} → l ≡ line.Loop at set n → HasLiterals p l → list_all (has (atoms_of p)) set ≡ true
-loop_stands p l set e of = (subst (HasLiterals p) e of).0
-
-pub known_next : (rows new : List (List Literal)) (b : Option Bound) (lits n : List Literal) → new ≡ rows ++ lits ∷ [] → lits ≡ n → known_by new b ≡ with_nogood (known_by rows b) n
-known_next rows new b lits n made f = ap (λ (ns : List (List Literal)). known_by ns b) made ∙ ap (λ (m : List Literal). with_nogood (known_by rows b) m) f
-
--- ---- the bound at first
-pub no_bound : (p : Program) (listed : List Atoms) → length listed ≡ 0 → (let o : Option (List ℤ) = None in o) ≡ bound_of p listed
-no_bound p [] e = refl
-no_bound p (S ∷ listed) e = absurd (omega arith)
-
-pub bound_is : (p : Program) (listed : List Atoms) (S : Atoms) (c : List ℤ) → 0 < length listed → S ≡ get_or listed 0 S → c ≡ cost p S → Some c ≡ bound_of p listed
-bound_is p [] S c lt is f = absurd (omega arith)
-bound_is p (T ∷ listed) S c lt is f = ap (λ d. let o : Option (List ℤ) = Some d in o) (f ∙ ap (cost p) is)
-
-pub none_above : (p : Program) (listed : List Atoms) → length listed ≡ 0 → (let o : Option (List ℤ) = None in o) ≡ above_of p listed
-none_above p [] e = refl
-none_above p (S ∷ listed) e = absurd (omega arith)
-
-pub above_is : (p : Program) (listed : List Atoms) (S : Atoms) (o : Option (List ℤ)) → 0 < length listed → S ≡ get_or listed 0 S → o ≡ just_above (cost p S) → o ≡ above_of p listed
-above_is p [] S o lt is f = absurd (omega arith)
-above_is p (T ∷ listed) S o lt is f = f ∙ ap (λ U. just_above (cost p U)) is
-
 -- ---- whether a set costs what the first one costs
 pub first_alike : (p : Program) (before : List Atoms) (S : Atoms) → length before ≡ 0 → CostsAlike p Optima before S
 first_alike p [] S e = tt
@@ -284,3 +199,36 @@ later_alike p (U ∷ before) S T lt is e = e ∙ ap (cost p) is
 pub not_alike : (p : Program) (before : List Atoms) (S T : Atoms) → 0 < length before → T ≡ get_or before 0 T → (cost p S ≡ cost p T → ⊥) → CostsAlike p Optima before S → ⊥
 not_alike p [] S T lt is never h = absurd (omega arith)
 not_alike p (U ∷ before) S T lt is never h = never (h ∙ sym (ap (cost p) is))
+
+-- ---- whether a set costs less than the last one
+pub first_cheaper : (p : Program) (before : List Atoms) (S : Atoms) → length before ≡ 0 → IsCheaper p Best before S
+first_cheaper p [] S e = tt
+first_cheaper p (T ∷ before) S e = absurd (omega arith)
+
+pub later_cheaper : (p : Program) (before : List Atoms) (S T : Atoms) (n : ℕ) → length before ≡ n + 1 → T ≡ get_or before n T → betters (cost p S) (cost p T) ≡ true → IsCheaper p Best before S
+later_cheaper p [] S T n size is b = absurd (omega (arith, size))
+later_cheaper p (U ∷ before) S T n size is b = ap (λ (V : Atoms). betters (cost p S) (cost p V)) (last_at [] (U ∷ before) n T size is) ∙ b
+
+pub not_cheaper : (p : Program) (before : List Atoms) (S T : Atoms) (n : ℕ) → length before ≡ n + 1 → T ≡ get_or before n T → IsCheaper p Best before S → betters (cost p S) (cost p T) ≡ true
+not_cheaper p [] S T n size is h = absurd (omega (arith, size))
+not_cheaper p (U ∷ before) S T n size is h = sym (ap (λ (V : Atoms). betters (cost p S) (cost p V)) (last_at [] (U ∷ before) n T size is)) ∙ h
+
+pub betters_as : (b c d e : List ℤ) (r : Bool) → b ≡ c → d ≡ e → r ≡ betters b d → betters c e ≡ r
+betters_as b c d e r f g is = ap (λ (x : List ℤ). betters x e) (sym f) ∙ ap (betters b) (sym g) ∙ sym is
+
+-- ---- the bound with one set more
+pub bound_last : (p : Program) (before : List Atoms) (S : Atoms) → (let b : Option (List ℤ) = Some (cost p S) in b) ≡ bound_by p Best (before ++ S ∷ [])
+bound_last p [] S = refl
+bound_last p (U ∷ before) S = ap (λ (V : Atoms). let b : Option (List ℤ) = Some (cost p V) in b) (sym (last_push U before S))
+
+pub bound_stays : (p : Program) (before : List Atoms) (S : Atoms) → 0 < length before → bound_by p Optima before ≡ bound_by p Optima (before ++ S ∷ [])
+bound_stays p [] S lt = absurd (omega arith)
+bound_stays p (U ∷ before) S lt = refl
+
+-- ---- what a line came to is what its bytes came to
+pub line_read : {E : Type 0} (p : Program) (o : Sought) (old new : Propagator) (l : Line) (bytes : List ℕ) (r : Result Read E) → IsWhole IsLine line_text bytes l →
+    IfOk r (IsLineTaken p o old new l) → IfOk r (IsLineRead p o old new bytes)
+line_read p o old new l bytes (Err e) w h = tt
+line_read p o old new l bytes (Ok read.Other) w h = absurd h
+line_read p o old new l bytes (Ok (read.Wrong y)) w h = (l, w, h)
+line_read p o old new l bytes (Ok (read.Right b)) w h = (l, w, h)

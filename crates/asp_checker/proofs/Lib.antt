@@ -1,5 +1,6 @@
 pub mod ConflictLaws
 pub mod LoopLaws
+pub mod ExcuseLaws
 pub mod RightLaws
 pub mod StepLaws
 pub mod StockLaws
@@ -15,9 +16,11 @@ pub mod AssumeLaws
 pub mod BoundLaws
 pub mod FoundLaws
 pub mod JudgeLaws
+pub mod PromiseLaws
 pub mod StreamLaws
 pub mod RunLaws
 pub mod WrongLaws
 pub mod ToldLaws
 pub mod ChaseLaws
+pub mod TightLaws
 pub mod MemberLaws

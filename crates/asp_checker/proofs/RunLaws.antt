@@ -59,18 +59,18 @@ place_here s (b ∷ xs) e = ap (λ t. cond t 0 (suc (place_from (b == 10) xs))) 
 next_place : (s : Bool) (b : ℕ) (xs : List ℕ) → (s && is_proof_line (b ∷ xs)) ≡ false → place_from s (b ∷ xs) ≡ suc (place_from (b == 10) xs)
 next_place s b xs e = ap (λ t. cond t 0 (suc (place_from (b == 10) xs))) e
 
-proof_line_rest : (text : List ℕ) → is_proof_line text ≡ true → (rest : List ℕ) × (codes "proof 2\n" ++ rest ≡ text)
-proof_line_rest text e = (drop 8 text, sym ((starts_is Decides-eqb text (codes "proof 2\n") (is_proof_line text) refl).0 e))
+proof_line_rest : (text : List ℕ) → is_proof_line text ≡ true → (rest : List ℕ) × (codes "proof 3\n" ++ rest ≡ text)
+proof_line_rest text e = (drop 8 text, sym ((starts_is Decides-eqb text (codes "proof 3\n") (is_proof_line text) refl).0 e))
 
-line_is_head : (bytes rest more : List ℕ) → IsUnbroken bytes → codes "proof 2\n" ++ more ≡ bytes ++ 10 ∷ rest → bytes ≡ codes "proof 2"
-line_is_head bytes rest more u e = sym (first_line (codes "proof 2") bytes more rest head_unbroken u e).0
+line_is_head : (bytes rest more : List ℕ) → IsUnbroken bytes → codes "proof 3\n" ++ more ≡ bytes ++ 10 ∷ rest → bytes ≡ codes "proof 3"
+line_is_head bytes rest more u e = sym (first_line (codes "proof 3") bytes more rest head_unbroken u e).0
 
-no_head : (bytes rest : List ℕ) → IsUnbroken bytes → (bytes ≡ codes "proof 2" → ⊥) → (b : Bool) → is_proof_line (bytes ++ 10 ∷ rest) ≡ b → b ≡ false
+no_head : (bytes rest : List ℕ) → IsUnbroken bytes → (bytes ≡ codes "proof 3" → ⊥) → (b : Bool) → is_proof_line (bytes ++ 10 ∷ rest) ≡ b → b ≡ false
 no_head bytes rest u never true e = let h = proof_line_rest (bytes ++ 10 ∷ rest) e in absurd (never (line_is_head bytes rest h.0 u h.1))
 no_head bytes rest u never false e = refl
 
 no_head_left : (bytes : List ℕ) → IsUnbroken bytes → (b : Bool) → is_proof_line bytes ≡ b → b ≡ false
-no_head_left bytes u true e = let h = proof_line_rest bytes e in absurd ((left_lacks (codes "proof 2") (10 ∷ h.0) (subst IsUnbroken (sym h.1) u)).0 refl)
+no_head_left bytes u true e = let h = proof_line_rest bytes e in absurd ((left_lacks (codes "proof 3") (10 ∷ h.0) (subst IsUnbroken (sym h.1) u)).0 refl)
 no_head_left bytes u false e = refl
 
 not_both : (s b : Bool) → b ≡ false → (s && b) ≡ false
@@ -104,7 +104,7 @@ pub record AreNone (program : List ℕ) : Type 0 where
 pub none_first : AreNone []
 none_first = record { place = λ rest. omega arith }
 
-pub none_next : (program bytes : List ℕ) → AreNone program → IsUnbroken bytes → (bytes ≡ codes "proof 2" → ⊥) → AreNone (program ++ (bytes ++ 10 ∷ []))
+pub none_next : (program bytes : List ℕ) → AreNone program → IsUnbroken bytes → (bytes ≡ codes "proof 3" → ⊥) → AreNone (program ++ (bytes ++ 10 ∷ []))
 none_next program bytes h u never = record {
   place = λ rest.
       let e : (program ++ (bytes ++ 10 ∷ [])) ++ rest ≡ program ++ (bytes ++ 10 ∷ rest) =
@@ -119,8 +119,8 @@ none_next program bytes h u never = record {
       );
 }
 
-pub none_here : (program rest : List ℕ) → AreNone program → proof_place (program ++ (codes "proof 2" ++ 10 ∷ rest)) ≡ length program
-none_here program rest h = omega (arith, h.place (codes "proof 2" ++ 10 ∷ rest), place_here true (codes "proof 2" ++ 10 ∷ rest) refl)
+pub none_here : (program rest : List ℕ) → AreNone program → proof_place (program ++ (codes "proof 3" ++ 10 ∷ rest)) ≡ length program
+none_here program rest h = omega (arith, h.place (codes "proof 3" ++ 10 ∷ rest), place_here true (codes "proof 3" ++ 10 ∷ rest) refl)
 
 pub none_at_end : (format : Format) (program bytes : List ℕ) → AreNone program → IsUnbroken bytes → InputSays format (program ++ bytes) (Err error.NoProof)
 none_at_end format program bytes h u = omega (arith, h.place bytes, broken_from true bytes u, length-append program bytes)
@@ -171,7 +171,7 @@ text_ended source now first program old new none m n =
     comes_back first now [] (program ++ new.line) _ (text_moves source now first program old new.line m n.1) (comes_end now _ _ n.2 (λ format. none_at_end format program new.line none n.0))
 
 pub text_found : (source now first : Option (List ℕ)) (program : List ℕ) (old new : Window) → AreNone program →
-    Moves first source [] (program ++ old.behind) → IsNextLine source now old new (Ok true) → new.line ≡ codes "proof 2" →
+    Moves first source [] (program ++ old.behind) → IsNextLine source now old new (Ok true) → new.line ≡ codes "proof 3" →
     FindsProof first now new (Ok (Some program))
 text_found source now first program old new none m n e = (e, text_moves source now first program old (held new) m n.1, λ rest. none_here program rest none)
 
@@ -185,7 +185,7 @@ text_next source now first program more old new m n e =
 
 -- a line for which there is no room
 pub text_too_long : (source now first : Option (List ℕ)) (program : List ℕ) (old new : Window) (e : CheckError) (U : Type 0) (after : List ℕ) →
-    AreNone program → Moves first source [] (program ++ old.behind) → IsNextLine source now old new (Ok true) → (new.line ≡ codes "proof 2" → ⊥)
+    AreNone program → Moves first source [] (program ++ old.behind) → IsNextLine source now old new (Ok true) → (new.line ≡ codes "proof 3" → ⊥)
     → AddsLine {U = U} program after new.line (Err e) → Comes first [] (λ text. (format : Format) → InputSays format text (Err e))
 text_too_long source now first program old new e U after none m n never h =
     comes_back first now [] (program ++ held new) _ (text_moves source now first program old (held new) m n.1) (comes_any now _ _ (λ rest format. too_long rest format e h))
@@ -220,7 +220,7 @@ pub text_judged_behind : (source first : Option (List ℕ)) (w : Window) (progra
 text_judged_behind source first w program format r finds c =
     comes_back first source [] (program ++ held w) _ finds.1 (comes_front source program (held w) _ (comes_with c))
   where
-    text_is : (rest : List ℕ) → held w ++ rest ≡ codes "proof 2" ++ 10 ∷ (w.behind ++ rest)
+    text_is : (rest : List ℕ) → held w ++ rest ≡ codes "proof 3" ++ 10 ∷ (w.behind ++ rest)
     text_is rest = append_assoc w.line (10 ∷ w.behind) rest ∙ ap (λ (t : List ℕ). t ++ 10 ∷ (w.behind ++ rest)) finds.0
 
     comes_with : Comes source (held w) (λ text. TextsSay format program text r) → Comes source (held w) (λ text. InputSays format (program ++ text) r)

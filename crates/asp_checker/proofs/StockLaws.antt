@@ -1,9 +1,8 @@
 -- What is in places.
-use Rattle.std.proofs.Common.{◌≡◌, ℕ, zero, suc, ◌<◌, ◌≤◌, ◌-◌, List, [], ◌∷◌, ◌++◌, length, set, refl, ap, ◌∙◌, arith}
+use Rattle.std.proofs.Common.{◌≡◌, ℕ, zero, suc, ◌<◌, ◌≤◌, List, [], ◌∷◌, ◌++◌, length, set, refl, ap, arith}
 use Rattle.std.specs.List.{AllByRecursion}
 use Rattle.asp_vars.specs.Literals.{Literal}
-use Rattle.asp_checker.specs.Propagation.{Known}
-use Rattle.asp_checker.specs.Lines.{put, Stock, stock, with_nogood, with_placed}
+use Rattle.asp_checker.specs.Lines.{put}
 
 pub put_each : (P : List Literal → Type 0) (placed : List (List Literal)) (at : ℕ) (n : List Literal) → AllByRecursion P placed → P n → AllByRecursion P (put placed at n)
 put_each P [] at n h k = (k, tt)
@@ -19,17 +18,3 @@ pub put_behind : (placed : List (List Literal)) (at : ℕ) (n : List Literal) �
 put_behind [] at n le = refl
 put_behind (m ∷ placed) zero n le = absurd (omega arith)
 put_behind (m ∷ placed) (suc at) n le = ap (λ (ns : List (List Literal)). m ∷ ns) (put_behind placed at n (omega arith))
-
--- a place is taken
-pub with_place : (s : Stock) (place : ℕ) (n : List Literal) → 0 < place → stock s.kept (put s.placed (place - 1) n) ≡ with_placed s place n
-with_place s zero n lt = absurd (omega arith)
-with_place s (suc at) n lt = let e : suc at - 1 ≡ at = omega arith in ap (λ i. stock s.kept (put s.placed i n)) e
-
--- no place is taken
-pub with_none : (s : Stock) (place : ℕ) (n : List Literal) → place ≡ 0 → stock (with_nogood s.kept n) s.placed ≡ with_placed s place n
-with_none s zero n e = refl
-with_none s (suc at) n e = absurd (omega arith)
-
--- nothing is in places
-pub stock_from : (k first : Known) (placed : List (List Literal)) → k ≡ first → placed ≡ [] → stock k placed ≡ stock first []
-stock_from k first placed e f = ap (λ (m : Known). stock m placed) e ∙ ap (λ (ns : List (List Literal)). stock first ns) f

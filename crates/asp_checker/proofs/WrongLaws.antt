@@ -19,10 +19,9 @@ use Rattle.asp_proof.specs.declared.proof.Sought.{Sought}
 use Rattle.asp_proof.specs.declared.proof.Sought.TheVariants.{All, Best, Optima}
 use Rattle.asp_checker.specs.declared.judge.Why.{Why}
 use Rattle.asp_checker.specs.declared.judge.Why.TheVariants as why
-use Rattle.asp_checker.specs.Propagation.{Known}
-use Rattle.asp_checker.specs.Lines.{AreOf, IsConfirmed, AreConfirmed, nogood_of, Stock, all_of, with_line, first_stock}
-use Rattle.asp_checker.specs.Right.{is_best, CostsAlike, AreAlike, IsRight}
-use Rattle.asp_checker.specs.Judging.{IsInOrder, HasAnswerFault, IsWrongAnswer, HasLiterals, HasLineFault, IsWrongLine, IsNotWhole, IsRefused, known_after, no_line}
+use Rattle.asp_checker.specs.Lines.{IsConfirmed, AreConfirmed, CostsAlike, Gathered, first_gathered, known_of, with_line, gathered_after}
+use Rattle.asp_checker.specs.Right.{is_best, AreAlike, IsRight}
+use Rattle.asp_checker.specs.Judging.{IsInOrder, HasAnswerFault, IsWrongAnswer, HasLiterals, IsNoLoop, IsNotImplied, IsNotCheaper, IsNotAlike, HasLineFault, IsWrongLine, HasLastFault, IsRefused, no_line}
 
 -- ---- answers
 and_true : (a b : Bool) → a ≡ true → b ≡ true → (a && b) ≡ true
@@ -64,6 +63,7 @@ answer_fault p s listed why.Cost i lt order member alike h = h.2 alike
 answer_fault p s listed why.Loop i lt order member alike h = h
 answer_fault p s listed why.NotImplied i lt order member alike h = h
 answer_fault p s listed why.NotWhole i lt order member alike h = h
+answer_fault p s listed why.NotListed i lt order member alike h = h
 
 wrong_answer_no : (p : Program) (proof : Proof) (w : Why) (i : ℕ) → IsRight p proof → IsWrongAnswer p proof.sought proof.answers w i → ⊥
 wrong_answer_no p proof w i right wrong =
@@ -71,53 +71,72 @@ wrong_answer_no p proof w i right wrong =
     (All-from_recursion (Contains (answers p)) proof.answers right.members i [] wrong.within) (alike_at p proof.sought proof.answers i wrong.within right.alike) wrong.fault
 
 -- ---- lines
-confirmed_of : (p : Program) (s : Stock) (lines : List Line) (i : ℕ) → i < length lines → AreConfirmed p s lines → AreOf p (nogood_of (get_or lines i no_line))
-confirmed_of p s [] i lt h = absurd (omega arith)
-confirmed_of p s (l ∷ lines) zero lt h = h.0
-confirmed_of p s (l ∷ lines) (suc i) lt h = confirmed_of p (with_line s l) lines i (omega arith) h.2
+confirmed_at : (p : Program) (o : Sought) (g : Gathered) (lines : List Line) (i : ℕ) → i < length lines → AreConfirmed p o g lines →
+    IsConfirmed p o (gathered_after g (take i lines)) (get_or lines i no_line)
+confirmed_at p o g [] i lt h = absurd (omega arith)
+confirmed_at p o g (l ∷ lines) zero lt h = h.0
+confirmed_at p o g (l ∷ lines) (suc i) lt h = confirmed_at p o (with_line g l) lines i (omega arith) h.1
 
-confirmed_at : (p : Program) (s : Stock) (lines : List Line) (i : ℕ) → i < length lines → AreConfirmed p s lines → IsConfirmed p (all_of (known_after s (take i lines))) (get_or lines i no_line)
-confirmed_at p s [] i lt h = absurd (omega arith)
-confirmed_at p s (l ∷ lines) zero lt h = h.1
-confirmed_at p s (l ∷ lines) (suc i) lt h = confirmed_at p (with_line s l) lines i (omega arith) h.2
+literals_of_confirmed : (p : Program) (o : Sought) (g : Gathered) (l : Line) → IsConfirmed p o g l → HasLiterals p g l
+literals_of_confirmed p o g (line.Loop place set n) h = let loop = h.1 in (loop.among, h.0)
+literals_of_confirmed p o g (line.Learned place n names) h = h.0
+literals_of_confirmed p o g (line.Cube n) h = h.0
+literals_of_confirmed p o g (line.Found change) h = h.atoms
 
-literals_of_confirmed : (p : Program) (k : Known) (l : Line) → AreOf p (nogood_of l) → IsConfirmed p k l → HasLiterals p l
-literals_of_confirmed p k (line.Loop place set n) of h = (h.among, of)
-literals_of_confirmed p k (line.Learned place n names) of h = of
-literals_of_confirmed p k (line.Cube n) of h = of
+no_loop : (p : Program) (o : Sought) (g : Gathered) (l : Line) → IsConfirmed p o g l → IsNoLoop p l → ⊥
+no_loop p o g (line.Loop place set n) c h = h c.1
+no_loop p o g (line.Learned place n names) c h = h
+no_loop p o g (line.Cube n) c h = h
+no_loop p o g (line.Found change) c h = h
 
-no_loop : (p : Program) (k : Known) (l : Line) → IsConfirmed p k l → HasLineFault p k l why.Loop → ⊥
-no_loop p k (line.Loop place set n) c h = h.1 c
-no_loop p k (line.Learned place n names) c h = h.1
-no_loop p k (line.Cube n) c h = h.1
+not_implied : (p : Program) (o : Sought) (g : Gathered) (l : Line) → IsConfirmed p o g l → IsNotImplied p (known_of p o g) l → ⊥
+not_implied p o g (line.Loop place set n) c h = h
+not_implied p o g (line.Learned place n names) c h = h c.1
+not_implied p o g (line.Cube n) c h = h c.1
+not_implied p o g (line.Found change) c h = h
 
-not_implied : (p : Program) (k : Known) (l : Line) → IsConfirmed p k l → HasLineFault p k l why.NotImplied → ⊥
-not_implied p k (line.Loop place set n) c h = h.1
-not_implied p k (line.Learned place n names) c h = h.1 c
-not_implied p k (line.Cube n) c h = h.1 c
+not_cheaper : (p : Program) (o : Sought) (g : Gathered) (l : Line) → IsConfirmed p o g l → IsNotCheaper p o g l → ⊥
+not_cheaper p o g (line.Loop place set n) c h = h
+not_cheaper p o g (line.Learned place n names) c h = h
+not_cheaper p o g (line.Cube n) c h = h
+not_cheaper p o g (line.Found change) c h = h c.cheaper
 
-line_fault : (p : Program) (k : Known) (l : Line) (w : Why) → AreOf p (nogood_of l) → IsConfirmed p k l → HasLineFault p k l w → ⊥
-line_fault p k l why.Literal of c h = h (literals_of_confirmed p k l of c)
-line_fault p k l why.Loop of c h = no_loop p k l c h
-line_fault p k l why.NotImplied of c h = not_implied p k l c h
-line_fault p k l why.Member of c h = h
-line_fault p k l why.Order of c h = h
-line_fault p k l why.Cost of c h = h
-line_fault p k l why.NotWhole of c h = h
+not_alike : (p : Program) (o : Sought) (g : Gathered) (l : Line) → IsConfirmed p o g l → IsNotAlike p o g l → ⊥
+not_alike p o g (line.Loop place set n) c h = h
+not_alike p o g (line.Learned place n names) c h = h
+not_alike p o g (line.Cube n) c h = h
+not_alike p o g (line.Found change) c h = h c.alike
 
-wrong_line_no : (p : Program) (s : Stock) (lines : List Line) (w : Why) (i : ℕ) → AreConfirmed p s lines → IsWrongLine p s lines w i → ⊥
-wrong_line_no p s lines w i c wrong =
-    line_fault p (all_of (known_after s (take i lines))) (get_or lines i no_line) w (confirmed_of p s lines i wrong.within c) (confirmed_at p s lines i wrong.within c) wrong.fault
+line_fault : (p : Program) (o : Sought) (g : Gathered) (l : Line) (w : Why) → IsConfirmed p o g l → HasLineFault p o g l w → ⊥
+line_fault p o g l why.Literal c h = h (literals_of_confirmed p o g l c)
+line_fault p o g l why.Loop c h = no_loop p o g l c h.1
+line_fault p o g l why.NotImplied c h = not_implied p o g l c h.1
+line_fault p o g l why.Order c h = not_cheaper p o g l c h.1
+line_fault p o g l why.Cost c h = not_alike p o g l c h.1
+line_fault p o g l why.Member c h = h
+line_fault p o g l why.NotWhole c h = h
+line_fault p o g l why.NotListed c h = h
+
+wrong_line_no : (p : Program) (o : Sought) (lines : List Line) (w : Why) (i : ℕ) → AreConfirmed p o (first_gathered p) lines → IsWrongLine p o lines w i → ⊥
+wrong_line_no p o lines w i c wrong =
+    line_fault p o (gathered_after (first_gathered p) (take i lines)) (get_or lines i no_line) w (confirmed_at p o (first_gathered p) lines i wrong.within c) wrong.fault
 
 -- ---- the whole
-not_whole_no : (p : Program) (proof : Proof) (w : Why) (n : ℕ) → IsRight p proof → IsNotWhole p proof w n → ⊥
-not_whole_no p proof w n right h = let lines = h.lines in false≢true (lines.whole_is ∙ right.whole h.ends)
+last_fault_no : (p : Program) (proof : Proof) (w : Why) → IsRight p proof → proof.part ≡ false → HasLastFault p proof w → ⊥
+last_fault_no p proof why.NotWhole right e h = false≢true (sym h ∙ right.whole e)
+last_fault_no p proof why.NotListed right e h = h.1 (right.kept e)
+last_fault_no p proof why.Member right e h = h
+last_fault_no p proof why.Order right e h = h
+last_fault_no p proof why.Literal right e h = h
+last_fault_no p proof why.Loop right e h = h
+last_fault_no p proof why.NotImplied right e h = h
+last_fault_no p proof why.Cost right e h = h
 
 pub refused-not_right : (p : Program) (proof : Proof) (w : Why) (n : ℕ) → IsRight p proof → IsRefused p proof w n → ⊥
 refused-not_right p proof w n right refused = elim refused [
-  | inl a ↦ let b = a.wrong in wrong_answer_no p proof w a.place right b
+  | inl l ↦ let b = l.wrong in wrong_line_no p proof.sought proof.lines w l.place right.lines b
   | inr o ↦ elim o [
-    | inl l ↦ let b = l.wrong in wrong_line_no p (first_stock p proof) proof.lines w l.place right.lines b
-    | inr h ↦ not_whole_no p proof w n right h
+    | inl a ↦ let b = a.wrong in wrong_answer_no p proof w a.place right b
+    | inr h ↦ let claims = h.0 in last_fault_no p proof w right claims.ends h.1
   ]
 ]

@@ -12,7 +12,8 @@ use Rattle.asp_proof.specs.declared.proof.Line.TheVariants as line
 use Rattle.asp_proof.specs.declared.proof.Proof.{Proof}
 use Rattle.asp_proof.specs.declared.proof.Sought.{Sought}
 use Rattle.asp_proof.specs.declared.proof.Sought.TheVariants as sought
-use Rattle.asp_checker.specs.Lines.{literals_of, AreConfirmed, first_stock}
+use Rattle.asp_proof.specs.Changes.{last_from}
+use Rattle.asp_checker.specs.Lines.{literals_of, AreConfirmed, first_gathered, gathered_after}
 
 -- Each of the literals is an assumption.
 abbrev pub is_assumed : Program → List Literal → Bool
@@ -23,6 +24,7 @@ abbrev pub closes : Program → Line → Bool
 closes p (line.Loop place set nogood) = false
 closes p (line.Learned place nogood names) = is_assumed p (literals_of nogood)
 closes p (line.Cube nogood) = is_assumed p (literals_of nogood)
+closes p (line.Found change) = false
 
 -- whether one answer that none betters is sought
 abbrev pub is_best : Sought → Bool
@@ -30,28 +32,34 @@ is_best sought.All = false
 is_best sought.Best = true
 is_best sought.Optima = false
 
--- Where all answers that none betters are sought, the set costs what the first of those before it costs.
-abbrev pub CostsAlike : Program → Sought → List Atoms → Atoms → Type 0
-CostsAlike p sought.All before S = Unit {0}
-CostsAlike p sought.Best before S = Unit {0}
-CostsAlike p sought.Optima [] S = Unit {0}
-CostsAlike p sought.Optima (T ∷ before) S = cost p S ≡ cost p T
-
--- The same of each of these sets.
+-- Where all answers that none betters are sought, these sets cost alike.
 abbrev pub AreAlike : Program → Sought → List Atoms → Type 0
 AreAlike p sought.All listed = Unit {0}
 AreAlike p sought.Best listed = Unit {0}
 AreAlike p sought.Optima [] = Unit {0}
 AreAlike p sought.Optima (T ∷ listed) = AllByRecursion (λ S. cost p S ≡ cost p T) listed
 
--- Where it isn't told that the answers are a part of what was sought, a line says that there is nothing else.
+-- of the sets found those that are to be listed: all, or where one answer that none betters is sought, the last one
+abbrev pub promised : Sought → List Atoms → List Atoms
+promised sought.All found = found
+promised sought.Best [] = []
+promised sought.Best (S ∷ found) = last_from S found ∷ []
+promised sought.Optima found = found
+
+-- the sets that lines find
+abbrev pub found_of : Program → List Line → List Atoms
+found_of p lines = (gathered_after (first_gathered p) lines).found
+
+-- The lines are right, and the listed sets are answers. Where it isn't told that these are a part of what was sought, a line says that there
+-- is nothing else, and what was promised is listed.
 pub record IsRight (p : Program) (proof : Proof) : Type 0 where
+  pub lines : AreConfirmed p proof.sought (first_gathered p) proof.lines
   pub members : AllByRecursion (Contains (answers p)) proof.answers
   pub order : AllPairs IsBefore proof.answers
   pub single : IsTrue (is_best proof.sought) → length proof.answers ≤ 1
   pub alike : AreAlike p proof.sought proof.answers
-  pub lines : AreConfirmed p (first_stock p proof) proof.lines
   pub whole : proof.part ≡ false → IsTrue (list_any (closes p) proof.lines)
+  pub kept : proof.part ≡ false → AllByRecursion (Contains proof.answers) (promised proof.sought (found_of p proof.lines))
 
 -- An optimisation lists one answer that none betters, and none only where there is none.
 abbrev pub ShowsBest : Program → List Atoms → Type 0

@@ -35,7 +35,7 @@ TextsSay format program text (Err (error.Proof (proof.Refused number))) = (p : P
 -- ---- one text
 -- The text begins with a proof's first line.
 abbrev pub is_proof_line : List ℕ → Bool
-is_proof_line text = starts_with nat_eq text (codes "proof 2\n")
+is_proof_line text = starts_with nat_eq text (codes "proof 3\n")
 
 -- how many bytes stand before the first line of a proof, where the text begins at a line's start, or doesn't
 abbrev pub place_from : Bool → List ℕ → ℕ
@@ -53,6 +53,7 @@ number_of why.Loop = 4
 number_of why.NotImplied = 5
 number_of why.NotWhole = 6
 number_of why.Cost = 7
+number_of why.NotListed = 8
 
 -- what is written
 abbrev pub said : Judgement → List ℕ
@@ -154,7 +155,7 @@ found_text items (Err e) = Err e
 
 -- The program's text, and what was read has the first line of a proof behind it; or there is no such line, or no text.
 abbrev pub FindsProof : Option (List ℕ) → Option (List ℕ) → Window → Result (Option (List ℕ)) CheckError → Type 0
-FindsProof source now w (Ok (Some program)) = (w.line ≡ codes "proof 2") × Moves source now [] (program ++ held w) ×
-    ((rest : List ℕ) → proof_place (program ++ (codes "proof 2" ++ 10 ∷ rest)) ≡ length program)
+FindsProof source now w (Ok (Some program)) = (w.line ≡ codes "proof 3") × Moves source now [] (program ++ held w) ×
+    ((rest : List ℕ) → proof_place (program ++ (codes "proof 3" ++ 10 ∷ rest)) ≡ length program)
 FindsProof source now w (Ok None) = Comes source [] (λ text. (format : Format) → InputSays format text (Err error.NoProof))
 FindsProof source now w (Err e) = Comes source [] (λ text. (format : Format) → InputSays format text (Err e))

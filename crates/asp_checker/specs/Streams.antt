@@ -1,6 +1,6 @@
 -- What is said of a proof whose text is read and judged line by line.
-use Rattle.std.specs.Prelude.{◌≡◌, ◌⊎◌, ℕ, ◌+◌, List, [], ◌++◌, length, codes, Bool, true, false, Option, Result, IsTrue}
-use Rattle.std.specs.List.{list_any}
+use Rattle.std.specs.Prelude.{◌≡◌, ◌⊎◌, ℕ, ◌+◌, List, [], ◌++◌, length, codes, Bool, true, false, Option, Result, Contains, IsTrue}
+use Rattle.std.specs.List.{list_any, AllByRecursion}
 use Rattle.std.specs.declared.result.Result.TheVariants.{Ok, Err}
 use Rattle.std.specs.declared.option.Option.TheVariants.{None, Some}
 use Rattle.asp_model.specs.Sets.{Atoms}
@@ -11,8 +11,8 @@ use Rattle.asp_proof.specs.declared.proof.Proof.{Proof}
 use Rattle.asp_proof.specs.declared.proof.Sought.{Sought}
 use Rattle.asp_proof.specs.declared.error.ProofError.{ProofError}
 use Rattle.asp_proof.specs.declared.error.ProofError.TheVariants as proof
-use Rattle.asp_proof.specs.Texts.{answer_text, text_of}
-use Rattle.asp_proof.specs.Grammar.{IsProof, IsSet, IsUnbroken, IsFirstFault}
+use Rattle.asp_proof.specs.Texts.{answer_text, line_text, text_of}
+use Rattle.asp_proof.specs.Grammar.{IsProof, IsSet, IsLine, IsUnbroken, IsFirstFault}
 use Rattle.asp_proof.specs.Fields.{IsNone}
 use Rattle.asp_proof.specs.Walk.{IsBegun, front_of, proof_of}
 use Rattle.asp_proof.specs.Reading.{HasLongLine, IsNextLine, Moves, Comes, Window, held}
@@ -22,9 +22,11 @@ use Rattle.asp_checker.specs.declared.judge.Judgement.{Judgement}
 use Rattle.asp_checker.specs.declared.judge.Judgement.TheVariants as judgement
 use Rattle.asp_checker.specs.declared.error.CheckError.{CheckError}
 use Rattle.asp_checker.specs.declared.error.CheckError.TheVariants as error
-use Rattle.asp_checker.specs.Lines.{AreConfirmed, Stock, first_stock}
-use Rattle.asp_checker.specs.Right.{closes, IsRight, ShowsBy}
-use Rattle.asp_checker.specs.Judging.{AreRightAnswers, IsRefused, known_after}
+use Rattle.asp_checker.specs.Lines.{AreConfirmed, first_gathered, gathered_after}
+use Rattle.asp_checker.specs.Right.{closes, found_of, promised, IsRight, ShowsBy}
+use Rattle.asp_checker.specs.declared.propagator.Propagator.{Propagator}
+use Rattle.asp_checker.specs.declared.stream.Tally.{Tally}
+use Rattle.asp_checker.specs.Judging.{AreRightAnswers, IsRefused, HasLastFault, gathered_by}
 
 -- All of a text is a right proof's, which shows what it lists, and tells whether that is a part of what was sought.
 pub record IsShown (p : Program) (text : List ℕ) (part : Bool) : Type 0 where
@@ -40,15 +42,25 @@ pub record IsPartShown (p : Program) (text : List ℕ) (count : ℕ) : Type 0 wh
   pub shown : IsShown p text true
   pub counted : length shown.proof.answers ≡ count
 
--- A text begins with lines of a proof, of which this one is the first that is wrong. Where none says that there is nothing else, it is the
--- last line, and the text has it.
+-- The fault is the last line's.
+abbrev pub is_last_fault : Why → Bool
+is_last_fault why.NotWhole = true
+is_last_fault why.NotListed = true
+is_last_fault why.Member = false
+is_last_fault why.Order = false
+is_last_fault why.Literal = false
+is_last_fault why.Loop = false
+is_last_fault why.NotImplied = false
+is_last_fault why.Cost = false
+
+-- A text begins with lines of a proof, of which this one is the first that is wrong. Where that is the last line, the text has it.
 pub record IsWrongAt (p : Program) (text : List ℕ) (w : Why) (number : ℕ) : Type 0 where
   pub proof : Proof
   pub is : IsProof proof
   pub rest : List ℕ
   pub begins : front_of proof ++ rest ≡ text
   pub wrong : IsRefused p proof w number
-  pub last : w ≡ why.NotWhole → (after : List ℕ) × (codes "0\n" ++ after ≡ rest)
+  pub last : IsTrue (is_last_fault w) → (after : List ℕ) × (codes "0\n" ++ after ≡ rest)
 
 -- A text begins with lines of a proof that are right, and this line comes next, or comes after the last line.
 pub record IsRightBefore (p : Program) (text : List ℕ) (number : ℕ) : Type 0 where
@@ -56,9 +68,9 @@ pub record IsRightBefore (p : Program) (text : List ℕ) (number : ℕ) : Type 0
   pub is : IsProof proof
   pub rest : List ℕ
   pub begins : front_of proof ++ rest ≡ text
+  pub lines : AreConfirmed p proof.sought (first_gathered p) proof.lines
   pub answers : AreRightAnswers p proof.sought proof.answers
-  pub lines : AreConfirmed p (first_stock p proof) proof.lines
-  pub next : (number ≡ length proof.answers + length proof.lines + 3) ⊎ ((number ≡ length proof.answers + length proof.lines + 4) × (proof.part ≡ false → IsTrue (list_any (closes p) proof.lines)))
+  pub next : (number ≡ length proof.lines + length proof.answers + 3) ⊎ ((number ≡ length proof.lines + length proof.answers + 4) × IsRight p proof)
 
 -- The line is the first with which no proof's text begins, and those before it are right. The first two have nothing to be judged.
 pub record IsFaultAt (p : Program) (text : List ℕ) (number : ℕ) : Type 0 where
@@ -103,41 +115,83 @@ abbrev pub right_judgement : Bool → ℕ → Judgement
 right_judgement true n = judgement.Part n
 right_judgement false n = judgement.Yes
 
--- The lines of a proof so far are right, so many with the one that comes next, and whether one of them says that there is nothing else.
-pub record IsRightFront (p : Program) (q : Proof) (number : ℕ) (whole : Bool) : Type 0 where
-  pub sound : IsSound p
-  pub begun : IsBegun (length q.answers + length q.lines + 2) q
-  pub answers : AreRightAnswers p q.sought q.answers
-  pub lines : AreConfirmed p (first_stock p q) q.lines
-  pub counted : number ≡ length q.answers + length q.lines + 3
-  pub whole_is : whole ≡ list_any (closes p) q.lines
+-- ---- lines, and then answers
+-- These lines are right, with which a proof's text begins; so many, whether one of them says that there is nothing else, and what they find.
+pub record AreLinesBefore (p : Program) (o : Sought) (entries : List Line) (count : ℕ) (whole : Bool) (found : List Atoms) : Type 0 where
+  pub begun : IsBegun (length entries + 2) (proof_of o entries [])
+  pub confirmed : AreConfirmed p o (first_gathered p) entries
+  pub counted : count ≡ length entries
+  pub whole_is : whole ≡ list_any (closes p) entries
+  pub found_is : found ≡ found_of p entries
 
--- Answers are right, as far as they were read, and what was read has this behind them.
-pub record AreListed (p : Program) (sought : Sought) (answers : List Atoms) (source now : Option (List ℕ)) (first behind : List ℕ) : Type 0 where
-  pub right : AreRightAnswers p sought answers
-  pub begun : IsBegun (length answers + 2) (proof_of sought answers [])
-  pub moved : Moves source now first (front_of (proof_of sought answers []) ++ behind)
+-- The lines so far are right, and what was read has this behind them.
+pub record AreSoFar (p : Program) (o : Sought) (h : Propagator) (t : Tally) (source now : Option (List ℕ)) (first behind : List ℕ) : Type 0 where
+  pub entries : List Line
+  pub right : AreLinesBefore p o entries t.count t.whole h.found.items
+  pub gathered : gathered_by h ≡ gathered_after (first_gathered p) entries
+  pub moved : Moves source now first (front_of (proof_of o entries []) ++ behind)
 
--- the same, and the line behind them is no answer
-pub record AreAllListed (p : Program) (sought : Sought) (answers : List Atoms) (source now : Option (List ℕ)) (first : List ℕ) (w : Window) : Type 0 where
-  pub listed : AreListed p sought answers source now first (held w)
+-- Lines are right, and the next one is none of those that come before the answers.
+pub record AreLinesOf (p : Program) (o : Sought) (entries : List Line) (count : ℕ) (whole : Bool) (found : List Atoms) (w : Window) : Type 0 where
+  pub right : AreLinesBefore p o entries count whole found
   pub unbroken : IsUnbroken w.line
+  pub no_line : IsNone IsLine line_text w.line
+
+-- The same of what was read.
+pub record AreAllRead (p : Program) (o : Sought) (h : Propagator) (t : Tally) (source now : Option (List ℕ)) (first : List ℕ) (w : Window) : Type 0 where
+  pub entries : List Line
+  pub lines : AreLinesOf p o entries t.count t.whole h.found.items w
+  pub moved : Moves source now first (front_of (proof_of o entries []) ++ held w)
+
+-- what judging the lines came to
+abbrev pub JudgesLines : Program → Sought → Propagator → Tally → Option (List ℕ) → Option (List ℕ) → List ℕ → Window → Result (Option Why) CheckError → Type 0
+JudgesLines p o h t source now first w (Ok None) = AreAllRead p o h t source now first w
+JudgesLines p o h t source now first w (Ok (Some why)) = Comes source first (λ text. Judges p text (Ok (judgement.No why (t.count + 3))))
+JudgesLines p o h t source now first w (Err e) = Comes source first (λ text. Judges p text (Err e))
+
+-- Answers behind these lines are right, and the reader is at the next line.
+pub record AreAnswersBefore (p : Program) (o : Sought) (entries : List Line) (answers : List Atoms) (w : Window) : Type 0 where
+  pub right : AreRightAnswers p o answers
+  pub begun : IsBegun (length entries + length answers + 2) (proof_of o entries answers)
+  pub unbroken : IsUnbroken w.line
+  pub no_line : answers ≡ [] → IsNone IsLine line_text w.line
+
+-- The same of what was read.
+pub record AreListed (p : Program) (o : Sought) (entries : List Line) (answers : List Atoms) (source now : Option (List ℕ)) (first : List ℕ) (w : Window) : Type 0 where
+  pub before : AreAnswersBefore p o entries answers w
+  pub moved : Moves source now first (front_of (proof_of o entries answers) ++ held w)
+
+-- Answers are right, and the next line is none.
+pub record AreAtEnd (p : Program) (o : Sought) (entries : List Line) (answers : List Atoms) (w : Window) : Type 0 where
+  pub before : AreAnswersBefore p o entries answers w
   pub no_answer : IsNone IsSet answer_text w.line
 
--- what judging the answers came to
-abbrev pub JudgesAnswers : Program → Sought → List Atoms → Option (List ℕ) → Option (List ℕ) → List ℕ → Window → Result (Option Why) CheckError → Type 0
-JudgesAnswers p sought answers source now first w (Ok None) = AreAllListed p sought answers source now first w
-JudgesAnswers p sought answers source now first w (Ok (Some why)) = Comes source first (λ text. Judges p text (Ok (judgement.No why (length answers + 3))))
-JudgesAnswers p sought answers source now first w (Err e) = Comes source first (λ text. Judges p text (Err e))
+-- The same of what was read.
+pub record AreAllListed (p : Program) (o : Sought) (entries : List Line) (answers : List Atoms) (source now : Option (List ℕ)) (first : List ℕ) (w : Window) : Type 0 where
+  pub at_end : AreAtEnd p o entries answers w
+  pub moved : Moves source now first (front_of (proof_of o entries answers) ++ held w)
 
--- The lines so far are right, and the reader is at the next one.
-pub record IsSoFar (p : Program) (sought : Sought) (answers : List Atoms) (s now : Stock) (whole : Bool) (at : ℕ) (source left : Option (List ℕ)) (first : List ℕ) (w : Window) : Type 0 where
-  pub entries : List Line
-  pub counted : length entries ≡ at
-  pub begun : IsBegun (length answers + length entries + 2) (proof_of sought answers entries)
-  pub moved : Moves source left first (front_of (proof_of sought answers entries) ++ held w)
-  pub unbroken : IsUnbroken w.line
-  pub no_answer : entries ≡ [] → IsNone IsSet answer_text w.line
-  pub confirmed : AreConfirmed p s entries
-  pub known : now ≡ known_after s entries
-  pub whole_is : whole ≡ list_any (closes p) entries
+-- what judging the answers came to, where so many lines come before them
+abbrev pub JudgesAnswers : Program → Sought → List Line → ℕ → List Atoms → Option (List ℕ) → Option (List ℕ) → List ℕ → Window → Result (Option Why) CheckError → Type 0
+JudgesAnswers p o entries count answers source now first w (Ok None) = AreAllListed p o entries answers source now first w
+JudgesAnswers p o entries count answers source now first w (Ok (Some why)) = Comes source first (λ text. Judges p text (Ok (judgement.No why (count + length answers + 3))))
+JudgesAnswers p o entries count answers source now first w (Err e) = Comes source first (λ text. Judges p text (Err e))
+
+-- The lines and the answers of a proof are right, as far as they were read; the line that comes next has this number.
+pub record IsRightFront (p : Program) (q : Proof) (number : ℕ) : Type 0 where
+  pub sound : IsSound p
+  pub begun : IsBegun (length q.lines + length q.answers + 2) q
+  pub lines : AreConfirmed p q.sought (first_gathered p) q.lines
+  pub answers : AreRightAnswers p q.sought q.answers
+  pub counted : number ≡ length q.lines + length q.answers + 3
+
+-- ---- the last line
+-- A line says that there is nothing else, and what was promised is listed.
+pub record IsComplete (p : Program) (q : Proof) : Type 0 where
+  pub whole : IsTrue (list_any (closes p) q.lines)
+  pub kept : AllByRecursion (Contains q.answers) (promised q.sought (found_of p q.lines))
+
+-- what is wrong with the last line, where it doesn't tell that the answers are a part of what was sought
+abbrev pub IsEndJudged : Program → Proof → Bool → Option Why → Type 0
+IsEndJudged p q part None = part ≡ false → IsComplete p q
+IsEndJudged p q part (Some w) = (part ≡ false) × HasLastFault p q w

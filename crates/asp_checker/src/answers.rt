@@ -1,4 +1,4 @@
-//! The nogoods of the listed answers. They are kept as sets: each nogood has a literal for each atom.
+//! The nogoods of the sets found. They are kept as sets: each nogood has a literal for each atom.
 ghost use Rattle.std.specs.Prelude.{◌≡◌, ◌+◌, ◌++◌, length, map};
 ghost use Rattle.std.specs.List.{AllByRecursion};
 ghost use Rattle.asp_vars.specs.Numbering.{var_count};
@@ -15,7 +15,7 @@ use asp_vars::compiled::Compiled;
 use asp_vars::lit::Lit;
 use asp_vars::nogood::Lits;
 
-/// What the nogood by which an answer differs from all other sets says under the values.
+/// What the nogood by which a set found differs from all others says under the values.
 pub(crate) fn look_at_answer(compiled: &Compiled, answer: &Interp, values: &Assign) -> Look
     requires { length values.now ≡ var_count compiled.now + 1 }
     ensures { IsSeen values.now (nogood_of_answer compiled.now answer.now) result }
@@ -35,7 +35,7 @@ pub(crate) fn look_at_answer(compiled: &Compiled, answer: &Interp, values: &Assi
     look
 }
 
-/// Looks at the nogood of an answer, and sets the value that it implies.
+/// Looks at the nogood of a set found, and sets the value that it implies.
 fn visit_answer(compiled: &Compiled, answer: &Interp, values: &mut Assign) -> Visit
     requires { length values.old ≡ var_count compiled.now + 1 }
     ensures { IsVisited values.old values.new (nogood_of_answer compiled.now answer.now) result }
@@ -50,7 +50,7 @@ fn visit_answer(compiled: &Compiled, answer: &Interp, values: &mut Assign) -> Vi
     }
 }
 
-/// Looks at the nogood of each listed answer once, and sets the values that they imply, one after another.
+/// Looks at the nogood of each set found once, and sets the values that they imply, one after another.
 pub(crate) fn sweep_answers(compiled: &Compiled, listed: &[Interp], values: &mut Assign) -> Visit
     requires { length values.old ≡ var_count compiled.now + 1 }
     ensures { IsSwept values.old values.new (map (nogood_of_answer compiled.now) listed.now) result }
@@ -66,7 +66,7 @@ pub(crate) fn sweep_answers(compiled: &Compiled, listed: &[Interp], values: &mut
     came_to
 }
 
-/// Looks at all nogoods once, those of the listed answers last.
+/// Looks at all nogoods once, those of the sets found last.
 pub(crate) fn sweep_all(
     compiled: &Compiled,
     listed: &[Interp],

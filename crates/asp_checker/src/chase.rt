@@ -63,7 +63,7 @@ fn look(compiled: &Compiled, rows: &[Lits], place: usize, values: &mut Assign) -
     set_implied(compiled, look_at(rows[place].as_slice(), values), values)
 }
 
-// Looks at the nogood of the listed answer at a place, if there is one, and sets the value that it implies.
+// Looks at the nogood of the set found at a place, if there is one, and sets the value that it implies.
 fn look_at_listed(
     compiled: &Compiled,
     listed: &[Interp],

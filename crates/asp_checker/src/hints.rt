@@ -15,7 +15,7 @@ pub(crate) enum Hint {
     Nogood(usize),
     /// The nogood at this one of the places that lines take.
     Placed(usize),
-    /// The nogood of the listed answer at this place.
+    /// The nogood of the set found at this place.
     Answer(usize),
     /// Whether the weight body implies the literal.
     Body(usize, Lit),

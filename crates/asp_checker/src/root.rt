@@ -1,5 +1,5 @@
 //! The values that follow from what is known alone. They are kept from line to line, and each line begins with them.
-ghost use Rattle.std.specs.Prelude.{◌≡◌, ◌+◌, ◌^◌, ◌<◌, IfOk, OnOk, length};
+ghost use Rattle.std.specs.Prelude.{◌≡◌, ◌+◌, ◌^◌, ◌<◌, [], None, IfOk, OnOk, length};
 ghost use Rattle.std.specs.List.{AllByRecursion};
 ghost use Rattle.asp_vars.specs.Literals.{value_of};
 ghost use Rattle.asp_vars.specs.Numbering.{var_count};
@@ -48,22 +48,19 @@ fn settle(
     Ok(())
 }
 
-/// The values that follow from the nogoods and the bound that are known before the first line.
+/// The values that follow from the nogoods that are known before the first line.
 pub(crate) fn first_root(
     alloc: Global,
     compiled: &Compiled,
-    listed: &[Interp],
     rows: &[Lits],
-    bound: &Option<Bound>,
     watches: &mut Watches,
 ) -> Result<Assign, AllocError>
-    requires of { AllByRecursion (AreOf compiled.now) rows.now }
-    requires levels { HasLevels compiled.now bound.now }
-    ensures { IfOk result (IsRoot compiled.now (known_with compiled.now listed.now rows.now bound.now)) }
+    requires { AllByRecursion (AreOf compiled.now) rows.now }
+    ensures { IfOk result (IsRoot compiled.now (known_with compiled.now [] rows.now None)) }
 {
     let mut values = Assign::new(alloc, compiled.vars())?;
     watches.add_all(&values, compiled.vars(), rows)?;
-    settle(alloc, compiled, listed, rows, bound, watches, &mut values)?;
+    settle(alloc, compiled, &[], rows, &None, watches, &mut values)?;
     Ok(values)
 }
 
@@ -84,6 +81,29 @@ pub(crate) fn learn(
 {
     watches.restart(values, compiled.vars(), rows)?;
     watches.add_last(values, compiled.vars(), rows)?;
+    settle(alloc, compiled, listed, rows, bound, watches, values)?;
+    Ok(())
+}
+
+/// Adds the values that follow now that a set was found, and the bound may be another.
+pub(crate) fn learn_bound(
+    alloc: Global,
+    compiled: &Compiled,
+    listed: &[Interp],
+    rows: &[Lits],
+    bound: &Option<Bound>,
+    watches: &mut Watches,
+    values: &mut Assign,
+) -> Result<(), AllocError>
+    requires of { AllByRecursion (AreOf compiled.now) rows.now }
+    requires levels { HasLevels compiled.now bound.now }
+    requires root { IsRoot compiled.now (known_with compiled.now listed.now rows.now bound.now) values.old }
+    ensures { OnOk result (IsRoot compiled.now (known_with compiled.now listed.now rows.now bound.now) values.new) }
+{
+    if bound.is_none() {
+        return Ok(());
+    }
+    watches.restart(values, compiled.vars(), rows)?;
     settle(alloc, compiled, listed, rows, bound, watches, values)?;
     Ok(())
 }

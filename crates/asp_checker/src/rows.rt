@@ -16,7 +16,7 @@ pub struct Rows {
 /// All that is known before a line.
 #[derive(Clone, Copy)]
 pub struct Before<'a> {
-    /// The listed answers, where each of them is avoided.
+    /// The sets found that are avoided.
     pub listed: &'a [Interp],
     /// The nogoods that are known for good.
     pub kept: &'a [Lits],

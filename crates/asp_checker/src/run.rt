@@ -93,7 +93,7 @@ fn judge_by<S: Source>(
     source: &mut S,
 ) -> Result<Judgement, CheckError>
     requires sound { IsSound program }
-    requires head { reader.old.line ≡ codes "proof 2" }
+    requires head { reader.old.line ≡ codes "proof 3" }
     ensures says { Comes (S.left source.old) (held reader.old) (λ text. Judges program text result) }
     ensures cause { IsErrOf result read_fault → Rose (S.faults source.old) (S.faults source.new) }
     ensures quiet { ¬ IsErrOf result read_fault → S.faults source.new ≡ S.faults source.old }
@@ -136,7 +136,7 @@ fn judge_behind<S: Source>(
     reader: &mut LineReader,
     source: &mut S,
 ) -> Result<Judgement, CheckError>
-    requires head { reader.old.line ≡ codes "proof 2" }
+    requires head { reader.old.line ≡ codes "proof 3" }
     ensures says { Comes (S.left source.old) (held reader.old) (λ text. TextsSay format program.items text result) }
     ensures cause { IsErrOf result read_fault → Rose (S.faults source.old) (S.faults source.new) }
     ensures quiet { ¬ IsErrOf result read_fault → S.faults source.new ≡ S.faults source.old }
@@ -189,7 +189,7 @@ fn program_text<S: Source>(
 }
 
 /// Judges the proof that a source gives after its program, which is in this format. The proof begins with the first line
-/// `proof 2`.
+/// `proof 3`.
 pub fn check_proof<S: Source>(
     alloc: Global,
     format: Format,
@@ -220,6 +220,7 @@ fn number_of(why: Why) -> u8
         Why::NotImplied => 5,
         Why::NotWhole => 6,
         Why::Cost => 7,
+        Why::NotListed => 8,
     }
 }
 
@@ -319,7 +320,7 @@ fn status_of(error: CheckError) -> CheckStatus
     }
 }
 
-/// Reads a program's text in this format and after it a proof's, which begins with the first line `proof 2`, writes what
+/// Reads a program's text in this format and after it a proof's, which begins with the first line `proof 3`, writes what
 /// is said of the proof, and flushes the sink: `YES`; or `PART` with the number of answers, which are a part of what was
 /// sought; or `NO` with the number of the reason and of the line. Nothing is
 /// written where no proof was judged.

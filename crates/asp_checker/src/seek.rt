@@ -1,4 +1,4 @@
-//! Which listed answer is to be looked at: one whose atoms have these values, but for one of them at most. This is advice alone, as the
+//! Which of the sets found is to be looked at: one whose atoms have these values, but for one of them at most. This is advice alone, as the
 //! watches are.
 ghost use Rattle.std.specs.Prelude.{◌≡◌, ◌+◌, length};
 ghost use Rattle.asp_vars.specs.Numbering.{var_count};
@@ -9,12 +9,14 @@ use asp_vars::assign::Assign;
 use asp_vars::compiled::Compiled;
 use asp_vars::lit::Var;
 use std::alloc::{AllocError, Global};
-use std::cmp::Ordering;
+use std::collections::HashMap;
 
-/// Where listed answers are sought.
+/// Where sets are sought among those found.
 #[derive(Drop)]
 pub(crate) struct Seeker {
-    // Two atoms that had no value when they were looked at last: as long as that is so, no answer says anything.
+    // Where the last set of this code stands.
+    places: HashMap<u64, usize>,
+    // Two atoms that had no value when they were looked at last: as long as that is so, no set found says anything.
     one: Var,
     two: Var,
     // The set that is sought.
@@ -51,69 +53,37 @@ fn some_open(compiled: &Compiled, values: &Assign, start: Var, but: Var) -> Var
     }
 }
 
-// How many of the atoms are the same, where so many of them are.
-fn common(answer: &[Atom], wanted: &[Atom], start: usize) -> usize {
-    for place in start..answer.len() {
-        if answer.get(place) != wanted.get(place) {
-            return place;
-        }
+// A number by which sets are told apart, but for a few.
+fn code(set: &[Atom]) -> u64 {
+    let mut code: u64 = 14_695_981_039_346_656_037;
+    for atom in set {
+        code = (code ^ u64::from(*atom)).wrapping_mul(1_099_511_628_211);
+        code ^= code >> 29;
     }
-    answer.len()
-}
-
-// How the answer lies to the set that is sought: the first atom that one of them alone has decides.
-fn order_at(answer: &[Atom], wanted: &[Atom], place: usize) -> Ordering {
-    match (answer.get(place), wanted.get(place)) {
-        (Some(atom), Some(other)) => other.cmp(atom),
-        (Some(_), None) => Ordering::Greater,
-        (None, Some(_)) => Ordering::Less,
-        (None, None) => Ordering::Equal,
-    }
-}
-
-// The place of the set among the answers, which are in order.
-fn search(listed: &[Interp], wanted: &[Atom]) -> Option<usize> {
-    let mut low: usize = 0;
-    let mut high = listed.len();
-    let mut common_low: usize = 0;
-    let mut common_high: usize = 0;
-    for _ in 0..64u32 {
-        let middle = low.saturating_add(high.saturating_sub(low) / 2);
-        let answer = listed.get(middle)?;
-        let same = common(answer.as_slice(), wanted, common_low.min(common_high));
-        match order_at(answer.as_slice(), wanted, same) {
-            Ordering::Equal => return Some(middle),
-            Ordering::Less => {
-                low = middle.saturating_add(1);
-                common_low = same;
-            }
-            Ordering::Greater => {
-                high = middle;
-                common_high = same;
-            }
-        }
-        if low >= high {
-            return None;
-        }
-    }
-    None
+    code
 }
 
 impl Seeker {
     /// Nothing was looked at yet.
     pub(crate) fn new(alloc: Global) -> Seeker {
         Seeker {
+            places: HashMap::new(alloc),
             one: 0,
             two: 0,
             wanted: Vec::new(alloc),
         }
     }
 
-    // Seeks the answer of the atoms that are true, where the open one has this value.
+    /// A set was found, and stands at this place.
+    pub(crate) fn note(&mut self, set: &Interp, place: usize) -> Result<(), AllocError> {
+        self.places.insert(code(set.as_slice()), place)?;
+        Ok(())
+    }
+
+    // Seeks the set of the atoms that are true, where the open one has this value.
     fn seek(
         &mut self,
         compiled: &Compiled,
-        listed: &[Interp],
         values: &Assign,
         open: Var,
         truth: bool,
@@ -132,14 +102,13 @@ impl Seeker {
                 self.wanted.push(*atom)?;
             }
         }
-        Ok(search(listed, self.wanted.as_slice()))
+        Ok(self.places.get(&code(self.wanted.as_slice())).copied())
     }
 
-    /// The place of a listed answer whose nogood may be hit, or imply a value.
-    pub(crate) fn answer_near(
+    /// The place of a set found whose nogood may be hit, or imply a value.
+    pub(crate) fn near(
         &mut self,
         compiled: &Compiled,
-        listed: &[Interp],
         values: &Assign,
     ) -> Result<Option<usize>, AllocError>
         requires { length values.now ≡ var_count compiled.now + 1 }
@@ -156,12 +125,12 @@ impl Seeker {
             is_open(compiled, values, two),
         ) {
             (true, true) => Ok(None),
-            (false, false) => self.seek(compiled, listed, values, 0, true),
+            (false, false) => self.seek(compiled, values, 0, true),
             (is_one, _) => {
                 let open = if is_one { one } else { two };
-                match self.seek(compiled, listed, values, open, true)? {
+                match self.seek(compiled, values, open, true)? {
                     Some(place) => Ok(Some(place)),
-                    None => self.seek(compiled, listed, values, open, false),
+                    None => self.seek(compiled, values, open, false),
                 }
             }
         }

@@ -1,44 +1,36 @@
 //! The judgement of a proof, line by line as its text is read.
-ghost use Rattle.std.specs.Prelude.{◌≡◌, ◌+◌, ◌^◌, ◌<◌, ◌++◌, ◌||◌, [], codes, length, map, IsErrOf};
-ghost use Rattle.std.specs.List.{AllByRecursion};
+ghost use Rattle.std.specs.Prelude.{◌≡◌, ℕ, ◌+◌, ◌++◌, ◌||◌, ◌^◌, ◌<◌, ◌≤◌, [], Bool, List, false, codes, length, map, IsErrOf, OnOk};
+ghost use Rattle.std.specs.List.{list_any};
 ghost use Rattle.asp_io.specs.Causes.{Rose};
-ghost use Rattle.asp_model.specs.declared.program.Program.{Program};
 ghost use Rattle.asp_model.specs.Sound.{IsSound};
+ghost use Rattle.asp_model.specs.declared.program.Program.{Program};
 ghost use Rattle.asp_vars.specs.Numbering.{literal_of};
+ghost use Rattle.asp_proof.specs.declared.proof.Line.{Line};
 ghost use Rattle.asp_proof.specs.declared.proof.Proof.{Proof};
-ghost use Rattle.asp_proof.specs.Texts.{answer_text, last_word};
-ghost use Rattle.asp_proof.specs.Grammar.{IsSet, IsUnbroken};
-ghost use Rattle.asp_proof.specs.Fields.{IsNone};
-ghost use Rattle.asp_proof.specs.Walk.{IsBegun, front_of, proof_of};
+ghost use Rattle.asp_proof.specs.Texts.{last_word};
+ghost use Rattle.asp_proof.specs.Walk.{front_of, proof_of};
 ghost use Rattle.asp_proof.specs.Reading.{Comes, held};
-ghost use Rattle.asp_checker.specs.Lines.{AreOf, avoided, known_at_first};
-ghost use Rattle.asp_checker.specs.Blocks.{HasLevels, known_with};
-ghost use Rattle.asp_checker.specs.Chasing.{IsRoot};
-ghost use Rattle.asp_checker.specs.Judging.{AreRightAnswers};
 ghost use Rattle.asp_checker.specs.Errors.{read_fault};
-ghost use Rattle.asp_checker.specs.Streams.{IsRightFront, right_judgement, Judges, JudgesAnswers, StepsTo};
+ghost use Rattle.asp_checker.specs.Lines.{first_gathered};
+ghost use Rattle.asp_checker.specs.Right.{closes, found_of};
+ghost use Rattle.asp_checker.specs.Judging.{AreSorted, gathered_by, IsReady};
+ghost use Rattle.asp_checker.specs.Streams.{AreAtEnd, AreLinesBefore, AreLinesOf, IsEndJudged, IsRightFront, right_judgement, Judges, JudgesAnswers, JudgesLines, StepsTo};
 
-use crate::bounds::Bound;
 use crate::error::{CheckError, proof_error, refused};
-use crate::judge::{
-    Judgement, Listed, Read, Why, avoided, bound_at_first, completed, read_answer, read_line,
-};
+use crate::judge::{Judgement, Listed, Why, read_answer};
+use crate::known::{first_known, read_line};
 use crate::lines::assumptions;
 use crate::members::Order;
-use crate::root::first_root;
-use crate::rows::Rows;
-use crate::watches::Watches;
+use crate::promise::is_kept;
+use crate::propagator::{Propagator, Read};
 use asp_io::Source;
 use asp_model::interp::Interp;
-use asp_model::seq::Seq;
 use asp_proof::LineReader;
-use asp_proof::lines::mode;
+use asp_proof::lines::{last, mode};
 use asp_proof::proof::Sought;
-use asp_vars::assign::Assign;
 use asp_vars::compiled::Compiled;
 use asp_vars::lit::Lit;
 use std::alloc::Global;
-use std::mem;
 
 // More lines than any memory holds.
 const MOST_LINES: usize = 1_152_921_504_606_846_976;
@@ -58,40 +50,6 @@ pub(crate) fn next_line<S: Source>(
     }
 }
 
-// ---- answers
-
-// The listed sets, each judged behind those before it, up to the first line that is none.
-fn judge_answers<S: Source>(
-    alloc: Global,
-    compiled: &Compiled,
-    sought: Sought,
-    reader: &mut LineReader,
-    source: &mut S,
-    answers: &mut Vec<Interp>,
-) -> Result<Option<Why>, CheckError>
-    requires { answers.old.items ≡ [] }
-    ensures says { JudgesAnswers compiled.now sought answers.new.items (S.left source.old) (S.left source.new)
-        (front_of (proof_of sought [] []) ++ reader.old.behind) reader.new result }
-    ensures cause { IsErrOf result read_fault → Rose (S.faults source.old) (S.faults source.new) }
-    ensures quiet { ¬ IsErrOf result read_fault → S.faults source.new ≡ S.faults source.old }
-{
-    let mut order = Order::new(alloc, compiled)?;
-    'answers: for _ in 0..MOST_LINES {
-        let next = next_line(reader, source)?;
-        if !next {
-            return Err(refused(answers.len() + 3));
-        }
-        let bytes = reader.line();
-        let listed = read_answer(alloc, compiled, sought, answers, &mut order, bytes)?;
-        match listed {
-            Listed::Right => {}
-            Listed::Wrong(why) => return Ok(Some(why)),
-            Listed::Other => return Ok(None),
-        }
-    }
-    Err(CheckError::Memory)
-}
-
 // ---- lines
 
 fn either(one: bool, other: bool) -> bool
@@ -99,6 +57,96 @@ fn either(one: bool, other: bool) -> bool
 {
     one || other
 }
+
+// The lines so far.
+#[derive(Clone, Copy)]
+struct Tally {
+    // How many there are.
+    count: usize,
+    // Whether one of them says that there is nothing else.
+    whole: bool,
+}
+
+// Judges the lines one after another, up to the first that is none of those that come before the answers. Each that is right is known to
+// the later ones.
+fn judge_lines<S: Source>(
+    compiled: &Compiled,
+    sought: Sought,
+    known: &mut Propagator,
+    assumed: &[Lit],
+    tally: &mut Tally,
+    reader: &mut LineReader,
+    source: &mut S,
+) -> Result<Option<Why>, CheckError>
+    requires ready { IsReady compiled.now sought known.old }
+    requires first { gathered_by known.old ≡ first_gathered compiled.now }
+    requires assumed { assumed.now ≡ map (literal_of compiled.now) compiled.now.assumptions }
+    requires count { tally.old.count ≡ 0 }
+    requires whole { tally.old.whole ≡ false }
+    ensures says { JudgesLines compiled.now sought known.new tally.new (S.left source.old) (S.left source.new)
+        (front_of (proof_of sought [] []) ++ reader.old.behind) reader.new result }
+    ensures few { tally.new.count ≤ 2 ^ 60 }
+    ensures cause { IsErrOf result read_fault → Rose (S.faults source.old) (S.faults source.new) }
+    ensures quiet { ¬ IsErrOf result read_fault → S.faults source.new ≡ S.faults source.old }
+{
+    'lines: for at in 0..MOST_LINES {
+        let next = next_line(reader, source)?;
+        if !next {
+            return Err(refused(tally.count + 3));
+        }
+        let came_to = read_line(compiled, sought, known, assumed, reader.line())?;
+        match came_to {
+            Read::Right(closing) => {
+                tally.count = at + 1;
+                tally.whole = either(tally.whole, closing);
+            }
+            Read::Wrong(why) => return Ok(Some(why)),
+            Read::Other => return Ok(None),
+        }
+    }
+    Err(CheckError::Memory)
+}
+
+// ---- answers
+
+// The listed sets behind so many lines, each judged behind those before it, from the line that the reader is at up to the first that is
+// none.
+fn judge_answers<S: Source>(
+    alloc: Global,
+    compiled: &Compiled,
+    sought: Sought,
+    count: usize,
+    answers: &mut Vec<Interp>,
+    reader: &mut LineReader,
+    source: &mut S,
+) -> Result<Option<Why>, CheckError>
+    requires few { count ≤ 2 ^ 60 }
+    requires none { answers.old.items ≡ [] }
+    ensures says { (entries : List Line) (whole : Bool) (found : List (List ℕ)) → AreLinesOf compiled.now sought entries count whole found reader.old →
+        JudgesAnswers compiled.now sought entries count answers.new.items (S.left source.old) (S.left source.new)
+        (front_of (proof_of sought entries []) ++ held reader.old) reader.new result }
+    ensures order { OnOk result (AreSorted answers.new.items) }
+    ensures cause { IsErrOf result read_fault → Rose (S.faults source.old) (S.faults source.new) }
+    ensures quiet { ¬ IsErrOf result read_fault → S.faults source.new ≡ S.faults source.old }
+{
+    let mut order = Order::new(alloc, compiled)?;
+    'answers: for _ in 0..MOST_LINES {
+        let bytes = reader.line();
+        let listed = read_answer(alloc, compiled, sought, answers, &mut order, bytes)?;
+        match listed {
+            Listed::Right => {}
+            Listed::Wrong(why) => return Ok(Some(why)),
+            Listed::Other => return Ok(None),
+        }
+        let next = next_line(reader, source)?;
+        if !next {
+            return Err(refused(count + answers.len() + 3));
+        }
+    }
+    Err(CheckError::Memory)
+}
+
+// ---- the last line
 
 // What is said of a proof that is right and lists so many answers.
 fn right(part: bool, count: usize) -> Judgement
@@ -111,25 +159,48 @@ fn right(part: bool, count: usize) -> Judgement
     }
 }
 
+// What is wrong with the last line, which tells whether the answers are a part of what was sought.
+fn fault_of_end(
+    part: bool,
+    whole: bool,
+    sought: Sought,
+    found: &[Interp],
+    answers: &[Interp],
+) -> Option<Why>
+    requires { AreSorted answers.now }
+    ensures { (p : Program) (q : Proof) → q.sought ≡ sought → q.answers ≡ answers.now → whole ≡ list_any (closes p) q.lines → found.now ≡ found_of p q.lines →
+        IsEndJudged p q part result }
+{
+    if part {
+        return None;
+    }
+    if !whole {
+        return Some(Why::NotWhole);
+    }
+    if is_kept(sought, found, answers) {
+        return None;
+    }
+    Some(Why::NotListed)
+}
+
 // What is said at the last line, which tells whether the answers, so many, are a part of what was sought.
 fn judge_last<S: Source>(
     part: bool,
+    fault: Option<Why>,
     count: usize,
-    whole: bool,
     number: usize,
     reader: &mut LineReader,
     source: &mut S,
 ) -> Result<Judgement, CheckError>
     requires last { reader.old.line ≡ last_word part }
     requires few { number < 2 ^ 63 }
-    ensures says { (p : Program) (q : Proof) → IsRightFront p q number whole → length q.answers ≡ count →
+    ensures says { (p : Program) (q : Proof) → IsRightFront p q number → length q.answers ≡ count → IsEndJudged p q part fault →
         Comes (S.left source.old) (front_of q ++ held reader.old) (λ text. Judges p text result) }
     ensures cause { IsErrOf result read_fault → Rose (S.faults source.old) (S.faults source.new) }
     ensures quiet { ¬ IsErrOf result read_fault → S.faults source.new ≡ S.faults source.old }
 {
-    let ended = either(part, whole);
-    if !ended {
-        return Ok(Judgement::No(Why::NotWhole, number));
+    if let Some(why) = fault {
+        return Ok(Judgement::No(why, number));
     }
     match reader.has_more(source) {
         Ok(more) => {
@@ -142,126 +213,73 @@ fn judge_last<S: Source>(
     }
 }
 
-// What unit propagation works on.
-#[derive(Drop)]
-struct Propagator {
-    // The nogoods that are known.
-    rows: Rows,
-    // Where they are watched.
-    watches: Watches,
-    // The values that follow from what is known for good.
-    values: Assign,
-}
-
-// Judges the lines one after another, from the one that the reader is at. Each that is right is known to the later ones.
-fn judge_each<S: Source>(
-    compiled: &Compiled,
+// Judges the last line, which the reader is at, behind lines and answers that are right.
+fn judge_end<S: Source>(
     sought: Sought,
+    tally: Tally,
+    found: &[Interp],
     answers: &[Interp],
-    propagator: &mut Propagator,
-    bound: &Option<Bound>,
-    assumed: &[Lit],
     reader: &mut LineReader,
     source: &mut S,
 ) -> Result<Judgement, CheckError>
-    requires sound { IsSound compiled.now }
-    requires right { AreRightAnswers compiled.now sought answers.now }
-    requires begun { IsBegun (length answers.now + 2) (proof_of sought answers.now []) }
-    requires unbroken { IsUnbroken reader.old.line }
-    requires no_answer { IsNone IsSet answer_text reader.old.line }
-    requires kept { AllByRecursion (AreOf compiled.now) propagator.old.rows.kept.items }
-    requires placed { propagator.old.rows.placed.items ≡ [] }
-    requires levels { HasLevels compiled.now bound.now }
-    requires assumed { assumed.now ≡ map (literal_of compiled.now) compiled.now.assumptions }
-    requires root { IsRoot compiled.now (known_with compiled.now (avoided sought answers.now) propagator.old.rows.kept.items bound.now) propagator.old.values }
-    requires known { known_with compiled.now (avoided sought answers.now) propagator.old.rows.kept.items bound.now ≡ known_at_first compiled.now (proof_of sought answers.now []) }
-    ensures says { Comes (S.left source.old) (front_of (proof_of sought answers.now []) ++ held reader.old) (λ text. Judges compiled.now text result) }
+    requires few { tally.count ≤ 2 ^ 60 }
+    requires order { AreSorted answers.now }
+    ensures says { (p : Program) (entries : List Line) → IsSound p → AreLinesBefore p sought entries tally.count tally.whole found.now →
+        AreAtEnd p sought entries answers.now reader.old →
+        Comes (S.left source.old) (front_of (proof_of sought entries answers.now) ++ held reader.old) (λ text. Judges p text result) }
     ensures cause { IsErrOf result read_fault → Rose (S.faults source.old) (S.faults source.new) }
     ensures quiet { ¬ IsErrOf result read_fault → S.faults source.new ≡ S.faults source.old }
 {
-    let listed = avoided(sought, answers);
-    let mut whole = false;
-    'lines: for at in 0..MOST_LINES {
-        let number = answers.len() + at + 3;
-        let bytes = reader.line();
-        let came_to = read_line(
-            compiled,
-            listed,
-            &mut propagator.rows,
-            bound,
-            assumed,
-            &mut propagator.watches,
-            &mut propagator.values,
-            bytes,
-        )?;
-        match came_to {
-            Read::Last(part) => {
-                return judge_last(part, answers.len(), whole, number, reader, source);
-            }
-            Read::Refused => return Err(refused(number)),
-            Read::Wrong(why) => return Ok(Judgement::No(why, number)),
-            Read::Right(closing) => whole = either(whole, closing),
+    let number = tally.count + answers.len() + 3;
+    let found_last = last(reader.line());
+    match found_last {
+        Some(part) => {
+            let fault = fault_of_end(part, tally.whole, sought, found, answers);
+            judge_last(part, fault, answers.len(), number, reader, source)
         }
-        let next = next_line(reader, source)?;
-        if !next {
-            return Err(refused(number + 1));
-        }
+        None => Err(refused(number)),
     }
-    Err(CheckError::Memory)
 }
 
-// Judges the lines behind answers that are right. What is made for that is dropped here alone.
-fn judge_lines<S: Source>(
+// Judges the answers and the last line behind lines that are right, from the line that the reader is at.
+fn judge_list<S: Source>(
     alloc: Global,
     compiled: &Compiled,
     sought: Sought,
-    answers: &[Interp],
+    tally: Tally,
+    found: &[Interp],
     reader: &mut LineReader,
     source: &mut S,
 ) -> Result<Judgement, CheckError>
     requires sound { IsSound compiled.now }
-    requires right { AreRightAnswers compiled.now sought answers.now }
-    requires begun { IsBegun (length answers.now + 2) (proof_of sought answers.now []) }
-    requires unbroken { IsUnbroken reader.old.line }
-    requires no_answer { IsNone IsSet answer_text reader.old.line }
-    ensures says { Comes (S.left source.old) (front_of (proof_of sought answers.now []) ++ held reader.old) (λ text. Judges compiled.now text result) }
+    requires few { tally.count ≤ 2 ^ 60 }
+    ensures says { (entries : List Line) → AreLinesOf compiled.now sought entries tally.count tally.whole found.now reader.old →
+        Comes (S.left source.old) (front_of (proof_of sought entries []) ++ held reader.old) (λ text. Judges compiled.now text result) }
     ensures cause { IsErrOf result read_fault → Rose (S.faults source.old) (S.faults source.new) }
     ensures quiet { ¬ IsErrOf result read_fault → S.faults source.new ≡ S.faults source.old }
 {
-    let listed = avoided(sought, answers);
-    let kept = completed(alloc, compiled)?;
-    let bound = bound_at_first(alloc, compiled, sought, answers)?;
-    let assumptions = assumptions(alloc, compiled)?;
-    let mut watches = Watches::new(alloc, compiled)?;
-    let first = kept.as_slice();
-    let values = first_root(alloc, compiled, listed, first, &bound, &mut watches)?;
-    let rows = Rows {
-        kept,
-        placed: Vec::new(alloc),
-    };
-    let mut propagator = Propagator {
-        rows,
-        watches,
-        values,
-    };
-    let assumed = assumptions.as_slice();
-    let judged = judge_each(
+    let mut answers = Vec::new(alloc);
+    let fault = judge_answers(
+        alloc,
         compiled,
         sought,
-        answers,
-        &mut propagator,
-        &bound,
-        assumed,
+        tally.count,
+        &mut answers,
         reader,
         source,
-    );
-    mem::drop(propagator);
-    judged
+    )?;
+    match fault {
+        Some(why) => Ok(Judgement::No(why, tally.count + answers.len() + 3)),
+        None => {
+            let listed = answers.as_slice();
+            judge_end(sought, tally, found, listed, reader, source)
+        }
+    }
 }
 
 // ---- the whole
 
-// Judges the answers and the lines, from the line behind the one that the reader is at, which says what is sought.
+// Judges the lines, the answers and the last line, from the line behind the one that the reader is at, which says what is sought.
 fn judge_body<S: Source>(
     alloc: Global,
     compiled: &Compiled,
@@ -274,13 +292,22 @@ fn judge_body<S: Source>(
     ensures cause { IsErrOf result read_fault → Rose (S.faults source.old) (S.faults source.new) }
     ensures quiet { ¬ IsErrOf result read_fault → S.faults source.new ≡ S.faults source.old }
 {
-    let mut answers = Vec::new(alloc);
-    let fault = judge_answers(alloc, compiled, sought, reader, source, &mut answers)?;
-    match fault {
-        Some(why) => Ok(Judgement::No(why, answers.len() + 3)),
+    let assumptions = assumptions(alloc, compiled)?;
+    let mut known = first_known(alloc, compiled)?;
+    let mut tally = Tally {
+        count: 0,
+        whole: false,
+    };
+    let assumed = assumptions.as_slice();
+    let judged = judge_lines(
+        compiled, sought, &mut known, assumed, &mut tally, reader, source,
+    );
+    let found = known.into_found();
+    match judged? {
+        Some(why) => Ok(Judgement::No(why, tally.count + 3)),
         None => {
-            let listed = answers.as_slice();
-            judge_lines(alloc, compiled, sought, listed, reader, source)
+            let found = found.as_slice();
+            judge_list(alloc, compiled, sought, tally, found, reader, source)
         }
     }
 }
@@ -293,7 +320,7 @@ pub(crate) fn judge<S: Source>(
     source: &mut S,
 ) -> Result<Judgement, CheckError>
     requires sound { IsSound compiled.now }
-    requires head { reader.old.line ≡ codes "proof 2" }
+    requires head { reader.old.line ≡ codes "proof 3" }
     ensures says { Comes (S.left source.old) (held reader.old) (λ text. Judges compiled.now text result) }
     ensures cause { IsErrOf result read_fault → Rose (S.faults source.old) (S.faults source.new) }
     ensures quiet { ¬ IsErrOf result read_fault → S.faults source.new ≡ S.faults source.old }

@@ -77,7 +77,7 @@ pub struct Watches {
     named_at: usize,
     // The sums of the weight bodies.
     scales: Scales,
-    // Where listed answers are sought.
+    // Where sets are sought among those found.
     seeker: Seeker,
     // How many of the literals that came to hold are done with.
     done: usize,
@@ -87,7 +87,7 @@ pub struct Watches {
     hints: Vec<Hint>,
     // How many literals had come to hold when the bound was looked at; none where it is to be looked at.
     priced_at: Option<usize>,
-    // How many literals had come to hold when an answer was sought; none where one is to be sought.
+    // How many literals had come to hold when a set was sought; none where one is to be sought.
     sought_at: Option<usize>,
     // What was in conflict last.
     last: Option<Hint>,
@@ -470,6 +470,11 @@ impl Watches {
         self.retired_left = self.retired.len();
     }
 
+    /// A set was found, and stands at this place.
+    pub(crate) fn note(&mut self, set: &Interp, place: usize) -> Result<(), AllocError> {
+        self.seeker.note(set, place)
+    }
+
     /// A line names these places.
     pub(crate) fn name(&mut self, places: &[u32]) -> Result<(), AllocError> {
         self.named.name(places)
@@ -657,7 +662,7 @@ impl Watches {
         }
     }
 
-    // The listed answer that is to be looked at.
+    // The set found that is to be looked at.
     fn next_answer(
         &mut self,
         compiled: &Compiled,
@@ -671,7 +676,7 @@ impl Watches {
             return Ok(None);
         }
         self.sought_at = Some(held);
-        self.seeker.answer_near(compiled, listed, values)
+        self.seeker.near(compiled, values)
     }
 
     /// What is to be looked at next, or nothing.

@@ -17,12 +17,13 @@ use Rattle.asp_checkrun.specs.Texts.{usage_line}
 -- why a line of a proof isn't right
 abbrev pub why_text : Why → List ℕ
 why_text why.Member = codes "the set is no stable model in which the assumptions hold"
-why_text why.Order = codes "the set doesn't come after the one before it, or is a second one where an optimum was sought"
+why_text why.Order = codes "the set doesn't come after the one before it, is a second one where an optimum was sought, or was found at no lower cost"
 why_text why.Literal = codes "the program has no such variable or atom"
 why_text why.Loop = codes "the set has support from outside"
 why_text why.NotImplied = codes "it doesn't follow from the lines before it"
 why_text why.NotWhole = codes "no line before it says that there is nothing else"
 why_text why.Cost = codes "the set costs other than the first one, where all optima were sought"
+why_text why.NotListed = codes "a set that was found isn't listed"
 
 -- a line of the proof, and what is said of it
 abbrev pub proof_line : ℕ → List ℕ → List ℕ
@@ -58,7 +59,7 @@ check_note closed check.Memory = codes "aspcheck: out of memory\n"
 check_note closed (check.Program e) = program_note e
 check_note closed check.ReadFault = codes "aspcheck: read failed\n"
 check_note closed check.TooLong = codes "aspcheck: input too long\n"
-check_note closed check.NoProof = codes "aspcheck: no line is 'proof 2', with which a proof begins (the program's last line needs its line feed)\n"
+check_note closed check.NoProof = codes "aspcheck: no line is 'proof 3', with which a proof begins (the program's last line needs its line feed)\n"
 check_note closed (check.Proof e) = proof_note e
 check_note closed check.WriteFault = write_note closed
 

@@ -16,7 +16,7 @@ help_page = codes "aspcheck: whether a proof shows the results of a ground logic
     ++ codes "       aspcheck --help | --version\n"
     ++ codes "\n"
     ++ codes "INPUT has two parts: a program, each of its lines with a line feed, and then a\n"
-    ++ codes "proof, whose first line is 'proof 2' and which aspenum --proof writes.\n"
+    ++ codes "proof, whose first line is 'proof 3' and which aspenum --proof writes.\n"
     ++ codes "\n"
     ++ codes "Options:\n"
     ++ codes "  --format FORMAT   the program's format: aspif, the default, or smodels\n"

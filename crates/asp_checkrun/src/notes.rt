@@ -21,13 +21,14 @@ fn why_text(why: Why) -> &'static [u8]
     match why {
         Why::Member => b"the set is no stable model in which the assumptions hold",
         Why::Order => {
-            b"the set doesn't come after the one before it, or is a second one where an optimum was sought"
+            b"the set doesn't come after the one before it, is a second one where an optimum was sought, or was found at no lower cost"
         }
         Why::Literal => b"the program has no such variable or atom",
         Why::Loop => b"the set has support from outside",
         Why::NotImplied => b"it doesn't follow from the lines before it",
         Why::NotWhole => b"no line before it says that there is nothing else",
         Why::Cost => b"the set costs other than the first one, where all optima were sought",
+        Why::NotListed => b"a set that was found isn't listed",
     }
 }
 
@@ -128,7 +129,7 @@ fn write_check<N: Sink>(notes: &mut N, status: CheckStatus, is_closed: bool) -> 
         CheckStatus::TooLong => write(notes, b"aspcheck: input too long\n"),
         CheckStatus::NoProof => write(
             notes,
-            b"aspcheck: no line is 'proof 2', with which a proof begins (the program's last line needs its line feed)\n",
+            b"aspcheck: no line is 'proof 3', with which a proof begins (the program's last line needs its line feed)\n",
         ),
         CheckStatus::Proof(error) => write_proof(notes, error),
         CheckStatus::WriteFault => write_failed(notes, is_closed),

@@ -13,7 +13,7 @@ usage: aspcheck [--format aspif|smodels] < INPUT\n\
 \x20      aspcheck --help | --version\n\
 \n\
 INPUT has two parts: a program, each of its lines with a line feed, and then a\n\
-proof, whose first line is 'proof 2' and which aspenum --proof writes.\n\
+proof, whose first line is 'proof 3' and which aspenum --proof writes.\n\
 \n\
 Options:\n\
 \x20 --format FORMAT   the program's format: aspif, the default, or smodels\n\

@@ -60,7 +60,7 @@ impl LogKind {
 /// What the command line asks for.
 #[derive(Clone, Copy)]
 pub struct Options {
-    /// How many threads may search: 1 to 64. A run whose proof is asked for takes one.
+    /// How many threads may search: 1 to 64.
     pub workers: u32,
     /// How several of them tell one another what they learnt. One tells nothing.
     pub log: LogKind,
@@ -92,9 +92,10 @@ pub struct Options {
     pub stats: bool,
     /// Whether the notes get lines while one search goes on.
     pub progress: bool,
-    /// Whether an enumeration is to write each answer as soon as no smaller one can come. Queries don't follow the program then.
+    /// Whether a list of answers or of optima is to be written while it is found, each as soon as no smaller one can come. Queries
+    /// don't follow the program then.
     pub stream: bool,
-    /// Whether a run that is finished, or found as many answers as were asked for, writes a proof in place of its results.
+    /// Whether a run writes a proof in place of its results.
     pub proof: bool,
     /// Into how many parts at most the program is divided in place of being solved, if it is: 1 to 100000. A proof isn't
     /// asked for then.

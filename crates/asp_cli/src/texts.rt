@@ -46,8 +46,8 @@ name, after '=':\n\
 \x20                   answer shows, or every one; with --output json always\n\
 \x20 --proof           write a proof for aspcheck in place of the results: of a\n\
 \x20                   finished run, that nothing else is to be found; of one that\n\
-\x20                   ended with N answers, these; not beside --quiet, brave or\n\
-\x20                   cautious\n\
+\x20                   ended with N answers, or a spent budget, what it found; not\n\
+\x20                   beside --quiet, brave or cautious\n\
 \x20 --split N         divide the program and solve nothing: write at most N\n\
 \x20                   lines, 1 to 100000, each the assumptions of one part; of\n\
 \x20                   the other options only --format and --make can be beside it\n\
@@ -62,10 +62,10 @@ name, after '=':\n\
 \x20                   together, to standard error\n\
 \x20 --progress        write a line to standard error when the conflicts or the\n\
 \x20                   answers have doubled, and for each cheaper answer\n\
-\x20 --stream          of all answers, write each as soon as none that stands before\n\
-\x20                   it can come: the same lines, by one thread; with --models N\n\
-\x20                   the first N; without effect beside --proof, --quiet or\n\
-\x20                   --output json\n\
+\x20 --stream          of all answers, or all optima, write each as soon as none\n\
+\x20                   that stands before it can come: the same lines, by one\n\
+\x20                   thread; with --models N the first N; without effect beside\n\
+\x20                   --proof, --quiet or --output json\n\
 \x20 -h, --help        write this page\n\
 \x20 --version         write the version\n\
 \n\

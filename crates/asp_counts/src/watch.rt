@@ -1,15 +1,24 @@
 //! Who hears how a run goes on.
 use crate::counts::Counts;
 use asp_model::cost::Cost;
+use asp_model::interp::Interp;
+
+/// The best answer that was found so far, of those that are compared by their costs.
+#[derive(Clone, Copy)]
+pub struct Best<'a> {
+    /// What it costs.
+    pub cost: &'a Cost,
+    /// Its atoms, where who tells of it has them. That they are an answer of this cost is for who hears it to see.
+    pub set: Option<&'a Interp>,
+}
 
 /// Who hears how a run goes on. Whatever it does, the run is the same.
 pub trait Watch {
     /// That telling may lead from the one to the other.
     ghost IsAfter: { Self → Self → Type 0 };
 
-    /// Hears what the run did so far, and what the best answer costs, where one was found of those that are compared by
-    /// their costs.
-    fn tell(&mut self, counts: &Counts, best: Option<&Cost>)
+    /// Hears what the run did so far, and of the best answer, where one was found of those that are compared by their costs.
+    fn tell(&mut self, counts: &Counts, best: Option<Best<'_>>)
         ensures { IsAfter self.old self.new };
 
     /// Hears that the query which the counts name is over, and what the run did until then.
@@ -34,7 +43,7 @@ pub struct Unwatched;
 impl Watch for Unwatched {
     ghost IsAfter = { λ v w. Unit {0} };
 
-    fn tell(&mut self, _counts: &Counts, _best: Option<&Cost>) {}
+    fn tell(&mut self, _counts: &Counts, _best: Option<Best<'_>>) {}
 
     fn end_query(&mut self, _counts: &Counts) {}
 

@@ -8,6 +8,5 @@ pub mod StepLaws
 pub mod KnownLaws
 pub mod FinishLaws
 pub mod ReportLaws
-pub mod ProofLaws
 pub mod TieLaws
 pub mod CoreLaws

@@ -1,4 +1,3 @@
-pub mod Ends
 pub mod Refuting
 pub mod Running
 pub mod Twice

@@ -19,7 +19,7 @@ ghost use Rattle.asp_crew.specs.Running.{QueryStands, IsReady, IsUnderway, MayRe
 use crate::known::take_known;
 use asp_book::book::Book;
 use asp_counts::counts::Counts;
-use asp_counts::watch::Watch;
+use asp_counts::watch::{Best, Watch};
 use asp_model::interp::Interp;
 use asp_model::results::Mode;
 use asp_path::tree::Leaf;
@@ -74,13 +74,27 @@ fn record(book: &mut Book, mode: Mode, set: Interp) -> Result<(), AllocError>
     }
 }
 
-// Writes down the nogood that a step kept or by which it closed the path, if there is one and somebody wants it.
+// Writes down the answer that a step found, if somebody wants it: before the nogoods that follow from it.
+fn note_found<P: Propagator>(
+    recorder: &Recorder,
+    search: &Search<'_, P>,
+    step: &Step,
+) -> Result<(), AllocError> {
+    match step {
+        Step::Answer(set) => recorder.found(set, search.bound()),
+        _ => Ok(()),
+    }
+}
+
+// Writes down the answer that a step found, and the nogood that it kept or by which it closed the path, if there is one and somebody
+// wants it.
 fn note<P: Propagator>(
     recorder: Option<&Recorder>,
     search: &Search<'_, P>,
     step: &Step,
 ) -> Result<(), AllocError> {
     if let Some(recorder) = recorder {
+        note_found(recorder, search, step)?;
         recorder.place_given(search.given())?;
         if let Some(nogood) = search.kept() {
             let id = search.kept_number();
@@ -140,13 +154,24 @@ fn advance<P: Propagator>(
     }
 }
 
-// Tells what was counted, and the cost of the best answer where one is sought.
-fn tell<P: Propagator, W: Watch>(mode: Mode, search: &Search<'_, P>, counts: &Counts, watch: &mut W)
+// The best answer on the board, if there is one.
+fn best(book: &Book) -> Option<Best<'_>> {
+    match book.state().best() {
+        None => None,
+        Some((set, cost)) => Some(Best {
+            cost,
+            set: Some(set),
+        }),
+    }
+}
+
+// Tells what was counted, and the best answer where one is sought.
+fn tell<W: Watch>(mode: Mode, book: &Book, counts: &Counts, watch: &mut W)
     ensures { W.IsAfter watch.old watch.new }
 {
     match mode {
         Mode::Enum | Mode::Consequences(_) => watch.tell(counts, None),
-        Mode::Opt => watch.tell(counts, search.bound()),
+        Mode::Opt => watch.tell(counts, best(book)),
     }
 }
 
@@ -170,7 +195,7 @@ fn run<P: Propagator, W: Watch>(
             return Ok(Left::Enough);
         }
         let course = advance(book, mode, search, fuel, counts, recorder)?;
-        tell(mode, search, counts, watch);
+        tell(mode, book, counts, watch);
         match course {
             Course::Open => {}
             Course::Closed(nogood) => return Ok(Left::Closed(nogood)),

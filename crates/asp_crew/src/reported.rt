@@ -41,7 +41,6 @@ pub fn told(mode: Mode, book: Book, unpaid: Option<Conflict>, log: u32, short: b
     ensures mode { result.results.mode ≡ mode }
     ensures log { result.log ≡ log }
     ensures short { result.short ≡ short }
-    ensures proof { result.proof ≡ None }
 {
     let (state, journal, paid) = book.end();
     let end = end_by(state.enough(), state.finished());
@@ -65,7 +64,6 @@ pub fn told(mode: Mode, book: Book, unpaid: Option<Conflict>, log: u32, short: b
         short,
         unpaid,
         paid,
-        proof: None,
         core: None,
     }
 }
@@ -89,7 +87,6 @@ pub fn reported(
     ensures second { IfOk result (λ r. r.second ≡ None) }
     ensures log { IfOk result (λ r. r.log ≡ log) }
     ensures short { IfOk result (λ r. r.short ≡ short) }
-    ensures proof { IfOk result (λ r. r.proof ≡ None) }
     ensures core { IfOk result (HasCore compiled.now) }
 {
     match core(alloc, compiled, ask, &book) {

@@ -69,15 +69,16 @@ fn opened(
     }
 }
 
-// What was written down of a first search is forgotten: much of it holds below the cost of the best alone.
-fn begin_anew(recorder: Option<&Recorder>) {
-    if let Some(recorder) = recorder {
-        recorder.clear();
+// A second search is written down from now on, which begins with the best: much that a first one finds holds below the cost of the
+// best alone.
+fn begin_second(recorder: Option<&Recorder>, best: &Interp) -> Result<(), AllocError> {
+    match recorder {
+        None => Ok(()),
+        Some(recorder) => recorder.begin_second(best),
     }
 }
 
-// A search for all answers that cost no more than this best one, with so many units. The recorder, if there is one, has nothing
-// else then.
+// A search for all answers that cost no more than this best one, with so many units. The recorder, if there is one, gets what it finds.
 fn search<W: Watch>(
     alloc: Global,
     compiled: &Compiled,
@@ -92,7 +93,7 @@ fn search<W: Watch>(
     ensures ties { IfOk result (IsSearched (ties_of compiled.now ask (cost compiled.now best.now) budget)) }
     ensures heard { W.IsAfter watch.old watch.new }
 {
-    begin_anew(recorder);
+    begin_second(recorder, best)?;
     let bound = cost_just_above(alloc, compiled.program(), best)?;
     let mut book = opened(alloc, compiled, ask, &bound, best, budget)?;
     match finish_program(
@@ -161,7 +162,6 @@ fn joined(first: Report, ties: Report) -> Report
         short,
         unpaid: _,
         mut paid,
-        proof: _,
         core: _,
     } = first;
     let Report {
@@ -174,7 +174,6 @@ fn joined(first: Report, ties: Report) -> Report
         short: _,
         unpaid,
         paid: rest,
-        proof: _,
         core: _,
     } = ties;
     let left = paid.left();
@@ -196,14 +195,13 @@ fn joined(first: Report, ties: Report) -> Report
         short,
         unpaid,
         paid,
-        proof: None,
         core: None,
     }
 }
 
 /// The report of a run from that of its first search. Where all optima are asked for, and the first search was finished and
 /// had found one, a second search goes over the answers that cost no more, with the units that were left. The recorder, if there
-/// is one, gets what that one finds, and forgets what it had.
+/// is one, gets what that one finds.
 ///
 /// Want of memory is the one error. What the second search does is added to the counts, and told after each step.
 pub fn with_ties<W: Watch>(
@@ -217,12 +215,10 @@ pub fn with_ties<W: Watch>(
 ) -> Result<Report, AllocError>
     requires report { (units : ℕ) × IsReport compiled.now (asks ask.mode ask.models ask.by_name) units report }
     requires second { report.second ≡ None }
-    requires proof { report.proof ≡ None }
     ensures report { IfOk result (λ r. (units : ℕ) → IsReport compiled.now (asks ask.mode ask.models ask.by_name) units report → IsReport compiled.now ask units r) }
     ensures log { IfOk result (λ r. r.log ≡ report.log) }
     ensures short { IfOk result (λ r. r.short ≡ report.short) }
     ensures same { IfOk result (λ r. (r.journal ≡ report.journal) × (r.short ≡ report.short)) }
-    ensures proof { IfOk result (λ r. r.proof ≡ None) }
     ensures core { IfOk result (λ r. HasCore compiled.now report → HasCore compiled.now r) }
     ensures heard { W.IsAfter watch.old watch.new }
 {

@@ -3,4 +3,3 @@ pub mod Agrees
 pub mod Working
 pub mod Reports
 pub mod Gone
-pub mod Proofs

@@ -136,7 +136,6 @@ joined first ties = record {
   short = first.short;
   unpaid = ties.unpaid;
   paid = summed first.paid ties.paid;
-  proof = None;
   core = None;
 }
 
@@ -146,7 +145,7 @@ pub record IsPlayedTwice (p : Program) (ask : Ask) (units : ℕ) (r : Report) : 
   pub first : Report
   pub ties : Report
   pub best : Atoms × List ℤ
-  pub both : r ≡ record (joined first ties) { proof = r.proof }
+  pub both : r ≡ joined first ties
   pub finished : first.results.end ≡ Finished
   pub found : first.results.best ≡ Some best
   pub played : IsPlayed (task_of p ask units) first

@@ -2,6 +2,7 @@
 use Rattle.std.proofs.Common.{◌≡◌, ℕ, ◌+◌, ◌<◌, ◌≤◌, eqb, true, false, not, ◌&&◌, List, [], ◌∷◌, ◌++◌, length, None, refl, sym, ap, ◌∙◌, subst}
 use Rattle.std.proofs.lemmas.Bool.{false≢true}
 use Rattle.std.specs.Prelude.{nat_le}
+use Rattle.asp_model.specs.declared.program.Program.{Program}
 use Rattle.asp_model.specs.Sets.{Atoms}
 use Rattle.asp_vars.specs.Conflicts.{has_all}
 use Rattle.asp_vars.specs.Entailment.{HitsOnly}
@@ -11,6 +12,7 @@ use Rattle.asp_path.specs.declared.status.Status.TheVariants as status
 use Rattle.asp_path.specs.Trees.{Node, cube_of, is_open, split, status_of, with_status}
 use Rattle.asp_core.specs.declared.event.Event.{Event}
 use Rattle.asp_core.specs.declared.event.Event.TheVariants as event
+use Rattle.asp_core.specs.declared.goal.Goal.{Goal}
 use Rattle.asp_core.specs.declared.task.Task.{Task}
 use Rattle.asp_core.specs.Boards.{Board, IsQuery, distinct, is_answer, is_enough, is_excused, lists, optimises, sought, start}
 use Rattle.asp_core.specs.Events.{Guard, IsVariable, happens, has_var, held_by}
@@ -20,37 +22,48 @@ use Rattle.asp_core.proofs.HeldLaws.{IsLawful-push, run-push}
 use Rattle.asp_core.proofs.ResultLaws.{IsBoard-replay, task-run}
 use Rattle.asp_book.specs.Books.{Booked, board, IsJournalOf}
 use Rattle.asp_ledger.specs.declared.ledger.Ledger.TheInside.{Inside}
-use Rattle.asp_ledger.specs.Ledgers.{enumeration}
+use Rattle.asp_ledger.specs.Ledgers.{IsListing, ListsAnswers, listing}
 use Rattle.asp_ledger.specs.Stored.{IsLedger, ledger_of}
 
--- ---- what holds of an enumeration's board
-module _ (v : Booked) (task : v.task ≡ enumeration v.task.program v.task.budget) where
-  pub board-enumerates : (board v).task ≡ enumeration v.task.program v.task.budget
-  board-enumerates = task-run (start v.task) v.journal ∙ task
+-- ---- what holds of the board of a search that lists answers
+module _ (v : Booked) (task : IsListing v.task) where
+  pub board-same : (board v).task ≡ v.task
+  board-same = task-run (start v.task) v.journal
+
+  pub board-listing : (board v).task ≡ listing v.task.program v.task.goal v.task.budget
+  board-listing = board-same ∙ task.is
 
   pub no-limit : is_enough (board v) ≡ false
-  no-limit = ap (λ (t : Task). not (eqb t.limit 0) && nat_le t.limit (length (distinct (board v).answers))) board-enumerates
+  no-limit = ap (λ (t : Task). not (eqb t.limit 0) && nat_le t.limit (length (distinct (board v).answers))) board-listing
 
   pub nothing-sought : sought (board v).task.goal ≡ None
-  nothing-sought = ap (λ (t : Task). sought t.goal) board-enumerates
+  nothing-sought = ap (λ (t : Task). sought t.goal) board-same ∙ task.answers.apart
 
   pub no-optimum : optimises (board v).task.goal ≡ false
-  no-optimum = ap (λ (t : Task). optimises t.goal) board-enumerates
+  no-optimum = ap (λ (t : Task). optimises t.goal) board-same ∙ task.answers.plain
 
-  pub lists-all : (S : Atoms) → lists (board v).task S ≡ true
-  lists-all S = ap (λ (t : Task). lists t S) board-enumerates
+  pub no-query : IsQuery v.task.program v.task.query
+  no-query = subst (λ (t : Task). IsQuery t.program t.query) (sym task.is) tt
 
   pub board-is : IsJournalOf v.task v.journal → IsBoard (board v)
-  board-is lawful = IsBoard-replay v.task v.journal (subst (λ (t : Task). IsQuery t.program t.query) (sym task) tt) lawful
+  board-is lawful = IsBoard-replay v.task v.journal no-query lawful
+
+-- by another word for the task
+pub listing-same : (t u : Task) → u ≡ t → IsListing t → IsListing u
+listing-same t u same is = subst IsListing (sym same) is
+
+pub listing-lists : (p : Program) (g : Goal) (budget : ℕ) → ListsAnswers g → IsListing (listing p g budget)
+listing-lists p g budget is = record { answers = is; is = refl }
 
 -- ---- one event more
 -- from i to j by an event
-pub ledger-happens : (i j : Inside) (e : Event) → IsLedger i → j.program ≡ i.program → j.budget ≡ i.budget → Guard (board (ledger_of i)) e →
+pub ledger-happens : (i j : Inside) (e : Event) → IsLedger i → j.program ≡ i.program → j.goal ≡ i.goal → j.budget ≡ i.budget → Guard (board (ledger_of i)) e →
     j.tree ≡ (happens (board (ledger_of i)) e).nodes → j.journal.items ≡ i.journal.items ++ e ∷ [] → IsLedger j
-ledger-happens i j e is program budget guard tree events =
-    let t : Task = enumeration i.program.value i.budget in
-    let same : enumeration j.program.value j.budget ≡ t = λ k. enumeration (program k).value (budget k) in
+ledger-happens i j e is program goal budget guard tree events =
+    let t : Task = listing i.program.value i.goal.value i.budget in
+    let same : listing j.program.value j.goal.value j.budget ≡ t = λ k. listing (program k).value (goal k).value (budget k) in
     record {
+      answers = subst ListsAnswers (λ k. (sym goal k).value) is.answers;
       tree = tree ∙ ap (λ (b : Board). b.nodes) (sym (run-push (start t) i.journal.items e))
           ∙ ap (λ (l : List Event). (board (record { task = t; journal = l })).nodes) (sym events)
           ∙ ap (λ (u : Task). (board (record { task = u; journal = j.journal.items })).nodes) (sym same);
@@ -64,16 +77,21 @@ open-is (status.Held t) e = absurd (false≢true e)
 open-is status.Closed e = absurd (false≢true e)
 open-is status.Forked e = absurd (false≢true e)
 
-module _ (i j : Inside) (v : Booked) (view : ledger_of i ≡ v) (is : IsLedger i) (program : j.program ≡ i.program) (budget : j.budget ≡ i.budget) where
+-- what holds of its value
+pub listing-of : (i : Inside) (v : Booked) → ledger_of i ≡ v → IsLedger i → IsListing v.task
+listing-of i v view is =
+    subst (λ (u : Booked). IsListing u.task) view (listing-lists i.program.value i.goal.value i.budget is.answers)
+
+module _ (i j : Inside) (v : Booked) (view : ledger_of i ≡ v) (is : IsLedger i) (program : j.program ≡ i.program) (goal : j.goal ≡ i.goal) (budget : j.budget ≡ i.budget) where
   here-tree : i.tree ≡ (board v).nodes
   here-tree = is.tree ∙ ap (λ (u : Booked). (board u).nodes) view
 
-  here-task : v.task ≡ enumeration v.task.program v.task.budget
-  here-task = subst (λ (u : Booked). u.task ≡ enumeration u.task.program u.task.budget) view refl
+  here-task : IsListing v.task
+  here-task = listing-of i v view is
 
   by-event : (e : Event) → Guard (board v) e → j.tree ≡ (happens (board v) e).nodes → (x : Event) → j.journal.items ≡ i.journal.items ++ x ∷ [] → x ≡ e → IsLedger j
   by-event e guard tree x pushed same =
-      ledger-happens i j e is program budget (subst (λ (u : Booked). Guard (board u) e) (sym view) guard)
+      ledger-happens i j e is program goal budget (subst (λ (u : Booked). Guard (board u) e) (sym view) guard)
       (tree ∙ ap (λ (u : Booked). (happens (board u) e).nodes) (sym view)) (pushed ∙ ap (λ (y : Event). i.journal.items ++ y ∷ []) same)
 
   pub ledger-took : (leaf : ℕ) → is_open (status_of i.tree leaf) ≡ true → held_by 0 (board v).nodes ≡ 0 → j.tree ≡ with_status i.tree leaf (status.Held 0) →
@@ -88,10 +106,14 @@ module _ (i j : Inside) (v : Booked) (view : ledger_of i ≡ v) (is : IsLedger i
       by-event (event.Split 0 leaf l) (held, subst (λ (ns : List Node). length ns < 4194304) here-tree room, variable, new)
       (tree ∙ ap (λ (ns : List Node). split ns leaf l) here-tree) x pushed same
 
-  pub ledger-delivered : (S : Atoms) → is_answer v.task S ≡ true → j.tree ≡ i.tree → (x : Event) → j.journal.items ≡ i.journal.items ++ x ∷ [] → x ≡ event.Deliver 0 S → IsLedger j
-  ledger-delivered S answer tree x pushed same =
-      by-event (event.Deliver 0 S)
-      (lists-all v here-task S, ap (λ (t : Task). is_answer t S) (task-run (start v.task) v.journal) ∙ answer, no-limit v here-task) (tree ∙ here-tree) x pushed same
+  pub ledger-delivered : (S : Atoms) → is_answer v.task S ≡ true → lists v.task S ≡ true → j.tree ≡ i.tree →
+      (x : Event) → j.journal.items ≡ i.journal.items ++ x ∷ [] → x ≡ event.Deliver 0 S → IsLedger j
+  ledger-delivered S answer listed tree x pushed same =
+      by-event (event.Deliver 0 S) (
+        ap (λ (t : Task). lists t S) (board-same v here-task) ∙ listed,
+        ap (λ (t : Task). is_answer t S) (board-same v here-task) ∙ answer,
+        no-limit v here-task,
+      ) (tree ∙ here-tree) x pushed same
 
   pub ledger-closed : (leaf : ℕ) (n : List Literal) → status_of (board v).nodes leaf ≡ status.Held 0 → has_all (cube_of (board v).nodes leaf) n ≡ true →
       HitsOnly (board v).task.program (is_excused (board v)) n → j.tree ≡ with_status i.tree leaf status.Closed →

@@ -6,15 +6,16 @@ ghost use Rattle.asp_vars.specs.Numbering.{literal_of};
 ghost use Rattle.asp_path.specs.declared.status.Status.TheVariants as status;
 ghost use Rattle.asp_path.specs.Trees.{cube_of, is_open, leaf_count, status_of};
 ghost use Rattle.asp_core.specs.declared.event.Event.TheVariants as event;
-ghost use Rattle.asp_core.specs.Boards.{is_answer, is_excused};
+ghost use Rattle.asp_core.specs.Boards.{is_answer, is_excused, lists};
 ghost use Rattle.asp_core.specs.Events.{has_var, held_by, IsVariable};
 ghost use Rattle.asp_core.specs.Units.{out_of};
 ghost use Rattle.asp_book.specs.Books.{board, with_events, IsJournalOf};
 ghost use Rattle.asp_book.specs.Replies.{Divides, divided, given_back, leased_out, taken_this};
-ghost use Rattle.asp_ledger.specs.Ledgers.{enumeration};
+ghost use Rattle.asp_ledger.specs.Ledgers.{IsListing, ListsAnswers, listing};
 
 use asp_core::entry::Entry;
 use asp_core::event::Event;
+use asp_core::goal::Goal;
 use asp_model::interp::Interp;
 use asp_model::program::Program;
 use asp_model::seq::Seq;
@@ -28,12 +29,14 @@ use asp_vars::origin::Origin;
 use std::alloc::{AllocError, Global};
 use std::marker::Model;
 
-/// An enumeration's board with the journal that led to it, as contracts see them. All events are number 0's. Its bytes are the tree of
-/// paths alone: a delivery has none.
+/// The board of a search that lists answers, with the journal that led to it, as contracts see them. All events are number 0's. Its bytes
+/// are the tree of paths alone: a delivery has none.
 #[derive(Drop)]
 pub struct Ledger {
     /// The program whose answers are sought, as a fact without bytes.
     program: Origin<Program>,
+    /// Which of its answers are listed, as a fact without bytes.
+    goal: Origin<Goal>,
     /// The units that the search may burn.
     budget: u64,
     /// The paths into which the search was split.
@@ -68,23 +71,30 @@ fn root_of(alloc: Global, compiled: &Compiled) -> Result<Vec<Lit>, AllocError>
 }
 
 impl Ledger {
-    /// The start of a search for all answers, within so many units. The only error is want of memory.
-    pub fn start(alloc: Global, compiled: &Compiled, budget: u64) -> Result<Ledger, AllocError>
-        ensures { IfOk result (λ l. l ≡ record { task = enumeration compiled.now budget; journal = [] }) }
+    /// The start of a search for all answers that the goal lists, within so many units. The only error is want of memory.
+    pub fn start(
+        alloc: Global,
+        compiled: &Compiled,
+        goal: &Goal,
+        budget: u64,
+    ) -> Result<Ledger, AllocError>
+        requires { ListsAnswers goal.now }
+        ensures { IfOk result (λ l. l ≡ record { task = listing compiled.now goal.now budget; journal = [] }) }
     {
         let root = root_of(alloc, compiled)?;
         let tree = Tree::root(alloc, root)?;
         Ok(Ledger {
             program: Origin::of(compiled.program()),
+            goal: Origin::of(goal),
             budget,
             tree,
             journal: Vec::new(alloc),
         })
     }
 
-    /// What holds of its value: the task is an enumeration, and each event was lawful where it happened.
+    /// What holds of its value: the task is one that lists answers, and each event was lawful where it happened.
     pub fn lawful(&self)
-        ensures task { self.now.task ≡ enumeration self.now.task.program self.now.task.budget }
+        ensures task { IsListing self.now.task }
         ensures journal { IsJournalOf self.now.task self.now.journal }
     {
         let _ = &self.tree;
@@ -134,9 +144,10 @@ impl Ledger {
         Ok(Some(leaves))
     }
 
-    /// Delivers an answer, of which no bytes are kept. For want of memory nothing happens.
+    /// Delivers an answer that the goal lists, of which no bytes are kept. For want of memory nothing happens.
     pub fn deliver(&mut self, set: &Interp) -> Result<(), AllocError>
-        requires { IsTrue (is_answer self.old.task set.now) }
+        requires answer { IsTrue (is_answer self.old.task set.now) }
+        requires listed { IsTrue (lists self.old.task set.now) }
         ensures ok { OnOk result (self.new ≡ with_events self.old (event.Deliver 0 set.now ∷ [])) }
         ensures err { OnErr result (self.new ≡ self.old) }
     {
@@ -207,6 +218,7 @@ impl Ledger {
     {
         let Ledger {
             program: _,
+            goal: _,
             budget: _,
             tree: _,
             journal,

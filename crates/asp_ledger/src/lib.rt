@@ -1,4 +1,4 @@
-//! The board of a search for all answers, with its journal, which keeps no answer.
+//! The board of a search that lists answers, with its journal, which keeps no answer.
 #![tactic(auto)]
 
 pub mod ledger;

@@ -4,8 +4,6 @@ use Rattle.std.specs.Prelude.{nat_le}
 use Rattle.std.proofs.lemmas.Bool.{leb-false, leb-true}
 use Rattle.std.proofs.lemmas.List.{map_more, take-append-drop, take-map, take_all, take_at}
 use mathlib.Core.List.{IsPrefix}
-use Rattle.asp_model.specs.declared.program.Program.{Program}
-use Rattle.asp_model.specs.Models.{answers}
 use Rattle.asp_model.specs.Sets.{Atoms}
 use Rattle.asp_rows.specs.declared.row.Row.{Row}
 use Rattle.asp_rows.specs.Listed.{Listed}
@@ -125,19 +123,19 @@ front-more atoms old new rows sets place row set are is within same was now =
     now ∙ ap (λ (l : Listed). record l { sets = l.sets ++ set ∷ [] }) was ∙ ap (λ (Ss : List Atoms). record { atoms = atoms; sets = Ss }) (sym more)
 
 -- what was heard then
-pub heard-more : (p q : Program) (old new rows : List Atoms) (n m k count : ℕ) → q ≡ p → new ≡ old ++ take k rows → m ≡ n → count ≡ length rows → IsPrefix (heard_of p old n ++ rows) (answers p)
-    → (n ≡ 0) ⊎ (k ≡ 0) → k ≤ length rows → heard_of q new (m + (count - k)) ≡ heard_of p old n ++ rows
-heard-more p q old new rows n m k count same now kept counted front order le =
-    ap (λ (x : Program). heard_of x new (m + (count - k))) same
-    ∙ ap (λ (Ss : List Atoms). heard_of p Ss (m + (count - k))) now
-    ∙ ap (λ (j : ℕ). heard_of p (old ++ take k rows) j) (let sum : m + (count - k) ≡ n + (length rows - k) = omega (arith, kept, counted) in sum)
-    ∙ ap (λ (Ss : List Atoms). (old ++ take k rows) ++ Ss) (left-more old rows (answers p) n k front order le)
-    ∙ parted old (left_out p old n) rows k (by order)
+pub heard-more : (all seen old new rows : List Atoms) (n m k count : ℕ) → seen ≡ all → new ≡ old ++ take k rows → m ≡ n → count ≡ length rows → IsPrefix (heard_of all old n ++ rows) all
+    → (n ≡ 0) ⊎ (k ≡ 0) → k ≤ length rows → heard_of seen new (m + (count - k)) ≡ heard_of all old n ++ rows
+heard-more all seen old new rows n m k count same now kept counted front order le =
+    ap (λ (x : List Atoms). heard_of x new (m + (count - k))) same
+    ∙ ap (λ (Ss : List Atoms). heard_of all Ss (m + (count - k))) now
+    ∙ ap (λ (j : ℕ). heard_of all (old ++ take k rows) j) (let sum : m + (count - k) ≡ n + (length rows - k) = omega (arith, kept, counted) in sum)
+    ∙ ap (λ (Ss : List Atoms). (old ++ take k rows) ++ Ss) (left-more old rows all n k front order le)
+    ∙ parted old (left_out all old n) rows k (by order)
   where
-    by : (n ≡ 0) ⊎ (k ≡ 0) → (left_out p old n ≡ []) ⊎ (k ≡ 0)
-    by (inl none) = inl (ap (λ (j : ℕ). left_out p old j) none)
+    by : (n ≡ 0) ⊎ (k ≡ 0) → (left_out all old n ≡ []) ⊎ (k ≡ 0)
+    by (inl none) = inl (ap (λ (j : ℕ). left_out all old j) none)
     by (inr none) = inr none
 
-pub fits-more : (p : Program) (old rows : List Atoms) (n k count : ℕ) → IsPrefix (heard_of p old n ++ rows) (answers p) → length (heard_of p old n) + length rows + 1 < 2 ^ 64 → n < 2 ^ 64
+pub fits-more : (all old rows : List Atoms) (n k count : ℕ) → IsPrefix (heard_of all old n ++ rows) all → length (heard_of all old n) + length rows + 1 < 2 ^ 64 → n < 2 ^ 64
     → count ≡ length rows → n + (count - k) < 2 ^ 64
-fits-more p old rows n k count front room small counted = subst (λ (j : ℕ). n + (j - k) < 2 ^ 64) (sym counted) (left-fits old rows (answers p) n k (2 ^ 64) front room small)
+fits-more all old rows n k count front room small counted = subst (λ (j : ℕ). n + (j - k) < 2 ^ 64) (sym counted) (left-fits old rows all n k (2 ^ 64) front room small)

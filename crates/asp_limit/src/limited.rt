@@ -1,8 +1,8 @@
 //! An outlet with a limit.
 ghost use Rattle.std.specs.Prelude.{◌≡◌, ◌⊎◌, ◌+◌, ◌-◌, ◌++◌, ◌<◌, ◌≤◌, ◌^◌, [], false, length, take};
 ghost use mathlib.Core.List.{IsPrefix};
-ghost use Rattle.asp_model.specs.Models.{answers, atoms_of};
-ghost use Rattle.asp_outlet.specs.Outlets.{Hears, IsAfter, moment};
+ghost use Rattle.asp_model.specs.Models.{atoms_of};
+ghost use Rattle.asp_outlet.specs.Outlets.{Hears, IsAfter, list_of, moment};
 ghost use Rattle.asp_limit.specs.Limits.{IsLimitedTo, heard_of, room, wants};
 
 use crate::front::front;
@@ -30,25 +30,26 @@ pub struct LimitedOutlet<'a, K: Sink> {
 }
 
 impl<'a, K: Sink> LimitedOutlet<'a, K> {
-    /// An outlet with this limit that has heard nothing. Where memory is wanting it takes longer.
+    /// An outlet with this limit, of all answers or of all optima, that has heard nothing. Where memory is wanting it takes longer.
     pub fn new(
         alloc: Global,
         sink: &'a mut K,
         program: &'a Program,
         atoms: &Interp,
+        optima: bool,
         models: usize,
     ) -> LimitedOutlet<'a, K>
         requires { atoms.now ≡ atoms_of program.now }
         ensures same { result.outlet.sink.ghost_name ≡ sink.entry.ghost_name }
         ensures now { result.outlet.sink.now ≡ sink.old }
-        ensures heard { result.outlet.listing ≡ record { program = program.now; sets = [] } }
+        ensures heard { result.outlet.listing ≡ record { program = program.now; all = list_of optima program.now; sets = [] } }
         ensures failed { result.outlet.failed ≡ false }
         ensures models { result.models ≡ models }
         ensures left { result.left ≡ 0 }
         ensures short { result.short ≡ false }
     {
         LimitedOutlet {
-            outlet: Outlet::new(alloc, sink, program, atoms),
+            outlet: Outlet::new(alloc, sink, program, atoms, optima),
             models,
             left: 0,
             short: false,
@@ -70,11 +71,12 @@ impl<'a, K: Sink> LimitedOutlet<'a, K> {
     // Writes the first of the answers that come next, so many, where memory suffices. It says how many were to be written then.
     fn write_front(&mut self, rows: &Rows, count: usize) -> usize
         requires atoms { rows.now.atoms ≡ atoms_of self.old.outlet.listing.program }
-        requires front { IsPrefix (self.old.outlet.listing.sets ++ rows.now.sets) (answers self.old.outlet.listing.program) }
+        requires front { IsPrefix (self.old.outlet.listing.sets ++ rows.now.sets) self.old.outlet.listing.all }
         requires room { length self.old.outlet.listing.sets + length rows.now.sets + 1 < 2 ^ 64 }
         requires count { count ≤ length rows.now.sets }
         ensures same { self.new.outlet.sink.ghost_name ≡ self.old.outlet.sink.ghost_name }
         ensures program { self.new.outlet.listing.program ≡ self.old.outlet.listing.program }
+        ensures all { self.new.outlet.listing.all ≡ self.old.outlet.listing.all }
         ensures limit { (self.new.models ≡ self.old.models) × (self.new.left ≡ self.old.left) }
         ensures hears { Hears self.old.outlet.listing.program
             (moment self.old.outlet.listing.sets (K.held self.old.outlet.sink.now) (K.faults self.old.outlet.sink.now) self.old.outlet.failed)
@@ -102,10 +104,11 @@ impl<'a, K: Sink> LimitedOutlet<'a, K> {
     // Writes of the answers that come next as many as may be. It says how many were to be written.
     fn write_some(&mut self, rows: &Rows) -> usize
         requires atoms { rows.now.atoms ≡ atoms_of self.old.outlet.listing.program }
-        requires front { IsPrefix ((heard_of self.old.outlet.listing.program self.old.outlet.listing.sets self.old.left) ++ rows.now.sets) (answers self.old.outlet.listing.program) }
-        requires room { length (heard_of self.old.outlet.listing.program self.old.outlet.listing.sets self.old.left) + length rows.now.sets + 1 < 2 ^ 64 }
+        requires front { IsPrefix ((heard_of self.old.outlet.listing.all self.old.outlet.listing.sets self.old.left) ++ rows.now.sets) self.old.outlet.listing.all }
+        requires room { length (heard_of self.old.outlet.listing.all self.old.outlet.listing.sets self.old.left) + length rows.now.sets + 1 < 2 ^ 64 }
         ensures same { self.new.outlet.sink.ghost_name ≡ self.old.outlet.sink.ghost_name }
         ensures program { self.new.outlet.listing.program ≡ self.old.outlet.listing.program }
+        ensures all { self.new.outlet.listing.all ≡ self.old.outlet.listing.all }
         ensures limit { (self.new.models ≡ self.old.models) × (self.new.left ≡ self.old.left) }
         ensures hears { Hears self.old.outlet.listing.program
             (moment self.old.outlet.listing.sets (K.held self.old.outlet.sink.now) (K.faults self.old.outlet.sink.now) self.old.outlet.failed)
@@ -123,18 +126,19 @@ impl<'a, K: Sink> LimitedOutlet<'a, K> {
         self.write_front(rows, count)
     }
 
-    /// Hears the answers that come next in the list of all answers, and writes of them as many as may be. It says whether more is wanted.
+    /// Hears the answers that come next in the list, and writes of them as many as may be. It says whether more is wanted.
     pub fn hear_next(&mut self, rows: &Rows) -> bool
         requires atoms { rows.now.atoms ≡ atoms_of self.old.outlet.listing.program }
-        requires front { IsPrefix ((heard_of self.old.outlet.listing.program self.old.outlet.listing.sets self.old.left) ++ rows.now.sets) (answers self.old.outlet.listing.program) }
-        requires room { length (heard_of self.old.outlet.listing.program self.old.outlet.listing.sets self.old.left) + length rows.now.sets + 1 < 2 ^ 64 }
+        requires front { IsPrefix ((heard_of self.old.outlet.listing.all self.old.outlet.listing.sets self.old.left) ++ rows.now.sets) self.old.outlet.listing.all }
+        requires room { length (heard_of self.old.outlet.listing.all self.old.outlet.listing.sets self.old.left) + length rows.now.sets + 1 < 2 ^ 64 }
         ensures same { self.new.outlet.sink.ghost_name ≡ self.old.outlet.sink.ghost_name }
         ensures program { self.new.outlet.listing.program ≡ self.old.outlet.listing.program }
+        ensures all { self.new.outlet.listing.all ≡ self.old.outlet.listing.all }
         ensures models { self.new.models ≡ self.old.models }
         ensures hears { IsAfter self.old.outlet.listing.program
             (moment self.old.outlet.listing.sets (K.held self.old.outlet.sink.now) (K.faults self.old.outlet.sink.now) self.old.outlet.failed)
             (moment self.new.outlet.listing.sets (K.held self.new.outlet.sink.now) (K.faults self.new.outlet.sink.now) self.new.outlet.failed) }
-        ensures heard { heard_of self.new.outlet.listing.program self.new.outlet.listing.sets self.new.left ≡ (heard_of self.old.outlet.listing.program self.old.outlet.listing.sets self.old.left) ++ rows.now.sets }
+        ensures heard { heard_of self.new.outlet.listing.all self.new.outlet.listing.sets self.new.left ≡ (heard_of self.old.outlet.listing.all self.old.outlet.listing.sets self.old.left) ++ rows.now.sets }
         ensures limited { IsLimitedTo self.old.models self.old.outlet.listing.sets self.old.left self.old.short
             → IsLimitedTo self.new.models self.new.outlet.listing.sets self.new.left self.new.short }
         ensures wanted { result ≡ wants self.new.models self.new.outlet.listing.sets self.new.outlet.failed self.new.short }
@@ -162,7 +166,9 @@ impl<K: Sink> Reader for LimitedOutlet<'_, K> {
 
     ghost program = { λ o. o.outlet.listing.program };
 
-    ghost heard = { λ o. heard_of o.outlet.listing.program o.outlet.listing.sets o.left };
+    ghost all = { λ o. o.outlet.listing.all };
+
+    ghost heard = { λ o. heard_of o.outlet.listing.all o.outlet.listing.sets o.left };
 
     ghost wants = { λ o. wants o.models o.outlet.listing.sets o.outlet.failed o.short };
 

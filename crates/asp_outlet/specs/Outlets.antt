@@ -1,27 +1,35 @@
 -- What an outlet hears and writes.
-use Rattle.std.specs.Prelude.{◌≡◌, ℕ, ◌+◌, ◌≤◌, Bool, true, false, List, ◌++◌, length, Option, None, Result, OnOk, OnErr}
+use Rattle.std.specs.Prelude.{◌≡◌, ℕ, ◌+◌, ◌≤◌, Bool, true, false, List, ◌++◌, length, Option, None, Result, OnOk, OnErr, codes, decimal, ℤ}
 use Rattle.std.specs.Io.KnownBytes.{Appends}
 use Rattle.asp_io.specs.Causes.{Rose, AppendsFront}
 use Rattle.asp_model.specs.declared.program.Program.{Program}
 use Rattle.asp_model.specs.declared.results.End.{End}
-use Rattle.asp_model.specs.declared.results.Mode.TheVariants.{Enum}
+use Rattle.asp_model.specs.declared.results.Mode.{Mode}
+use Rattle.asp_model.specs.declared.results.Mode.TheVariants.{Enum, Opt}
+use Rattle.asp_model.specs.Costs.{optima}
 use Rattle.asp_model.specs.Found.{Found}
 use Rattle.asp_model.specs.Models.{answers, atoms_of}
 use Rattle.asp_model.specs.Sets.{Atoms}
-use Rattle.asp_model.specs.Texts.{answers_from}
+use Rattle.asp_model.specs.Texts.{answers_from, cost_line, count_mark, ended_line, verdict}
 use Rattle.asp_print.specs.declared.in_parts.PartPrinter.{PartPrinter}
 use Rattle.asp_print.specs.Named.{printed_text}
 use Rattle.asp_print.specs.Parts.{IsPrinterOf, closing}
 
--- a program, and those of its answers that were heard
+-- a program, those of its answers that are to be heard, and those that were
 pub record Heard : Type 0 where
   pub program : Program
+  pub all : List Atoms
   pub sets : List Atoms
 
--- The printer is for the program's answers, and has counted no more than there are.
-pub record IsListing (p : Program) (printer : PartPrinter) : Type 0 where
+-- all answers of a program, or all optima
+abbrev pub list_of : Bool → Program → List Atoms
+list_of false p = answers p
+list_of true p = optima p
+
+-- The printer is for the program's answers, and has counted no more than there are in the list.
+pub record IsListing (p : Program) (all : List Atoms) (printer : PartPrinter) : Type 0 where
   pub of : IsPrinterOf p (atoms_of p) printer
-  pub count : printer.written ≤ length (answers p)
+  pub count : printer.written ≤ length all
 
 -- the lines of answers that come after those heard
 abbrev pub next_text : Program → List Atoms → List Atoms → List ℕ
@@ -39,6 +47,20 @@ found end sets = record { mode = Enum; end = end; answers = sets; best = None; k
 abbrev pub whole_text : Program → End → List Atoms → List ℕ
 whole_text p end sets = printed_text p (found end sets) false false
 
+-- ---- optima, all of one cost
+-- the word line and the count line of results that list so many answers
+abbrev pub closing_of : Mode → End → ℕ → List ℕ
+closing_of mode end count = ended_line (verdict end mode count) ++ ended_line (codes "Models: " ++ decimal count ++ count_mark end)
+
+-- the lines after the last of so many optima
+abbrev pub optima_closing : End → List ℤ → ℕ → List ℕ
+optima_closing end cost count = cost_line cost ++ closing_of Opt end count
+
+-- the text of these optima
+abbrev pub optima_text : Program → End → List ℤ → List Atoms → List ℕ
+optima_text p end cost sets = answers_from p 1 sets ++ optima_closing end cost (length sets)
+
+-- ---- what is heard
 -- an outlet at a moment: the answers that it heard, what its sink holds where that is told, the sink's count of faults, and whether a
 -- write failed
 pub record Moment : Type 0 where

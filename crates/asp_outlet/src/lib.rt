@@ -1,6 +1,7 @@
 //! Writes a program's answers to a sink as they are heard.
 #![tactic(auto)]
 
+mod closing;
 mod laws;
 mod listing;
 mod outlet;

@@ -1,9 +1,9 @@
 //! A program's answers as they come, numbered.
 ghost use Rattle.std.specs.Prelude.{◌≡◌, ◌+◌, ◌++◌, ◌<◌, ◌^◌, [], length};
 ghost use mathlib.Core.List.{IsPrefix};
-ghost use Rattle.asp_model.specs.Models.{answers, atoms_of};
+ghost use Rattle.asp_model.specs.Models.{atoms_of};
 ghost use Rattle.asp_buffer.specs.Out.{Puts, out};
-ghost use Rattle.asp_outlet.specs.Outlets.{next_text};
+ghost use Rattle.asp_outlet.specs.Outlets.{list_of, next_text};
 
 use asp_io::{Failed, Sink};
 use asp_model::interp::Interp;
@@ -13,35 +13,46 @@ use asp_rows::rows::Rows;
 use std::alloc::Global;
 use std::marker::Model;
 
-/// A program and those of its answers that were heard so far, of which the number alone is kept: they are a front of its answers.
+/// A program and those of its answers, or of its optima, that were heard so far, of which the number alone is kept: they are a front of
+/// the list.
 #[derive(Drop)]
 pub struct Listing<'a> {
     /// The program.
     program: &'a Program,
+    /// Whether its optima are heard, and else all its answers.
+    optima: bool,
     /// Writes their lines, and counts them.
     printer: PartPrinter,
 }
 
 impl<'a> Model for Listing<'a> {
     ghost use Rattle.std.specs.Prelude.{take};
-    ghost use Rattle.asp_model.specs.Models.{answers};
-    ghost use Rattle.asp_outlet.specs.Outlets.{Heard, IsListing};
+    ghost use Rattle.asp_outlet.specs.Outlets.{Heard, IsListing, list_of};
 
     ghost Value = { Heard };
 
-    ghost view = { λ l. record { program = l.program.now; sets = take l.printer.written (answers l.program.now) } };
+    ghost view = { λ l. record { program = l.program.now; all = list_of l.optima l.program.now; sets = take l.printer.written (list_of l.optima l.program.now) } };
 
-    ghost invariant = { λ l. IsListing l.program.now l.printer };
+    ghost invariant = { λ l. IsListing l.program.now (list_of l.optima l.program.now) l.printer };
 }
 
 impl<'a> Listing<'a> {
-    /// A listing of which nothing was heard. Where memory is wanting its lines take longer.
-    pub(crate) fn new(alloc: Global, program: &'a Program, atoms: &Interp) -> Listing<'a>
+    /// A listing of all answers, or of all optima, of which nothing was heard. Where memory is wanting its lines take longer.
+    pub(crate) fn new(
+        alloc: Global,
+        program: &'a Program,
+        atoms: &Interp,
+        optima: bool,
+    ) -> Listing<'a>
         requires { atoms.now ≡ atoms_of program.now }
-        ensures { result ≡ record { program = program.now; sets = [] } }
+        ensures { result ≡ record { program = program.now; all = list_of optima program.now; sets = [] } }
     {
         let printer = PartPrinter::new(alloc, program, atoms);
-        Listing { program, printer }
+        Listing {
+            program,
+            optima,
+            printer,
+        }
     }
 
     /// How many answers were heard.
@@ -68,7 +79,7 @@ impl<'a> Listing<'a> {
 
     /// Counts the answers that come next.
     pub(crate) fn count(&mut self, rows: &Rows)
-        requires front { IsPrefix (self.old.sets ++ rows.now.sets) (answers self.old.program) }
+        requires front { IsPrefix (self.old.sets ++ rows.now.sets) self.old.all }
         requires room { length self.old.sets + length rows.now.sets + 1 < 2 ^ 64 }
         ensures { self.new ≡ record self.old { sets = self.old.sets ++ rows.now.sets } }
     {

@@ -34,14 +34,12 @@ use Rattle.asp_equal.proofs.ReducedLaws.{all-consequences, chosen-reduced, cost-
 use Rattle.asp_model.proofs.ModelLaws.{answers-are}
 use Rattle.asp_unfold.specs.Unfolded.{unfolded, unfolded_minimize}
 use Rattle.asp_unfold.proofs.SameLaws.{same-answers as same-unfolded, same-consequences, same-cost, same-optima, same-optimum}
-use Rattle.asp_proof.specs.declared.proof.Proof.{Proof}
 use Rattle.asp_crew_laws.specs.declared.report.Report.{Report}
 use Rattle.asp_crew_laws.specs.Runs.{IsBest, IsFound}
 use Rattle.asp_crew_laws.specs.Reports.{HasBest, IsAllFound, IsPart, IsPartOf, IsPriced, Says as SaysReport}
-use Rattle.asp_crew_laws.specs.Proofs.{HasProof, HasProofAt}
 use Rattle.asp_cli.specs.declared.Options.{Options}
 use Rattle.asp_prepare.specs.Meaning.{has_model, has_model_in, mode_by, mode_of}
-use Rattle.asp_prepare.specs.Told.{SaysOf, ShowsAs, found_with, report_text, report_with, text_by, text_in, told_with, with_known, without_names}
+use Rattle.asp_prepare.specs.Told.{SaysOf, ShowsAs, found_with, report_text, report_with, text_in, told_with, with_known, without_names}
 use Rattle.asp_json.specs.Json.{array, best_costs, best_text, call_text, closing_text, json_text, known_text, known_texts, models_text, more, optimum_text, recorded_text, result_text, summary_text, witness, witnesses}
 use Rattle.asp_json.specs.Quoting.{quoted}
 use Rattle.asp_json.specs.Entries.{entry_answers, entry_results, entry_start, is_listed}
@@ -347,33 +345,15 @@ same-told : (r : Report) → told_with none_aside r ≡ r
 same-told r = ap (λ k. record r { results = record r.results { known = k } }) (same-known r.results.known)
 
 -- ---- as was asked
-pub no-proof : (end : End) (twice : Bool) (r : Found) (proof : Option Proof) → HasProofAt end false twice r proof → proof ≡ None
-no-proof Finished twice r proof h = h
-no-proof Limited twice r proof h = h
-no-proof Unfinished twice r proof h = h
-
-unasked : (given : Options) → is_settled given ≡ true → given.proof ≡ false
-unasked given e = by given.proof e
-  where
-    by : (b : Bool) → not (b || is_some given.split) ≡ true → b ≡ false
-    by true h = absurd cc
-    by false h = refl
-
-text_without : (p : Program) (r : Report) (layout : Layout) → r.proof ≡ None → report_text (rest p) (told_with (aside_of p) r) layout ≡ report_text p (report_with (aside_of p) r) layout
-text_without p r layout none =
-    ap (λ proof. text_by proof (rest p) (told (aside_of p) r.results) layout) none
-    ∙ text_in-left layout.form p r.results layout.brief layout.names
-    ∙ ap (λ proof. text_by proof p (found_with (aside_of p) r.results) layout) (sym none)
-
-pub told-text : (given : Options) (p : Program) (r : Report) (layout : Layout) → HasProof given.proof r →
+pub told-text : (given : Options) (p : Program) (r : Report) (layout : Layout) →
     report_text (searched given p) (told_with (set_aside given p) r) layout ≡ report_text (asked given p) (report_with (set_aside given p) r) layout
-told-text given p r layout proof = by (asked given p) (is_settled given) refl
+told-text given p r layout = by (asked given p) (is_settled given)
   where
-    by : (q : Program) (b : Bool) → is_settled given ≡ b →
+    by : (q : Program) (b : Bool) →
         report_text (cond b (rest q) q) (told_with (cond b (aside_of q) none_aside) r) layout ≡ report_text q
         (report_with (cond b (aside_of q) none_aside) r) layout
-    by q true e = text_without q r layout (no-proof r.results.end (is_some r.second) r.results r.proof (subst (λ wanted. HasProof wanted r) (unasked given e) proof))
-    by q false e = ap (λ x. report_text q x layout) (same-told r ∙ sym (same-report r))
+    by q true = text_in-left layout.form q r.results layout.brief layout.names
+    by q false = ap (λ x. report_text q x layout) (same-told r ∙ sym (same-report r))
 
 -- the lines of a list don't tell what is known
 lines-told : (p : Program) (F : Aside) (r : Found) (mode : Mode) (brief names : Bool) → reasoning_of mode ≡ None

@@ -1,5 +1,5 @@
 -- What was found of what is left of a program, told with what was set aside, and its text.
-use Rattle.std.specs.Prelude.{◌≡◌, ℕ, Bool, true, false, List, Option, None, Some, map, option_map}
+use Rattle.std.specs.Prelude.{◌≡◌, ℕ, Bool, true, false, List, Option, map, option_map}
 use Rattle.asp_model.specs.declared.program.Program.{Program}
 use Rattle.asp_model.specs.declared.results.Ask.{Ask}
 use Rattle.asp_model.specs.declared.results.End.{End}
@@ -10,8 +10,6 @@ use Rattle.asp_equal.specs.declared.reduce.Aside.{Aside}
 use Rattle.asp_equal.specs.Reduced.{restored}
 use Rattle.asp_print.specs.Named.{printed_text}
 use Rattle.asp_json.specs.Json.{json_text}
-use Rattle.asp_proof.specs.declared.proof.Proof.{Proof}
-use Rattle.asp_proof.specs.Texts.{text_of}
 use Rattle.asp_cli.specs.declared.Form.{Form}
 use Rattle.asp_cli.specs.declared.Form.TheVariants.{Text, Json}
 use Rattle.asp_crew_laws.specs.declared.report.Report.{Report}
@@ -55,10 +53,6 @@ abbrev pub text_in : Form → Program → Found → Bool → Bool → List ℕ
 text_in Text p r brief names = printed_text p r brief names
 text_in Json p r brief names = json_text p r brief
 
--- the text of a report: that of its proof, if it has one, and else that of its results
-abbrev pub text_by : Option Proof → Program → Found → Layout → List ℕ
-text_by (Some proof) p r layout = text_of proof
-text_by None p r layout = text_in layout.form p r layout.brief layout.names
-
+-- the text of a report: that of its results
 abbrev pub report_text : Program → Report → Layout → List ℕ
-report_text p r layout = text_by r.proof p r.results layout
+report_text p r layout = text_in layout.form p r.results layout.brief layout.names

@@ -64,24 +64,38 @@ pub no_loop_line : (line : List ℕ) → IsNone IsLoop loop_fields line → IsNo
 no_loop_line line none (kind.Loop place set nogood) w = none (place, (set, nogood)) (record { is = w.is; same = behind 111 _ line w.same })
 no_loop_line line none (kind.Learned place nogood names) w = omega (arith, first_bytes 108 111 (learned_fields (place, (nogood, names))) line w.same)
 no_loop_line line none (kind.Cube cube) w = omega (arith, first_bytes 99 111 (literals_fields cube) line w.same)
+no_loop_line line none (kind.Found change) w = omega (arith, first_bytes 102 111 (atoms_fields change) line w.same)
 
 pub no_learned_line : (line : List ℕ) → IsNone IsLearned learned_fields line → IsNone IsLine line_text (108 ∷ line)
 no_learned_line line none (kind.Loop place set nogood) w = omega (arith, first_bytes 111 108 (loop_fields (place, (set, nogood))) line w.same)
 no_learned_line line none (kind.Learned place nogood names) w = none (place, (nogood, names)) (record { is = w.is; same = behind 108 _ line w.same })
 no_learned_line line none (kind.Cube cube) w = omega (arith, first_bytes 99 108 (literals_fields cube) line w.same)
+no_learned_line line none (kind.Found change) w = omega (arith, first_bytes 102 108 (atoms_fields change) line w.same)
 
 pub no_cube_line : (line : List ℕ) → IsNone IsNogood literals_fields line → IsNone IsLine line_text (99 ∷ line)
 no_cube_line line none (kind.Loop place set nogood) w = omega (arith, first_bytes 111 99 (loop_fields (place, (set, nogood))) line w.same)
 no_cube_line line none (kind.Learned place nogood names) w = omega (arith, first_bytes 108 99 (learned_fields (place, (nogood, names))) line w.same)
 no_cube_line line none (kind.Cube cube) w = none cube (record { is = w.is; same = behind 99 _ line w.same })
+no_cube_line line none (kind.Found change) w = omega (arith, first_bytes 102 99 (atoms_fields change) line w.same)
 
-pub no_line : (line : List ℕ) → ((rest : List ℕ) → 111 ∷ rest ≡ line → ⊥) → ((rest : List ℕ) → 108 ∷ rest ≡ line → ⊥) → ((rest : List ℕ) → 99 ∷ rest ≡ line → ⊥) → IsNone IsLine line_text line
-no_line line o l c (kind.Loop place set nogood) w = o (loop_fields (place, (set, nogood))) w.same
-no_line line o l c (kind.Learned place nogood names) w = l (learned_fields (place, (nogood, names))) w.same
-no_line line o l c (kind.Cube cube) w = c (literals_fields cube) w.same
+pub no_found_line : (line : List ℕ) → IsNone IsSet atoms_fields line → IsNone IsLine line_text (102 ∷ line)
+no_found_line line none (kind.Loop place set nogood) w = omega (arith, first_bytes 111 102 (loop_fields (place, (set, nogood))) line w.same)
+no_found_line line none (kind.Learned place nogood names) w = omega (arith, first_bytes 108 102 (learned_fields (place, (nogood, names))) line w.same)
+no_found_line line none (kind.Cube cube) w = omega (arith, first_bytes 99 102 (literals_fields cube) line w.same)
+no_found_line line none (kind.Found change) w = none change (record { is = w.is; same = behind 102 _ line w.same })
+
+pub no_line : (line : List ℕ) → ((rest : List ℕ) → 111 ∷ rest ≡ line → ⊥) → ((rest : List ℕ) → 108 ∷ rest ≡ line → ⊥) → ((rest : List ℕ) → 99 ∷ rest ≡ line → ⊥)
+    → ((rest : List ℕ) → 102 ∷ rest ≡ line → ⊥) → IsNone IsLine line_text line
+no_line line o l c f (kind.Loop place set nogood) w = o (loop_fields (place, (set, nogood))) w.same
+no_line line o l c f (kind.Learned place nogood names) w = l (learned_fields (place, (nogood, names))) w.same
+no_line line o l c f (kind.Cube cube) w = c (literals_fields cube) w.same
+no_line line o l c f (kind.Found change) w = f (atoms_fields change) w.same
 
 pub cube_whole : (line : List ℕ) (cube : List ℤ) → IsWhole IsNogood literals_fields line cube → IsWhole IsLine line_text (99 ∷ line) (kind.Cube cube)
 cube_whole line cube w = record { is = w.is; same = ap (λ (t : List ℕ). 99 ∷ t) w.same }
+
+pub found_whole : (line : List ℕ) (change : Atoms) → IsWhole IsSet atoms_fields line change → IsWhole IsLine line_text (102 ∷ line) (kind.Found change)
+found_whole line change w = record { is = w.is; same = ap (λ (t : List ℕ). 102 ∷ t) w.same }
 
 -- what is read of the fields is read of the line
 pub line_from : {E A B : Type 0} (r : Result (Option A) E) (P : B → Type 0) (fields_text : B → List ℕ) (Q : A → Type 0) (text : A → List ℕ) (b : ℕ) (fields line : List ℕ) → b ∷ fields ≡ line

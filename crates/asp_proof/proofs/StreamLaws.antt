@@ -20,21 +20,21 @@ walked n p rest b = record { is = b.is; parted = refl; counted = b.counted; only
 begun_from : (text : List ℕ) (n : ℕ) (p : Proof) (rest : List ℕ) → IsWalked text n p rest → IsBegun n p
 begun_from text n p rest w = record { is = w.is; counted = w.counted; only = w.only }
 
-pub begun_next : (n : ℕ) (sought : Sought) (answers now_answers : List Atoms) (entries now_entries : List Line) (bytes : List ℕ) →
-    IsBegun n (proof_of sought answers entries) → IsUnbroken bytes → Takes bytes answers entries now_answers now_entries
-    → IsBegun (n + 1) (proof_of sought now_answers now_entries)
-begun_next n sought answers now_answers entries now_entries bytes b u t =
-    begun_from _ (n + 1) (proof_of sought now_answers now_entries) []
-    (walks _ n sought answers now_answers entries now_entries bytes [] (bytes ++ 10 ∷ [])
-    (walked n (proof_of sought answers entries) (bytes ++ 10 ∷ []) b) refl u t)
+pub begun_next : (n : ℕ) (sought : Sought) (entries now_entries : List Line) (answers now_answers : List Atoms) (bytes : List ℕ) →
+    IsBegun n (proof_of sought entries answers) → IsUnbroken bytes → Takes bytes entries answers now_entries now_answers
+    → IsBegun (n + 1) (proof_of sought now_entries now_answers)
+begun_next n sought entries now_entries answers now_answers bytes b u t =
+    begun_from _ (n + 1) (proof_of sought now_entries now_answers) []
+    (walks _ n sought entries now_entries answers now_answers bytes [] (bytes ++ 10 ∷ [])
+    (walked n (proof_of sought entries answers) (bytes ++ 10 ∷ []) b) refl u t)
 
-pub front_next : (n : ℕ) (sought : Sought) (answers now_answers : List Atoms) (entries now_entries : List Line) (bytes after : List ℕ) →
-    IsBegun n (proof_of sought answers entries) → IsUnbroken bytes → Takes bytes answers entries now_answers now_entries
-    → front_of (proof_of sought now_answers now_entries) ++ after ≡ front_of (proof_of sought answers entries) ++ (bytes ++ 10 ∷ after)
-front_next n sought answers now_answers entries now_entries bytes after b u t =
-    (walks _ n sought answers now_answers entries now_entries bytes after (bytes ++ 10 ∷ after) (walked n (proof_of sought answers entries) (bytes ++ 10 ∷ after) b) refl u t).parted
+pub front_next : (n : ℕ) (sought : Sought) (entries now_entries : List Line) (answers now_answers : List Atoms) (bytes after : List ℕ) →
+    IsBegun n (proof_of sought entries answers) → IsUnbroken bytes → Takes bytes entries answers now_entries now_answers
+    → front_of (proof_of sought now_entries now_answers) ++ after ≡ front_of (proof_of sought entries answers) ++ (bytes ++ 10 ∷ after)
+front_next n sought entries now_entries answers now_answers bytes after b u t =
+    (walks _ n sought entries now_entries answers now_answers bytes after (bytes ++ 10 ∷ after) (walked n (proof_of sought entries answers) (bytes ++ 10 ∷ after) b) refl u t).parted
 
-pub line_refused : (n : ℕ) (p : Proof) (bytes after : List ℕ) → IsBegun n p → IsUnbroken bytes → ((part : Bool) → bytes ≡ last_word part → ⊥) → IsRefused bytes p.lines →
+pub line_refused : (n : ℕ) (p : Proof) (bytes after : List ℕ) → IsBegun n p → IsUnbroken bytes → ((part : Bool) → bytes ≡ last_word part → ⊥) → IsRefused bytes p.answers →
     IsFirstFault (front_of p ++ (bytes ++ 10 ∷ after)) (n + 1)
 line_refused n p bytes after b u z r = refused _ n p bytes after (bytes ++ 10 ∷ after) (walked n p (bytes ++ 10 ∷ after) b) refl u z r
 

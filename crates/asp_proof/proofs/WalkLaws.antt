@@ -10,7 +10,7 @@ use Rattle.asp_proof.specs.declared.proof.Line.TheVariants as kind
 use Rattle.asp_proof.specs.declared.proof.Proof.{Proof}
 use Rattle.asp_proof.specs.declared.proof.Sought.{Sought}
 use Rattle.asp_proof.specs.declared.proof.Sought.TheVariants.{All, Best, Optima}
-use Rattle.asp_proof.specs.Texts.{natural_field, integer_field, counted_fields, loop_fields, learned_fields, answer_text, line_text, mode_line, last_word, text_of, line, lines}
+use Rattle.asp_proof.specs.Texts.{natural_field, integer_field, counted_fields, loop_fields, learned_fields, answer_text, line_text, mode_line, last_word, head_text, text_of, line, lines}
 use Rattle.asp_proof.specs.Grammar.{IsAtom, IsLiteral, AreCounted, ArePlaces, IsSet, IsNogood, IsLine, IsProof, IsProofText, Begins, IsUnbroken, IsLines, IsFirstFault}
 use Rattle.asp_proof.specs.Fields.{IsNumber, IsCount, IsWhole}
 use Rattle.asp_proof.specs.Changes.{changes_of, last_of}
@@ -61,6 +61,7 @@ unbroken_line (kind.Learned place nogood names) h = (
       (unbroken_two (counted_fields integer_field nogood) (counted_fields natural_field names) (unbroken_nogood nogood h.1.0) (unbroken_places names h.1.1)),
 )
 unbroken_line (kind.Cube cube) h = ((λ e. omega (arith, e)), unbroken_nogood cube h)
+unbroken_line (kind.Found change) h = ((λ e. omega (arith, e)), unbroken_atoms change h.atoms)
 
 pub last_unbroken : (part : Bool) → IsUnbroken (last_word part)
 last_unbroken true = ((λ e. omega (arith, e)), tt)
@@ -78,42 +79,42 @@ pub front_first : (x more tail : List ℕ) → ((x ++ 10 ∷ []) ++ more) ++ tai
 front_first x more tail = simp append_assoc
 
 -- how a proof's text goes on with a line
-abbrev Next : List Line → List ℕ → List ℕ → Type 0
-Next entries bytes more =
-    ((S : Atoms) × (entries ≡ []) × IsWhole IsSet answer_text bytes S × Ends entries more)
-    ⊎ (((l : Line) × IsWhole IsLine line_text bytes l × ((others : List Line) → Ends others more))
+abbrev Next : List Atoms → List ℕ → List ℕ → Type 0
+Next answers bytes more =
+    ((l : Line) × (answers ≡ []) × IsWhole IsLine line_text bytes l × Ends answers more)
+    ⊎ (((S : Atoms) × IsWhole IsSet answer_text bytes S × ((others : List Atoms) → Ends others more))
     ⊎ ((part : Bool) × (bytes ≡ last_word part) × (more ≡ [])))
 
-next_line : (entries more_lines : List Line) (part : Bool) (bytes more : List ℕ) → IsUnbroken bytes → AllByRecursion IsLine more_lines →
-    lines line_text more_lines ++ line (last_word part) ≡ bytes ++ 10 ∷ more → Next entries bytes more
-next_line entries [] part bytes more u h e =
+next_answer : (answers more_changes : List Atoms) (part : Bool) (bytes more : List ℕ) → IsUnbroken bytes → AllByRecursion IsSet more_changes →
+    lines answer_text more_changes ++ line (last_word part) ≡ bytes ++ 10 ∷ more → Next answers bytes more
+next_answer answers [] part bytes more u h e =
     let p = first_line (last_word part) bytes [] more (last_unbroken part) u e in
     inr (inr (part, sym p.0, sym p.1))
-next_line entries (l ∷ ls) part bytes more u h e =
-    let p = first_line (line_text l) bytes (lines line_text ls ++ line (last_word part)) more (unbroken_line l h.0) u
-    (sym (front_first (line_text l) (lines line_text ls) (line (last_word part))) ∙ e) in
-    inr (inl (l, record { is = h.0; same = p.0 }, λ others. record { more_changes = []; more_lines = ls; are_sets = tt; are_lines = h.1; in_order = λ lt. refl; part = part; same = p.1 }))
+next_answer answers (S ∷ Ss) part bytes more u h e =
+    let p = first_line (answer_text S) bytes (lines answer_text Ss ++ line (last_word part)) more (unbroken_answer S h.0) u
+    (sym (front_first (answer_text S) (lines answer_text Ss) (line (last_word part))) ∙ e) in
+    inr (inl (S, record { is = h.0; same = p.0 }, λ others. record { more_lines = []; more_changes = Ss; are_lines = tt; are_sets = h.1; in_order = λ lt. refl; part = part; same = p.1 }))
 
-none_yet : (entries : List Line) (S : Atoms) (Ss : List Atoms) → (0 < length entries → S ∷ Ss ≡ []) → entries ≡ []
-none_yet [] S Ss o = refl
-none_yet (l ∷ ls) S Ss o = let h = o (omega arith) in absurd cc
+none_yet : (answers : List Atoms) (l : Line) (ls : List Line) → (0 < length answers → l ∷ ls ≡ []) → answers ≡ []
+none_yet [] l ls o = refl
+none_yet (S ∷ Ss) l ls o = let h = o (omega arith) in absurd cc
 
-next_from : (entries more_lines : List Line) (more_changes : List Atoms) (part : Bool) (bytes more : List ℕ) → IsUnbroken bytes →
-    AllByRecursion IsSet more_changes → AllByRecursion IsLine more_lines → (0 < length entries → more_changes ≡ [])
-    → lines answer_text more_changes ++ (lines line_text more_lines ++ line (last_word part)) ≡ bytes ++ 10 ∷ more → Next entries bytes more
-next_from entries ls [] part bytes more u g h o e = next_line entries ls part bytes more u h e
-next_from entries ls (S ∷ Ss) part bytes more u g h o e =
-    let p = first_line (answer_text S) bytes (lines answer_text Ss ++ (lines line_text ls ++ line (last_word part))) more (unbroken_answer S g.0) u
-    (sym (front_first (answer_text S) (lines answer_text Ss) (lines line_text ls ++ line (last_word part))) ∙ e) in
+next_from : (answers more_changes : List Atoms) (more_lines : List Line) (part : Bool) (bytes more : List ℕ) → IsUnbroken bytes →
+    AllByRecursion IsLine more_lines → AllByRecursion IsSet more_changes → (0 < length answers → more_lines ≡ [])
+    → lines line_text more_lines ++ (lines answer_text more_changes ++ line (last_word part)) ≡ bytes ++ 10 ∷ more → Next answers bytes more
+next_from answers Ss [] part bytes more u g h o e = next_answer answers Ss part bytes more u h e
+next_from answers Ss (l ∷ ls) part bytes more u g h o e =
+    let p = first_line (line_text l) bytes (lines line_text ls ++ (lines answer_text Ss ++ line (last_word part))) more (unbroken_line l g.0) u
+    (sym (front_first (line_text l) (lines line_text ls) (lines answer_text Ss ++ line (last_word part))) ∙ e) in
     inl (
-      S,
-      none_yet entries S Ss o,
+      l,
+      none_yet answers l ls o,
       record { is = g.0; same = p.0 },
-      record { more_changes = Ss; more_lines = ls; are_sets = g.1; are_lines = h; in_order = λ lt. let k = o lt in absurd cc; part = part; same = p.1 },
+      record { more_lines = ls; more_changes = Ss; are_lines = g.1; are_sets = h; in_order = λ lt. let k = o lt in absurd cc; part = part; same = p.1 },
     )
 
-next : (entries : List Line) (bytes more : List ℕ) → IsUnbroken bytes → Ends entries (bytes ++ 10 ∷ more) → Next entries bytes more
-next entries bytes more u e = next_from entries e.more_lines e.more_changes e.part bytes more u e.are_sets e.are_lines e.in_order e.same
+next : (answers : List Atoms) (bytes more : List ℕ) → IsUnbroken bytes → Ends answers (bytes ++ 10 ∷ more) → Next answers bytes more
+next answers bytes more u e = next_from answers e.more_changes e.more_lines e.part bytes more u e.are_lines e.are_sets e.in_order e.same
 
 -- ---- lines of different kinds
 
@@ -121,6 +122,7 @@ pub answer_or_line : (S : Atoms) (l : Line) → answer_text S ≡ line_text l �
 answer_or_line S (kind.Loop place set nogood) e = omega (arith, first_bytes 97 111 (counted_fields natural_field S) (loop_fields (place, (set, nogood))) e)
 answer_or_line S (kind.Learned place nogood names) e = omega (arith, first_bytes 97 108 (counted_fields natural_field S) (learned_fields (place, (nogood, names))) e)
 answer_or_line S (kind.Cube cube) e = omega (arith, first_bytes 97 99 (counted_fields natural_field S) (counted_fields integer_field cube) e)
+answer_or_line S (kind.Found change) e = omega (arith, first_bytes 97 102 (counted_fields natural_field S) (counted_fields natural_field change) e)
 
 pub answer_or_last : (S : Atoms) (part : Bool) → answer_text S ≡ last_word part → ⊥
 answer_or_last S true e = omega (arith, first_bytes 97 112 (counted_fields natural_field S) [] e)
@@ -130,29 +132,32 @@ pub line_or_last : (l : Line) (part : Bool) → line_text l ≡ last_word part �
 line_or_last (kind.Loop place set nogood) true e = omega (arith, first_bytes 111 112 (loop_fields (place, (set, nogood))) [] e)
 line_or_last (kind.Learned place nogood names) true e = omega (arith, first_bytes 108 112 (learned_fields (place, (nogood, names))) [] e)
 line_or_last (kind.Cube cube) true e = omega (arith, first_bytes 99 112 (counted_fields integer_field cube) [] e)
+line_or_last (kind.Found change) true e = omega (arith, first_bytes 102 112 (counted_fields natural_field change) [] e)
 line_or_last (kind.Loop place set nogood) false e = omega (arith, first_bytes 111 48 (loop_fields (place, (set, nogood))) [] e)
 line_or_last (kind.Learned place nogood names) false e = omega (arith, first_bytes 108 48 (learned_fields (place, (nogood, names))) [] e)
 line_or_last (kind.Cube cube) false e = omega (arith, first_bytes 99 48 (counted_fields integer_field cube) [] e)
+line_or_last (kind.Found change) false e = omega (arith, first_bytes 102 48 (counted_fields natural_field change) [] e)
 
 -- ---- one more line
 
 lines_more : {A : Type 0} (text : A → List ℕ) (xs : List A) (x : A) → lines text (xs ++ x ∷ []) ≡ lines text xs ++ line (text x)
 lines_more text xs x = flat_map-append (λ y. line (text y)) xs (x ∷ []) ∙ ap (λ (t : List ℕ). lines text xs ++ t) (append-nil (line (text x)))
 
-front_answer : (sought : Sought) (answers : List Atoms) (S D : Atoms) → changes_of (answers ++ S ∷ []) ≡ changes_of answers ++ D ∷ [] →
-    front_of (proof_of sought (answers ++ S ∷ []) []) ≡ front_of (proof_of sought answers []) ++ line (answer_text D)
-front_answer sought answers S D e =
-    let head = codes "proof 2\n" ++ mode_line sought in
-    append-nil (head ++ lines answer_text (changes_of (answers ++ S ∷ [])))
-    ∙ ap (λ (t : List ℕ). head ++ t) (ap (lines answer_text) e ∙ lines_more answer_text (changes_of answers) D)
-    ∙ sym (append_assoc head (lines answer_text (changes_of answers)) (line (answer_text D)))
-    ∙ ap (λ (t : List ℕ). t ++ line (answer_text D)) (sym (append-nil (head ++ lines answer_text (changes_of answers))))
+front_line : (sought : Sought) (entries : List Line) (l : Line) →
+    front_of (proof_of sought (entries ++ l ∷ []) []) ≡ front_of (proof_of sought entries []) ++ line (line_text l)
+front_line sought entries l =
+    let first = head_text sought in
+    append-nil (first ++ lines line_text (entries ++ l ∷ []))
+    ∙ ap (λ (t : List ℕ). first ++ t) (lines_more line_text entries l)
+    ∙ sym (append_assoc first (lines line_text entries) (line (line_text l)))
+    ∙ ap (λ (t : List ℕ). t ++ line (line_text l)) (sym (append-nil (first ++ lines line_text entries)))
 
-front_line : (sought : Sought) (answers : List Atoms) (entries : List Line) (l : Line) → front_of (proof_of sought answers (entries ++ l ∷ [])) ≡ front_of
-    (proof_of sought answers entries) ++ line (line_text l)
-front_line sought answers entries l =
-    let head = codes "proof 2\n" ++ mode_line sought ++ lines answer_text (changes_of answers) in
-    ap (λ (t : List ℕ). head ++ t) (lines_more line_text entries l) ∙ sym (append_assoc head (lines line_text entries) (line (line_text l)))
+front_answer : (sought : Sought) (entries : List Line) (answers : List Atoms) (S D : Atoms) → changes_of (answers ++ S ∷ []) ≡ changes_of answers ++ D ∷ [] →
+    front_of (proof_of sought entries (answers ++ S ∷ [])) ≡ front_of (proof_of sought entries answers) ++ line (answer_text D)
+front_answer sought entries answers S D e =
+    let first = head_text sought ++ lines line_text entries in
+    ap (λ (t : List ℕ). first ++ t) (ap (lines answer_text) e ∙ lines_more answer_text (changes_of answers) D)
+    ∙ sym (append_assoc first (lines answer_text (changes_of answers)) (line (answer_text D)))
 
 -- a line behind a front
 behind_front : (front bytes after : List ℕ) → (front ++ line bytes) ++ after ≡ front ++ (bytes ++ 10 ∷ after)
@@ -175,57 +180,57 @@ record IsFront (p q : Proof) (bytes : List ℕ) : Type 0 where
   pub same : front_of q ≡ front_of p ++ line bytes
 
 walk_on : (text : List ℕ) (n : ℕ) (p q : Proof) (bytes after : List ℕ) → IsWalked text n p (bytes ++ 10 ∷ after) → IsUnbroken bytes → IsFront p q bytes
-    → ((more : List ℕ) → Next p.lines bytes more → Ends q.lines more) → IsWalked text (n + 1) q after
+    → ((more : List ℕ) → Next p.answers bytes more → Ends q.answers more) → IsWalked text (n + 1) q after
 walk_on text n p q bytes after w u f goes = record {
   is = f.is;
   parted = ap (λ (t : List ℕ). t ++ after) f.same ∙ behind_front (front_of p) bytes after ∙ w.parted;
   counted = subst (IsLines (n + 1)) (sym f.same) (lines_and_one n (front_of p) bytes w.counted u);
-  only = λ more t. goes more (next p.lines bytes more u (w.only (bytes ++ 10 ∷ more) (proof_text _ _ (ap (λ (s : List ℕ). s ++ more) f.same ∙ behind_front (front_of p) bytes more) t)));
+  only = λ more t. goes more (next p.answers bytes more u (w.only (bytes ++ 10 ∷ more) (proof_text _ _ (ap (λ (s : List ℕ). s ++ more) f.same ∙ behind_front (front_of p) bytes more) t)));
 }
 
-after_answer : (S : Atoms) (bytes more : List ℕ) → IsWhole IsSet answer_text bytes S → Next [] bytes more → Ends [] more
-after_answer S bytes more w (inl x) = x.3
-after_answer S bytes more w (inr (inl x)) = absurd (answer_or_line S x.0 (w.same ∙ sym x.1.same))
-after_answer S bytes more w (inr (inr x)) = absurd (answer_or_last S x.0 (w.same ∙ x.1))
+after_line : (l : Line) (bytes more : List ℕ) → IsWhole IsLine line_text bytes l → Next [] bytes more → Ends [] more
+after_line l bytes more w (inl x) = x.3
+after_line l bytes more w (inr (inl x)) = absurd (answer_or_line x.0 l (x.1.same ∙ sym w.same))
+after_line l bytes more w (inr (inr x)) = absurd (line_or_last l x.0 (w.same ∙ x.1))
 
-after_line : (entries now : List Line) (l : Line) (bytes more : List ℕ) → IsWhole IsLine line_text bytes l → Next entries bytes more → Ends now more
-after_line entries now l bytes more w (inl x) = absurd (answer_or_line x.0 l (x.2.same ∙ sym w.same))
-after_line entries now l bytes more w (inr (inl x)) = x.2 now
-after_line entries now l bytes more w (inr (inr x)) = absurd (line_or_last l x.0 (w.same ∙ x.1))
+after_answer : (answers now : List Atoms) (S : Atoms) (bytes more : List ℕ) → IsWhole IsSet answer_text bytes S → Next answers bytes more → Ends now more
+after_answer answers now S bytes more w (inl x) = absurd (answer_or_line S x.0 (w.same ∙ sym x.2.same))
+after_answer answers now S bytes more w (inr (inl x)) = x.2 now
+after_answer answers now S bytes more w (inr (inr x)) = absurd (answer_or_last S x.0 (w.same ∙ x.1))
 
-walk_answer : (text : List ℕ) (n : ℕ) (sought : Sought) (answers : List Atoms) (S : Atoms) (bytes after : List ℕ) →
-    IsWalked text n (proof_of sought answers []) (bytes ++ 10 ∷ after) → IsUnbroken bytes → IsNextAnswer answers bytes S
-    → IsWalked text (n + 1) (proof_of sought (answers ++ S ∷ []) []) after
-walk_answer text n sought answers S bytes after w u h =
+walk_line : (text : List ℕ) (n : ℕ) (sought : Sought) (entries : List Line) (l : Line) (bytes after : List ℕ) →
+    IsWalked text n (proof_of sought entries []) (bytes ++ 10 ∷ after) → IsUnbroken bytes → IsWhole IsLine line_text bytes l
+    → IsWalked text (n + 1) (proof_of sought (entries ++ l ∷ []) []) after
+walk_line text n sought entries l bytes after w u h =
+    walk_on text n (proof_of sought entries []) (proof_of sought (entries ++ l ∷ []) []) bytes after w u
+    (record {
+      is = record { lines = each-append IsLine entries (l ∷ []) w.is.lines (h.is, tt); answers = tt };
+      same =
+          front_line sought entries l ∙ ap (λ (t : List ℕ). front_of (proof_of sought entries []) ++ line t) h.same;
+    })
+    (λ more x. after_line l bytes more h x)
+
+walk_answer : (text : List ℕ) (n : ℕ) (sought : Sought) (entries : List Line) (answers : List Atoms) (S : Atoms) (bytes after : List ℕ) →
+    IsWalked text n (proof_of sought entries answers) (bytes ++ 10 ∷ after) → IsUnbroken bytes → IsNextAnswer answers bytes S
+    → IsWalked text (n + 1) (proof_of sought entries (answers ++ S ∷ [])) after
+walk_answer text n sought entries answers S bytes after w u h =
     let set = subst IsSet (sym h.is) (set_changed (last_of answers) h.change (last_set [] answers no_atoms w.is.answers) h.whole.is) in
     let changes = changes_next [] answers S h.change h.whole.is.ascending h.is in
-    walk_on text n (proof_of sought answers []) (proof_of sought (answers ++ S ∷ []) []) bytes after w u
+    walk_on text n (proof_of sought entries answers) (proof_of sought entries (answers ++ S ∷ [])) bytes after w u
     (record {
-      is = record { answers = each-append IsSet answers (S ∷ []) w.is.answers (set, tt); lines = tt };
+      is = record { lines = w.is.lines; answers = each-append IsSet answers (S ∷ []) w.is.answers (set, tt) };
       same =
-          front_answer sought answers S h.change changes ∙ ap (λ (t : List ℕ). front_of (proof_of sought answers []) ++ line t) h.whole.same;
+          front_answer sought entries answers S h.change changes ∙ ap (λ (t : List ℕ). front_of (proof_of sought entries answers) ++ line t) h.whole.same;
     })
-    (λ more x. after_answer h.change bytes more h.whole x)
+    (λ more x. after_answer answers (answers ++ S ∷ []) h.change bytes more h.whole x)
 
-walk_line : (text : List ℕ) (n : ℕ) (sought : Sought) (answers : List Atoms) (entries : List Line) (l : Line) (bytes after : List ℕ) →
-    IsWalked text n (proof_of sought answers entries) (bytes ++ 10 ∷ after) → IsUnbroken bytes → IsWhole IsLine line_text bytes l
-    → IsWalked text (n + 1) (proof_of sought answers (entries ++ l ∷ [])) after
-walk_line text n sought answers entries l bytes after w u h =
-    walk_on text n (proof_of sought answers entries) (proof_of sought answers (entries ++ l ∷ [])) bytes after w u
-    (record {
-      is = record { answers = w.is.answers; lines = each-append IsLine entries (l ∷ []) w.is.lines (h.is, tt) };
-      same =
-          front_line sought answers entries l ∙ ap (λ (t : List ℕ). front_of (proof_of sought answers entries) ++ line t) h.same;
-    })
-    (λ more x. after_line entries (entries ++ l ∷ []) l bytes more h x)
-
-pub walks : (text : List ℕ) (n : ℕ) (sought : Sought) (answers now_answers : List Atoms) (entries now_entries : List Line) (bytes after rest : List ℕ) →
-    IsWalked text n (proof_of sought answers entries) rest → bytes ++ 10 ∷ after ≡ rest → IsUnbroken bytes
-    → Takes bytes answers entries now_answers now_entries → IsWalked text (n + 1) (proof_of sought now_answers now_entries) after
-walks text n sought answers now_answers entries now_entries bytes after rest w e u (inl x) =
-    rw (x.2, x.3) (walk_answer text n sought answers x.0 bytes after (rw (x.1, ← e) at w) u x.4)
-walks text n sought answers now_answers entries now_entries bytes after rest w e u (inr x) =
-    rw (x.1, x.2) (walk_line text n sought answers entries x.0 bytes after (rw (← e) at w) u x.3)
+pub walks : (text : List ℕ) (n : ℕ) (sought : Sought) (entries now_entries : List Line) (answers now_answers : List Atoms) (bytes after rest : List ℕ) →
+    IsWalked text n (proof_of sought entries answers) rest → bytes ++ 10 ∷ after ≡ rest → IsUnbroken bytes
+    → Takes bytes entries answers now_entries now_answers → IsWalked text (n + 1) (proof_of sought now_entries now_answers) after
+walks text n sought entries now_entries answers now_answers bytes after rest w e u (inl x) =
+    rw (x.2, x.3) (walk_line text n sought entries x.0 bytes after (rw (x.1, ← e) at w) u x.4)
+walks text n sought entries now_entries answers now_answers bytes after rest w e u (inr x) =
+    rw (x.1, x.2) (walk_answer text n sought entries answers x.0 bytes after (rw (← e) at w) u x.3)
 
 -- ---- faults
 
@@ -248,15 +253,15 @@ fault text front bytes after n e counted begins u never = record {
   whole = λ t. never after (proof_text _ _ (sym e) t);
 }
 
-never_next : (entries : List Line) (bytes more : List ℕ) → IsRefused bytes entries → ((part : Bool) → bytes ≡ last_word part → ⊥) → Next entries bytes more → ⊥
-never_next entries bytes more r z (inl x) = r.no_answer x.1 x.0 x.2
-never_next entries bytes more r z (inr (inl x)) = r.no_line x.0 x.1
-never_next entries bytes more r z (inr (inr x)) = z x.0 x.1
+never_next : (answers : List Atoms) (bytes more : List ℕ) → IsRefused bytes answers → ((part : Bool) → bytes ≡ last_word part → ⊥) → Next answers bytes more → ⊥
+never_next answers bytes more r z (inl x) = r.no_line x.1 x.0 x.2
+never_next answers bytes more r z (inr (inl x)) = r.no_answer x.0 x.1
+never_next answers bytes more r z (inr (inr x)) = z x.0 x.1
 
 pub refused : (text : List ℕ) (n : ℕ) (p : Proof) (bytes after rest : List ℕ) → IsWalked text n p rest → bytes ++ 10 ∷ after ≡ rest →
-    IsUnbroken bytes → ((part : Bool) → bytes ≡ last_word part → ⊥) → IsRefused bytes p.lines → IsFirstFault text (n + 1)
+    IsUnbroken bytes → ((part : Bool) → bytes ≡ last_word part → ⊥) → IsRefused bytes p.answers → IsFirstFault text (n + 1)
 refused text n p bytes after rest w e u z r = fault text (front_of p) bytes after n (ap (λ (t : List ℕ). front_of p ++ t) e ∙ w.parted) w.counted (begun p w.is) u
-    (λ more t. never_next p.lines bytes more r z (next p.lines bytes more u (w.only (bytes ++ 10 ∷ more) t)))
+    (λ more t. never_next p.answers bytes more r z (next p.answers bytes more u (w.only (bytes ++ 10 ∷ more) t)))
 
 pub left_lacks : (xs ys : List ℕ) → IsUnbroken (xs ++ ys) → IsUnbroken ys
 left_lacks [] ys h = h
@@ -276,18 +281,18 @@ broken_off text n p rest w u = record {
   whole = λ t.
       let e = w.only rest (proof_text _ _ (sym w.parted) t) in
       let h = subst IsUnbroken (sym e.same) u in
-      (left_lacks (last_word e.part) (10 ∷ []) (left_lacks (lines line_text e.more_lines) (line (last_word e.part)) (left_lacks (lines answer_text e.more_changes) _ h))).0 refl;
+      (left_lacks (last_word e.part) (10 ∷ []) (left_lacks (lines answer_text e.more_changes) (line (last_word e.part)) (left_lacks (lines line_text e.more_lines) _ h))).0 refl;
 }
 
 -- ---- the last line
 
 over : (p : Proof) (part : Bool) (text rest : List ℕ) (n : ℕ) → IsWalked text n p rest → (more : List ℕ) → IsProofText (text_of (ended p part) ++ more) → more ≡ []
-over p part text rest n w more t = only_end (next p.lines (last_word part) more (last_unbroken part)
+over p part text rest n w more t = only_end (next p.answers (last_word part) more (last_unbroken part)
     (w.only (last_word part ++ 10 ∷ more) (proof_text _ _ (behind_front (front_of p) (last_word part) more) t)))
   where
-    only_end : Next p.lines (last_word part) more → more ≡ []
-    only_end (inl x) = absurd (answer_or_last x.0 part x.2.same)
-    only_end (inr (inl x)) = absurd (line_or_last x.0 part x.1.same)
+    only_end : Next p.answers (last_word part) more → more ≡ []
+    only_end (inl x) = absurd (line_or_last x.0 part x.2.same)
+    only_end (inr (inl x)) = absurd (answer_or_last x.0 part x.1.same)
     only_end (inr (inr x)) = x.2
 
 nothing_behind : (t : List ℕ) (bytes : List ℕ) → line bytes ++ t ≡ [] → ⊥
@@ -318,13 +323,13 @@ goes_on text n p part bytes after rest w e z more =
 -- ---- the first two lines
 
 abbrev pub head : List ℕ
-head = codes "proof 2\n"
+head = codes "proof 3\n"
 
-pub regroup : (h m a l z : List ℕ) → (((h ++ m) ++ a) ++ l) ++ z ≡ h ++ (m ++ (a ++ (l ++ z)))
-regroup h m a l z = simp append_assoc
+pub regroup : (h m l a z : List ℕ) → (((h ++ m) ++ l) ++ a) ++ z ≡ h ++ (m ++ (l ++ (a ++ z)))
+regroup h m l a z = simp append_assoc
 
-pub parts_of : (p : Proof) → text_of p ≡ head ++ (mode_line p.sought ++ (lines answer_text (changes_of p.answers) ++ (lines line_text p.lines ++ line (last_word p.part))))
-parts_of p = regroup head (mode_line p.sought) (lines answer_text (changes_of p.answers)) (lines line_text p.lines) (line (last_word p.part))
+pub parts_of : (p : Proof) → text_of p ≡ head ++ (mode_line p.sought ++ (lines line_text p.lines ++ (lines answer_text (changes_of p.answers) ++ line (last_word p.part))))
+parts_of p = regroup head (mode_line p.sought) (lines line_text p.lines) (lines answer_text (changes_of p.answers)) (line (last_word p.part))
 
 pub behind_head : (xs ys : List ℕ) → head ++ xs ≡ head ++ ys → xs ≡ ys
 behind_head xs ys e = cc
@@ -354,10 +359,10 @@ behind_mode o q xs ys e = same_behind o xs ys (e ∙ ap (λ (m : Sought). mode_l
 
 -- what a proof's text has behind its first line
 behind_first : (rest : List ℕ) → IsProofText (head ++ rest) → (p : Proof) × IsProof p ×
-    (mode_line p.sought ++ (lines answer_text (changes_of p.answers) ++ (lines line_text p.lines ++ line (last_word p.part))) ≡ rest)
+    (mode_line p.sought ++ (lines line_text p.lines ++ (lines answer_text (changes_of p.answers) ++ line (last_word p.part))) ≡ rest)
 behind_first rest t = (t.proof, t.is, behind_head _ rest (sym (parts_of t.proof) ∙ t.same))
 
-pub head_unbroken : IsUnbroken (codes "proof 2")
+pub head_unbroken : IsUnbroken (codes "proof 3")
 head_unbroken = (
   (λ e. omega (arith, e)),
   (
@@ -391,7 +396,7 @@ mode_break Best xs = refl
 mode_break Optima xs = refl
 
 head_line : IsLines 1 head
-head_line = record { parts = codes "proof 2" ∷ []; counted = refl; unbroken = (head_unbroken, tt); same = refl }
+head_line = record { parts = codes "proof 3" ∷ []; counted = refl; unbroken = (head_unbroken, tt); same = refl }
 
 pub no_mode : (text rest : List ℕ) → head ++ rest ≡ text → ((o : Sought) (xs : List ℕ) → mode_line o ++ xs ≡ rest → ⊥) → IsFirstFault text 2
 no_mode text rest e none = record {
@@ -410,9 +415,9 @@ no_mode text rest e none = record {
 }
 
 two_lines : (o : Sought) → IsLines 2 (front_of (proof_of o [] []))
-two_lines All = record { parts = codes "proof 2" ∷ codes "enum" ∷ []; counted = refl; unbroken = (head_unbroken, (word_unbroken All, tt)); same = refl }
-two_lines Best = record { parts = codes "proof 2" ∷ codes "opt" ∷ []; counted = refl; unbroken = (head_unbroken, (word_unbroken Best, tt)); same = refl }
-two_lines Optima = record { parts = codes "proof 2" ∷ codes "optima" ∷ []; counted = refl; unbroken = (head_unbroken, (word_unbroken Optima, tt)); same = refl }
+two_lines All = record { parts = codes "proof 3" ∷ codes "enum" ∷ []; counted = refl; unbroken = (head_unbroken, (word_unbroken All, tt)); same = refl }
+two_lines Best = record { parts = codes "proof 3" ∷ codes "opt" ∷ []; counted = refl; unbroken = (head_unbroken, (word_unbroken Best, tt)); same = refl }
+two_lines Optima = record { parts = codes "proof 3" ∷ codes "optima" ∷ []; counted = refl; unbroken = (head_unbroken, (word_unbroken Optima, tt)); same = refl }
 
 pub start_regroup : (h m rest : List ℕ) → ((((h ++ m) ++ []) ++ []) ++ rest) ≡ h ++ (m ++ rest)
 start_regroup h m rest = simp (append_assoc, append-nil)

@@ -1,4 +1,4 @@
--- In which atoms each answer differs from the one before it.
+-- In which atoms each set differs from the one before it.
 use Rattle.std.specs.Prelude.{ℕ, nat_lt, if◌then◌else◌, List, [], ◌∷◌}
 use Rattle.asp_model.specs.Sets.{Atoms}
 
@@ -22,9 +22,9 @@ abbrev pub last_from : Atoms → List Atoms → Atoms
 last_from S [] = S
 last_from S (T ∷ Ts) = last_from T Ts
 
--- Before the first answer there is the empty set.
+-- Before the first set there is the empty one.
 abbrev pub changes_of : List Atoms → List Atoms
-changes_of answers = changes_from [] answers
+changes_of sets = changes_from [] sets
 
 abbrev pub last_of : List Atoms → Atoms
-last_of answers = last_from [] answers
+last_of sets = last_from [] sets

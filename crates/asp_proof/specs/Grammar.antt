@@ -57,10 +57,11 @@ abbrev pub IsLine : Line → Type 0
 IsLine (kind.Loop place set nogood) = IsLoop (place, (set, nogood))
 IsLine (kind.Learned place nogood names) = IsLearned (place, (nogood, names))
 IsLine (kind.Cube cube) = IsNogood cube
+IsLine (kind.Found change) = IsSet change
 
 pub record IsProof (p : Proof) : Type 0 where
-  pub answers : AllByRecursion IsSet p.answers
   pub lines : AllByRecursion IsLine p.lines
+  pub answers : AllByRecursion IsSet p.answers
 
 -- the text of some proof
 pub record IsProofText (text : List ℕ) : Type 0 where

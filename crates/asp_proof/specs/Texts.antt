@@ -39,7 +39,7 @@ line bytes = bytes ++ 10 ∷ []
 abbrev pub lines : {A : Type 0} → (A → List ℕ) → List A → List ℕ
 lines text xs = flat_map (λ x. line (text x)) xs
 
--- the atoms in which an answer differs from the one before it
+-- the atoms in which a listed answer differs from the one before it
 abbrev pub answer_text : Atoms → List ℕ
 answer_text S = codes "a" ++ atoms_fields S
 
@@ -55,6 +55,7 @@ abbrev pub line_text : Line → List ℕ
 line_text (kind.Loop place set nogood) = codes "o" ++ loop_fields (place, (set, nogood))
 line_text (kind.Learned place nogood names) = codes "l" ++ learned_fields (place, (nogood, names))
 line_text (kind.Cube literals) = codes "c" ++ literals_fields literals
+line_text (kind.Found change) = codes "f" ++ atoms_fields change
 
 abbrev pub mode_line : Sought → List ℕ
 mode_line sought.All = codes "enum\n"
@@ -65,5 +66,13 @@ mode_line sought.Optima = codes "optima\n"
 abbrev pub last_word : Bool → List ℕ
 last_word part = if part then codes "p" else codes "0"
 
+-- the first two lines
+abbrev pub head_text : Sought → List ℕ
+head_text s = codes "proof 3\n" ++ mode_line s
+
+-- the answers and the last line
+abbrev pub list_text : List Atoms → Bool → List ℕ
+list_text answers part = lines answer_text (changes_of answers) ++ line (last_word part)
+
 abbrev pub text_of : Proof → List ℕ
-text_of p = codes "proof 2\n" ++ mode_line p.sought ++ lines answer_text (changes_of p.answers) ++ lines line_text p.lines ++ line (last_word p.part)
+text_of p = head_text p.sought ++ lines line_text p.lines ++ lines answer_text (changes_of p.answers) ++ line (last_word p.part)

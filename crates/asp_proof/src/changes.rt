@@ -1,4 +1,4 @@
-//! Answers that are told by the atoms in which each differs from the one before it.
+//! Sets that are told by the atoms in which each differs from the one before it.
 ghost use Rattle.std.specs.Prelude.{◌≡◌, ◌+◌, length, IfOk};
 ghost use Rattle.asp_model.specs.Sets.{IsAscending};
 ghost use Rattle.asp_proof.specs.Changes.{changed, last_of};
@@ -96,8 +96,8 @@ fn changed_atoms<'a>(
     }
 }
 
-// The set of the atoms that one of the sets alone has.
-fn changed_set(alloc: Global, one: &[Atom], other: &[Atom]) -> Result<Interp, AllocError>
+/// The set of the atoms that one of the sets alone has: the change from the one to the other, and what such a change makes of the one.
+pub fn changed_set(alloc: Global, one: &[Atom], other: &[Atom]) -> Result<Interp, AllocError>
     requires one { IsAscending one.now }
     requires other { IsAscending other.now }
     ensures { IfOk result (λ set. set ≡ changed one.now other.now) }
@@ -106,14 +106,14 @@ fn changed_set(alloc: Global, one: &[Atom], other: &[Atom]) -> Result<Interp, Al
     Ok(Interp::from_ascending(atoms))
 }
 
-/// The answer that comes after these by this change.
-pub fn next_answer(alloc: Global, answers: &[Interp], change: &Interp) -> Result<Interp, AllocError>
-    ensures { IfOk result (λ answer. answer ≡ changed (last_of answers.now) change.now) }
+/// The set that comes after these by this change.
+pub fn next_set(alloc: Global, sets: &[Interp], change: &Interp) -> Result<Interp, AllocError>
+    ensures { IfOk result (λ set. set ≡ changed (last_of sets.now) change.now) }
 {
-    let count = answers.len();
+    let count = sets.len();
     if count == 0 {
         return changed_set(alloc, &[], change.as_slice());
     }
-    let last = &answers[count - 1];
+    let last = &sets[count - 1];
     changed_set(alloc, last.as_slice(), change.as_slice())
 }

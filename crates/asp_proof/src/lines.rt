@@ -13,9 +13,9 @@ use std::alloc::{AllocError, Global};
 
 /// Whether a proof begins with this line.
 pub fn is_head(line: &[u8]) -> bool
-    ensures { MatchBool result (line.now ≡ codes "proof 2") (line.now ≡ codes "proof 2" → ⊥) }
+    ensures { MatchBool result (line.now ≡ codes "proof 3") (line.now ≡ codes "proof 3" → ⊥) }
 {
-    line == b"proof 2".as_slice()
+    line == b"proof 3".as_slice()
 }
 
 /// Whether the answers of a proof that ends with this line are a part of what was sought. None where no proof ends with it.
@@ -169,6 +169,15 @@ fn cube_line(alloc: Global, line: &[u8]) -> Result<Option<Line>, AllocError>
     }
 }
 
+fn found_line(alloc: Global, line: &[u8]) -> Result<Option<Line>, AllocError>
+    ensures { IfOk result (λ o. MatchOption o (IsNone IsSet atoms_fields line.now) (λ x. IsWhole IsLine line_text (102 ∷ line.now) x)) }
+{
+    match set(alloc, line)? {
+        Some(change) => Ok(Some(Line::Found(change))),
+        None => Ok(None),
+    }
+}
+
 /// The line of which this is the text.
 pub fn line(alloc: Global, line: &[u8]) -> Result<Option<Line>, AllocError>
     ensures { IfOk result (λ o. MatchOption o (IsNone IsLine line_text line.now) (λ x. IsWhole IsLine line_text line.now x)) }
@@ -181,6 +190,9 @@ pub fn line(alloc: Global, line: &[u8]) -> Result<Option<Line>, AllocError>
     }
     if let Some(fields) = after(line, b"c") {
         return cube_line(alloc, fields);
+    }
+    if let Some(fields) = after(line, b"f") {
+        return found_line(alloc, fields);
     }
     Ok(None)
 }

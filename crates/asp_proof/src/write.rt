@@ -6,7 +6,7 @@ ghost use Rattle.asp_model.specs.Sets.{IsAscending};
 ghost use Rattle.asp_proof.specs.Changes.{changed, changes_of};
 ghost use Rattle.asp_proof.specs.Texts.{natural_field, integer_field, counted_fields, line, lines};
 ghost use Rattle.asp_buffer.specs.Out.{Puts, out};
-ghost use Rattle.asp_proof.specs.Texts.{atoms_fields, literals_fields, loop_fields, learned_fields, answer_text, line_text, mode_line, last_word, text_of};
+ghost use Rattle.asp_proof.specs.Texts.{atoms_fields, literals_fields, loop_fields, learned_fields, answer_text, line_text, mode_line, last_word, head_text, list_text, text_of};
 
 use crate::changes::{Turn, count_changed, first_of};
 use crate::proof::{Line, Proof, Sought};
@@ -239,6 +239,14 @@ fn put_kind<K: Sink>(
     put_literals(sink, waiting, literals)
 }
 
+fn put_found<K: Sink>(sink: &mut K, waiting: &mut Waiting, change: &Interp) -> Result<(), Failed>
+    ensures { Puts (out (K.held sink.old) (K.faults sink.old) waiting.old)
+        (out (K.held sink.new) (K.faults sink.new) waiting.new) result (codes "f" ++ atoms_fields change.now) }
+{
+    put(sink, waiting, b"f")?;
+    put_atoms(sink, waiting, change.as_slice())
+}
+
 fn put_fields<K: Sink>(sink: &mut K, waiting: &mut Waiting, line: &Line) -> Result<(), Failed>
     ensures { Puts (out (K.held sink.old) (K.faults sink.old) waiting.old)
         (out (K.held sink.new) (K.faults sink.new) waiting.new) result (line_text line.now) }
@@ -253,6 +261,7 @@ fn put_fields<K: Sink>(sink: &mut K, waiting: &mut Waiting, line: &Line) -> Resu
             names,
         } => put_learned(sink, waiting, *place, nogood.as_slice(), names.as_slice()),
         Line::Cube(literals) => put_kind(sink, waiting, b"c", literals.as_slice()),
+        Line::Found(change) => put_found(sink, waiting, change),
     }
 }
 
@@ -264,7 +273,12 @@ fn put_line<K: Sink>(sink: &mut K, waiting: &mut Waiting, entry: &Line) -> Resul
     put(sink, waiting, b"\n")
 }
 
-fn put_lines<K: Sink>(sink: &mut K, waiting: &mut Waiting, entries: &[Line]) -> Result<(), Failed>
+/// Puts out lines of a proof, which may be some of them.
+pub fn put_lines<K: Sink>(
+    sink: &mut K,
+    waiting: &mut Waiting,
+    entries: &[Line],
+) -> Result<(), Failed>
     ensures { Puts (out (K.held sink.old) (K.faults sink.old) waiting.old)
         (out (K.held sink.new) (K.faults sink.new) waiting.new) result (lines line_text entries.now) }
 {
@@ -290,18 +304,40 @@ fn last_line(part: bool) -> &'static [u8]
     if part { b"p\n" } else { b"0\n" }
 }
 
+/// Puts out the first two lines of a proof.
+pub fn put_head<K: Sink>(sink: &mut K, waiting: &mut Waiting, sought: Sought) -> Result<(), Failed>
+    ensures { Puts (out (K.held sink.old) (K.faults sink.old) waiting.old)
+        (out (K.held sink.new) (K.faults sink.new) waiting.new) result (head_text sought) }
+{
+    put(sink, waiting, b"proof 3\n")?;
+    put(sink, waiting, mode_line(sought))
+}
+
+/// Puts out the answers and the last line of a proof.
+pub fn put_list<K: Sink>(
+    sink: &mut K,
+    waiting: &mut Waiting,
+    answers: &[Interp],
+    part: bool,
+) -> Result<(), Failed>
+    ensures { Puts (out (K.held sink.old) (K.faults sink.old) waiting.old)
+        (out (K.held sink.new) (K.faults sink.new) waiting.new) result (list_text answers.now part) }
+{
+    put_answers(sink, waiting, answers)?;
+    put(sink, waiting, last_line(part))
+}
+
 fn put_proof<K: Sink>(sink: &mut K, waiting: &mut Waiting, proof: &Proof) -> Result<(), Failed>
     ensures { Puts (out (K.held sink.old) (K.faults sink.old) waiting.old)
         (out (K.held sink.new) (K.faults sink.new) waiting.new) result (text_of proof.now) }
 {
-    put(sink, waiting, b"proof 2\n")?;
-    put(sink, waiting, mode_line(proof.sought))?;
-    put_answers(sink, waiting, proof.answers.as_slice())?;
+    put_head(sink, waiting, proof.sought)?;
     put_lines(sink, waiting, proof.lines.as_slice())?;
-    put(sink, waiting, last_line(proof.part))
+    put_list(sink, waiting, proof.answers.as_slice(), proof.part)
 }
 
-/// Writes the text of a proof. It takes no memory. After an error a front of the text is out.
+/// Writes the text of a proof: its first two lines, its lines, its answers and its last line. It takes no memory. After an error a front of
+/// the text is out.
 pub fn write_proof<K: Sink>(sink: &mut K, proof: &Proof) -> Result<(), Failed>
     ensures all { OnOk result (Appends (K.held sink.old) (K.held sink.new) (text_of proof.now)) }
     ensures front { OnErr result (AppendsFront (K.held sink.old) (K.held sink.new) (text_of proof.now)) }

@@ -1,8 +1,9 @@
 //! The leaf of a query, by a search that has entered no cube.
 //!
-//! The literals that each answer of the query has are decided first. The leaf is closed where the search has nothing left, and where one
-//! of these literals is false by decisions that are all among them: then by that literal and these decisions. An answer that lacks one of them, which nothing rules out, ends the
-//! search for the query, as a conflict without a unit does: then nothing is said of it.
+//! The literals that each answer of the query has are decided first. The leaf is closed where the search has nothing left,
+//! and where one of these literals is false by decisions that are all among them: then by that literal and these decisions. An
+//! answer that lacks one of them, which nothing rules out, ends the search for the query, as a conflict without a unit does:
+//! then nothing is said of it.
 ghost use Rattle.std.specs.Prelude.{◌≡◌, ◌+◌, ◌≤◌, false, true, length, IfOk, IsSome, IsTrue};
 ghost use Rattle.asp_model.specs.Holding.{all_hold};
 ghost use Rattle.asp_vars.specs.Numbering.{var_count};

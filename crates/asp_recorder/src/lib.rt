@@ -1,6 +1,8 @@
 //! What a run writes down of its proof.
 #![tactic(auto)]
 
+mod finds;
 mod places;
 pub mod recorder;
 pub mod scroll;
+pub mod tape;

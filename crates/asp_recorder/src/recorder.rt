@@ -6,11 +6,13 @@
 ghost use Rattle.std.specs.Prelude.{◌≡◌, map, IfOk};
 ghost use Rattle.asp_recorder.specs.Numbers.{number_of};
 
+use crate::finds::Finds;
 use crate::places::Places;
+use asp_model::cost::Cost;
 use asp_model::interp::Interp;
 use asp_model::program::Atom;
 use asp_model::seq::Seq;
-use asp_proof::proof::Line;
+use asp_proof::proof::{Line, Sought};
 use asp_vars::lit::Lit;
 use std::alloc::{AllocError, Global};
 use std::cell::Cell;
@@ -22,13 +24,21 @@ struct Loop {
     nogood: Seq<i32>,
 }
 
-/// The lines of a proof that a run has so far.
+/// The lines of a proof that a run has found and nobody has taken.
 #[derive(Drop)]
 pub struct Recorder {
     // where memory comes from
     alloc: Global,
-    // the lines, the oldest first; none before the first
+    // the lines, the oldest first; none where there are none
     lines: Cell<Option<Vec<Line>>>,
+    // the sets that have a line; none before the first
+    finds: Cell<Option<Finds>>,
+    // what is sought
+    sought: Sought,
+    // whether nothing has a line any more
+    over: Cell<bool>,
+    // whether no line is wanted any more
+    refused: Cell<bool>,
     // which places the lines have; none before the first
     places: Cell<Option<Places>>,
     // what propagators gave, the oldest first, whose numbers aren't known yet: loops, and others that need no line
@@ -55,43 +65,96 @@ fn numbers(alloc: Global, lits: &[Lit]) -> Result<Seq<i32>, AllocError>
 }
 
 impl Recorder {
-    /// No lines.
-    pub fn new(alloc: Global) -> Recorder {
+    /// No lines. Where all optima are sought, two searches find them, of which this is the first.
+    pub fn new(alloc: Global, sought: Sought) -> Recorder {
         Recorder {
             alloc,
             lines: Cell::new(None),
+            finds: Cell::new(None),
+            sought,
+            over: Cell::new(false),
+            refused: Cell::new(false),
             places: Cell::new(None),
             waiting: Cell::new(None),
         }
     }
 
-    /// Forgets all that was written down: from now on it is as new.
-    pub fn clear(&self) {
-        self.lines.set(None);
-        self.places.set(None);
-        self.waiting.set(None);
-    }
-
-    // The lines so far, which are to be put back. None before the first.
-    pub(crate) fn take(&self) -> Option<Vec<Line>> {
+    /// The lines so far, the oldest first, which are gone then. None where there are none.
+    pub(crate) fn take_lines(&self) -> Option<Vec<Line>> {
         self.lines.take()
     }
 
-    // From now on these are the lines.
+    /// From now on these are the lines.
     pub(crate) fn put(&self, lines: Vec<Line>) {
         self.lines.set(Some(lines));
     }
 
+    /// From now on each line is refused as by want of memory.
+    pub(crate) fn refuse(&self) {
+        self.refused.set(true);
+    }
+
+    // The sets that have a line, which are to be put back.
+    fn take_finds(&self) -> Finds {
+        match self.finds.take() {
+            Some(finds) => finds,
+            None => Finds::new(self.sought),
+        }
+    }
+
+    /// From now on these are the sets that have a line.
+    pub(crate) fn put_finds(&self, finds: Finds) {
+        self.over.set(finds.is_over());
+        self.finds.set(Some(finds));
+    }
+
+    // The lines so far, which are to be put back, unless none is wanted any more.
+    fn lines(&self) -> Result<Vec<Line>, AllocError> {
+        if self.refused.get() {
+            return Err(AllocError);
+        }
+        match self.take_lines() {
+            Some(lines) => Ok(lines),
+            None => Ok(Vec::new(self.alloc)),
+        }
+    }
+
     // Adds a line at the end. After want of memory the lines are those before.
     fn add(&self, line: Line) -> Result<(), AllocError> {
-        let mut lines = match self.take() {
-            Some(lines) => lines,
-            None => Vec::new(self.alloc),
-        };
+        let mut lines = self.lines()?;
         let added = lines.push(line);
         self.put(lines);
         added?;
         Ok(())
+    }
+
+    // Adds the line of a set, if it has one.
+    fn add_found(&self, set: &Interp, cost: Option<&Cost>) -> Result<(), AllocError> {
+        let mut lines = self.lines()?;
+        let mut finds = self.take_finds();
+        let added = finds.find(self.alloc, &mut lines, set, cost);
+        self.put_finds(finds);
+        self.put(lines);
+        added
+    }
+
+    /// A set that will be listed, and where one that none betters is sought what it costs. It is told before anything that
+    /// follows from it. Where all optima are sought nothing else of a first search has a line then: it would follow from the cost.
+    pub fn found(&self, set: &Interp, cost: Option<&Cost>) -> Result<(), AllocError> {
+        if self.over.get() {
+            return Ok(());
+        }
+        self.add_found(set, cost)
+    }
+
+    /// A second search begins, for all that cost as much as this one, which is found so. What was written down stays.
+    pub fn begin_second(&self, best: &Interp) -> Result<(), AllocError> {
+        self.places.set(None);
+        self.waiting.set(None);
+        let mut finds = self.take_finds();
+        finds.begin_second();
+        self.put_finds(finds);
+        self.add_found(best, None)
     }
 
     // A propagator gave a nogood, of a loop or another one.
@@ -108,6 +171,9 @@ impl Recorder {
 
     /// A set of atoms, in any order, and its loop nogood, which a propagator gives.
     pub fn add_loop(&self, set: &[Atom], nogood: &[Lit]) -> Result<(), AllocError> {
+        if self.over.get() {
+            return Ok(());
+        }
         let atoms = set.to_vec(self.alloc)?;
         let nogood = numbers(self.alloc, nogood)?;
         self.wait(Some(Loop {
@@ -118,6 +184,9 @@ impl Recorder {
 
     /// A propagator gives a nogood that needs no line.
     pub fn add_other(&self) -> Result<(), AllocError> {
+        if self.over.get() {
+            return Ok(());
+        }
         self.wait(None)
     }
 
@@ -200,6 +269,9 @@ impl Recorder {
         nogood: &[Lit],
         uses: &[usize],
     ) -> Result<(), AllocError> {
+        if self.over.get() {
+            return Ok(());
+        }
         let mut places = self.take_places();
         let line = self.learned(&mut places, number, nogood, uses);
         self.places.set(Some(places));
@@ -208,21 +280,10 @@ impl Recorder {
 
     /// The cube of a path that was closed.
     pub fn add_cube(&self, cube: &[Lit]) -> Result<(), AllocError> {
+        if self.over.get() {
+            return Ok(());
+        }
         let cube = numbers(self.alloc, cube)?;
         self.add(Line::Cube(cube))
-    }
-
-    /// The lines, the oldest first.
-    pub fn into_lines(self) -> Seq<Line> {
-        let Recorder {
-            alloc,
-            lines,
-            places: _,
-            waiting: _,
-        } = self;
-        match lines.into_inner() {
-            Some(lines) => Seq::from_vec(lines),
-            None => Seq::from_vec(Vec::new(alloc)),
-        }
     }
 }

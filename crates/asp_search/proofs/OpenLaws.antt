@@ -69,7 +69,8 @@ first_open p q (d ∷ ds) es true o idle starts = absurd (none (idle refl))
 first_open p q (d ∷ ds) es false o idle starts = open_literal (var_count p) q ds d es o (starts refl)
 
 -- ---- nogoods that hold for every search
-shared_by : (p : Program) (known : List Atoms) (bound : Option (List ℤ)) (b : Base) (lits : List Literal) → not (is_local_base b) ≡ true → HitsOnly p (excuse p known bound b) lits → IsSharedBy p b lits
+shared_by : (p : Program) (known : List Atoms) (bound : Option (List ℤ)) (b : Base) (lits : List Literal)
+    → not (is_local_base b) ≡ true → HitsOnly p (excuse p known bound b) lits → IsSharedBy p b lits
 shared_by p known bound base.Pure lits e good = good
 shared_by p known bound (base.Below c) lits e good = good
 shared_by p known bound base.Local lits e good = absurd (false≢true e)

@@ -88,8 +88,8 @@ whole-reason p literals some units enough = record {
   spends = λ e. absurd (false≢true e);
 }
 
-pub least-reasons : {E : Type 0} (p : Program) (literals some : List ℤ) (units : ℕ) (q : Program) (r : Result Core E) → IsSound p → IsSound (assuming p []) → q ≡ assuming p [] → IsEnough p literals some
-    → IfOk r (IsLeast q some units) → IfOk r (λ c. IsReason true p literals true units (Some c))
+pub least-reasons : {E : Type 0} (p : Program) (literals some : List ℤ) (units : ℕ) (q : Program) (r : Result Core E) → IsSound p → IsSound (assuming p []) → q ≡ assuming p []
+    → IsEnough p literals some → IfOk r (IsLeast q some units) → IfOk r (λ c. IsReason true p literals true units (Some c))
 least-reasons p literals some units q (Err e) sound bare is enough h = tt
 least-reasons p literals some units q (Ok c) sound bare is enough h = least-reason p literals some units c sound bare enough (subst (λ (x : Program). IsLeast x some units c) is h)
 

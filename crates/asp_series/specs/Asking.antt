@@ -21,7 +21,6 @@ use Rattle.asp_cli.specs.Found.{seeks_consequences}
 use Rattle.asp_json.specs.declared.entries.Sums.{Sums}
 use Rattle.asp_cli.specs.declared.Form.{Form}
 use Rattle.asp_crew_laws.specs.Reports.{IsReport}
-use Rattle.asp_crew_laws.specs.Proofs.{HasProof}
 use Rattle.asp_series.specs.declared.ask.Sought.{Sought}
 use Rattle.asp_series.specs.declared.cores.Core.{Core}
 use Rattle.asp_series.specs.declared.cores.Shrinking.{Shrinking}
@@ -44,7 +43,6 @@ use Rattle.asp_series.specs.Series.{Answered, AreAnswered, AreSome, HasCore, IsA
 pub record Searches (x : Prepared) (ask : Ask) (units : ℕ) (s : Sought) : Type 0 where
   pub prepared : s.prepared ≡ Some x
   pub report : IsReport x.compiled ask units s.report
-  pub proof : HasProof false s.report
 
 -- what is left of the program was searched
 abbrev pub IsSought : Options → Program → Ask → ℕ → Sought → Type 0

@@ -1,7 +1,6 @@
 //! Who searches a program from scratch.
-ghost use Rattle.std.specs.Prelude.{IfOk, false};
+ghost use Rattle.std.specs.Prelude.{IfOk};
 ghost use Rattle.asp_crew_laws.specs.Reports.{IsReport};
-ghost use Rattle.asp_crew_laws.specs.Proofs.{HasProof};
 
 use asp_counts::counts::Counts;
 use asp_counts::watch::Watch;
@@ -19,7 +18,7 @@ pub trait Solver {
     /// How many units a query may take of a search of this program that is kept, before it is searched from scratch.
     fn patience(&self, compiled: &Compiled) -> u64;
 
-    /// What is asked of a program, with so many units, and without a proof. Want of memory is the one error. What it does is added to
+    /// What is asked of a program, with so many units. Want of memory is the one error. What it does is added to
     /// the counts, and told.
     fn solve<W: Watch>(
         &self,
@@ -32,7 +31,6 @@ pub trait Solver {
     ) -> Result<Report, AllocError>
         requires { may self.now }
         ensures report { IfOk result (IsReport compiled.now ask units) }
-        ensures proof { IfOk result (HasProof false) }
         ensures heard { W.IsAfter watch.old watch.new };
 }
 
@@ -56,6 +54,6 @@ impl Solver for Alone {
         counts: &mut Counts,
         watch: &mut W,
     ) -> Result<Report, AllocError> {
-        solve_alone(alloc, compiled, ask, units, false, counts, watch)
+        solve_alone(alloc, compiled, ask, units, counts, watch, None)
     }
 }

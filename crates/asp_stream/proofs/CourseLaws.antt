@@ -20,7 +20,7 @@ use Rattle.asp_crew.specs.Running.{IsReady, IsUnderway}
 use Rattle.asp_crew.proofs.AddLaws.{adds-trans}
 use Rattle.asp_crew.proofs.RecordLaws.{Recorded, recorded-by}
 use Rattle.asp_crew.proofs.StepLaws.{IsAlong, IsAnswered, answer-may, answered, closed, decided, is-answer, learnt, restarted, unpaid}
-use Rattle.asp_ledger.specs.Ledgers.{enumeration}
+use Rattle.asp_ledger.specs.Ledgers.{IsListing}
 use Rattle.asp_ledger.proofs.LedgerLaws.{no-limit}
 use Rattle.asp_stream.specs.Leaves.{EndsLeaf, GoesOn}
 use Rattle.asp_stream.specs.Streams.{Knows}
@@ -45,7 +45,7 @@ module _ (gives : Nogood → Type 0) (silent : List (Option Bool) → Type 0) (v
       let go = restarted gives silent Enum v s t f g is r h e in
       record { underway = go.underway; only = go.only; cube = go.cube; course = go.course }
 
-  module _ (task : v.task ≡ enumeration v.task.program v.task.budget) where
+  module _ (task : IsListing v.task) where
     pub goes-closed : (n : Nogood) → r ≡ step.Closed n → GoesOn v v s t f g (course.Closed n)
     goes-closed n e =
         let go = closed gives silent Enum v s t f g is r h (no-limit v task) n e in

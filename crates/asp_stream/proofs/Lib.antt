@@ -1,8 +1,10 @@
 pub mod CoverLaws
 pub mod EndLaws
+pub mod FirstLaws
 pub mod CourseLaws
 pub mod LeafLaws
 pub mod LowLaws
 pub mod PartLaws
 pub mod RunLaws
 pub mod StreamLaws
+pub mod TieLaws

@@ -34,7 +34,7 @@ use Rattle.asp_search.specs.Sure.{IsFixed}
 use Rattle.asp_search_laws.specs.Searching.{Searching}
 use Rattle.asp_watermark.specs.Floors.{IsLow}
 use Rattle.asp_watermark.proofs.LeafLaws.{second-cube}
-use Rattle.asp_ledger.specs.Ledgers.{enumeration}
+use Rattle.asp_ledger.specs.Ledgers.{IsListing}
 use Rattle.asp_stream.specs.Lows.{IsSure, IsSureVar, IsToCome, says_true}
 use Rattle.asp_stream.specs.Streams.{Knows}
 use Rattle.asp_ledger.proofs.LedgerLaws.{nothing-sought}
@@ -185,7 +185,7 @@ neither : (x y : Bool) → (x ≡ true → y ≡ true) → y ≡ false → x ≡
 neither true y h e = absurd (false≢true (sym e ∙ h refl))
 neither false y h e = refl
 
-module _ (v : Booked) (s : Searching) (leaf : ℕ) (task : v.task ≡ enumeration v.task.program v.task.budget) (knows : Knows v s leaf) where
+module _ (v : Booked) (s : Searching) (leaf : ℕ) (task : IsListing v.task) (knows : Knows v s leaf) where
   same-program : (board v).task.program ≡ s.program
   same-program = ap (λ (t : Task). t.program) (board-task v) ∙ sym knows.program
 

@@ -18,8 +18,9 @@ use Rattle.asp_path.specs.declared.status.Status.TheVariants as status
 use Rattle.asp_path.specs.Trees.{Node, cube_of, is_leaf, is_unclosed, nowhere, split, status_of, with_status}
 use Rattle.asp_core.specs.declared.event.Event.{Event}
 use Rattle.asp_core.specs.declared.event.Event.TheVariants as event
+use Rattle.asp_core.specs.declared.goal.Goal.{Goal}
 use Rattle.asp_core.specs.declared.task.Task.{Task}
-use Rattle.asp_core.specs.Boards.{Board, is_answer}
+use Rattle.asp_core.specs.Boards.{Board, is_answer, lists}
 use Rattle.asp_core.specs.Sorting.{answers_of}
 use Rattle.asp_core.specs.Events.{Guard, happens}
 use Rattle.asp_book.specs.Books.{Booked, board, with_events, IsJournalOf}
@@ -32,24 +33,24 @@ use Rattle.asp_watermark.specs.Floors.{IsLow, is_below, listed}
 use Rattle.asp_watermark.proofs.BelowLaws.{all-below}
 use Rattle.asp_watermark.proofs.FloorLaws.{IsFloor-start, IsLow-first, IsLow-nothing}
 use Rattle.asp_backlog.specs.Backlogs.{Pending, with_waiting}
-use Rattle.asp_ledger.specs.Ledgers.{enumeration}
+use Rattle.asp_ledger.specs.Ledgers.{IsListing, enumeration, listing}
 use Rattle.asp_backlog.specs.Telling.{IsTold}
-use Rattle.asp_stream.specs.Streams.{Covers, HasHalves, IsFrontOf, IsPart, IsStream, MayRise, divided_by, leaves_of}
+use Rattle.asp_stream.specs.Streams.{Covers, HasHalves, IsFrontOf, IsPart, IsStream, MayRise, divided_by, leaves_of, start_of}
 use Rattle.asp_stream.specs.declared.part.Part.{Part}
 use Rattle.asp_stream.proofs.CoverLaws.{first-status, floor-at, has-later, length-split, parts-happen, status-other}
-use Rattle.asp_ledger.proofs.LedgerLaws.{board-enumerates, board-is, lists-all, no-limit, nothing-sought}
+use Rattle.asp_ledger.proofs.LedgerLaws.{board-is, no-limit, nothing-sought}
 use Rattle.asp_backlog.proofs.ToldLaws.{told-delivered, told-front, told-happens, told-raised}
 
 -- an enumeration lists the program's answers
-pub listed-are : (v : Booked) → v.task ≡ enumeration v.task.program v.task.budget → listed (board v).task ≡ answers v.task.program
-listed-are v task =
-    ap listed (board-enumerates v task) ∙ all-below (answers_of (enumeration v.task.program v.task.budget)) ∙ answers-same v.task.program (asks Enum 0 false) v.task.budget
+pub answers-listed : (p : Program) (budget : ℕ) → listed (enumeration p budget) ≡ answers p
+answers-listed p budget = all-below (answers_of (enumeration p budget)) ∙ answers-same p (asks Enum 0 false) budget
 
 -- nothing has happened
-pub stream-started : (p : Program) (budget : ℕ) (x : Part) → x.leaf ≡ 0 → x.low.set ≡ [] → IsRowOf (atoms_of p) x.low →
-    IsStream p (record { task = enumeration p budget; journal = [] }) 0 [] (record { atoms = atoms_of p; floor = []; sets = [] }) (x ∷ []) (leaves_of (x ∷ []))
-stream-started p budget x leaf set row = record {
+pub stream-started : (p : Program) (g : Goal) (budget : ℕ) (x : Part) → x.leaf ≡ 0 → x.low.set ≡ [] → IsRowOf (atoms_of p) x.low →
+    IsStream p (start_of p g budget) 0 (listed (listing p g budget)) [] (record { atoms = atoms_of p; floor = []; sets = [] }) (x ∷ []) (leaves_of (x ∷ []))
+stream-started p g budget x leaf set row = record {
   program = refl;
+  all_are = refl;
   counted = refl;
   told = record { atoms = refl; floor = IsFloor-start (board v); heard_is = refl; waiting = refl };
   parts_are = (
@@ -64,25 +65,27 @@ stream-started p budget x leaf set row = record {
 }
   where
     v : Booked
-    v = record { task = enumeration p budget; journal = [] }
+    v = start_of p g budget
 
     here : (m : ℕ) → is_unclosed (status_of (board v).nodes m) ≡ true → has (leaves_of (x ∷ [])) m ≡ true
     here zero h = ap (λ y. y || false) (eq-eqb x.leaf 0 leaf)
     here (suc m) h = absurd (false≢true h)
 
-pub deliver-guard : (v : Booked) (S : Atoms) → v.task ≡ enumeration v.task.program v.task.budget → is_answer v.task S ≡ true → Guard (board v) (event.Deliver 0 S)
-deliver-guard v S task answer = (lists-all v task S, ap (λ (t : Task). is_answer t S) (board-task v) ∙ answer, no-limit v task)
+pub deliver-guard : (v : Booked) (S : Atoms) → IsListing v.task → is_answer v.task S ≡ true → lists v.task S ≡ true → Guard (board v) (event.Deliver 0 S)
+deliver-guard v S task answer listed_is =
+    (ap (λ (t : Task). lists t S) (board-task v) ∙ listed_is, ap (λ (t : Task). is_answer t S) (board-task v) ∙ answer, no-limit v task)
 
 -- a delivery
-pub stream-delivered : {count : ℕ} (p : Program) (v w : Booked) (S : Atoms) (heard : List Atoms) (q : Pending) (parts : List Part) (leaves : List ℕ) →
-    v.task ≡ enumeration v.task.program v.task.budget → IsJournalOf v.task v.journal → Guard (board v) (event.Deliver 0 S) →
-    w ≡ with_events v (event.Deliver 0 S ∷ []) → IsStream p v count heard q parts leaves →
-    IsStream p w count heard (record q { sets = with_waiting q.floor S q.sets }) parts leaves
-stream-delivered p v w S heard q parts leaves task lawful guard now is =
+pub stream-delivered : {count : ℕ} (p : Program) (v w : Booked) (S : Atoms) (all heard : List Atoms) (q : Pending) (parts : List Part) (leaves : List ℕ) →
+    IsListing v.task → IsJournalOf v.task v.journal → Guard (board v) (event.Deliver 0 S) →
+    w ≡ with_events v (event.Deliver 0 S ∷ []) → IsStream p v count all heard q parts leaves →
+    IsStream p w count all heard (record q { sets = with_waiting q.floor S q.sets }) parts leaves
+stream-delivered p v w S all heard q parts leaves task lawful guard now is =
     let e : Event = event.Deliver 0 S in
     let b : board w ≡ happens (board v) e = ap board now ∙ board-with v e in
     record {
       program = ap (λ (z : Booked). z.task.program) now ∙ is.program;
+      all_are = is.all_are ∙ ap (λ (z : Booked). listed z.task) (sym now);
       counted = is.counted;
       told = subst (λ (c : Board). IsTold c heard (record q { sets = with_waiting q.floor S q.sets })) (sym b)
           (told-delivered (board v) S heard q (board-is v task lawful) (nothing-sought v task) guard is.told);
@@ -91,36 +94,36 @@ stream-delivered p v w S heard q parts leaves task lawful guard now is =
     }
 
 -- ---- the reader
-pub front-of-told : (v : Booked) (heard : List Atoms) (q : Pending) → v.task ≡ enumeration v.task.program v.task.budget → IsJournalOf v.task v.journal →
-    IsTold (board v) heard q → IsPrefix heard (answers v.task.program)
-front-of-told v heard q task lawful is =
-    subst (IsPrefix heard) (listed-are v task) (told-front (board v) heard q (board-is v task lawful) (nothing-sought v task) is)
+pub front-of-told : (v : Booked) (heard : List Atoms) (q : Pending) → IsListing v.task → IsJournalOf v.task v.journal → IsTold (board v) heard q → IsPrefix heard (listed v.task)
+front-of-told v heard q task lawful is = subst (λ (t : Task). IsPrefix heard (listed t)) (board-task v) (told-front (board v) heard q (board-is v task lawful) (nothing-sought v task) is)
 
-pub front-of : {count : ℕ} (p r : Program) (v : Booked) (heard : List Atoms) (q : Pending) (parts : List Part) (leaves : List ℕ) →
-    v.task ≡ enumeration v.task.program v.task.budget → IsJournalOf v.task v.journal → r ≡ p → IsStream p v count heard q parts leaves → IsFrontOf p r heard
-front-of p r v heard q parts leaves task lawful same is = record {
+pub front-of : {count : ℕ} (p r : Program) (v : Booked) (list all heard : List Atoms) (q : Pending) (parts : List Part) (leaves : List ℕ) →
+    IsListing v.task → IsJournalOf v.task v.journal → r ≡ p → list ≡ all → IsStream p v count all heard q parts leaves → IsFrontOf p all r list heard
+front-of p r v list all heard q parts leaves task lawful same still is = record {
   program = same;
-  front = subst (λ (x : Program). IsPrefix heard (answers x)) is.program (front-of-told v heard q task lawful is.told);
+  all_are = still;
+  front = subst (IsPrefix heard) (sym is.all_are) (front-of-told v heard q task lawful is.told);
 }
 
 -- ---- the floor rises
 -- the atoms of what waits are the program's
-pub stream-atoms : {count : ℕ} (p : Program) (v : Booked) (heard : List Atoms) (q : Pending) (parts : List Part) (leaves : List ℕ) → IsStream p v count heard q parts leaves →
+pub stream-atoms : {count : ℕ} (p : Program) (v : Booked) (all heard : List Atoms) (q : Pending) (parts : List Part) (leaves : List ℕ) → IsStream p v count all heard q parts leaves →
     q.atoms ≡ atoms_of p
-stream-atoms p v heard q parts leaves is = is.told.atoms ∙ ap (λ (t : Task). atoms_of t.program) (board-task v) ∙ ap atoms_of is.program
+stream-atoms p v all heard q parts leaves is = is.told.atoms ∙ ap (λ (t : Task). atoms_of t.program) (board-task v) ∙ ap atoms_of is.program
 
-pub stream-rows : {count : ℕ} (p : Program) (v : Booked) (heard : List Atoms) (q : Pending) (parts : List Part) (leaves : List ℕ) → IsStream p v count heard q parts leaves →
+pub stream-rows : {count : ℕ} (p : Program) (v : Booked) (all heard : List Atoms) (q : Pending) (parts : List Part) (leaves : List ℕ) → IsStream p v count all heard q parts leaves →
     AllByRecursion (λ (x : Part). IsRowOf (atoms_of p) x.low) parts
-stream-rows p v heard q parts leaves is =
+stream-rows p v all heard q parts leaves is =
     each_weaker (IsPart (board v)) (λ (x : Part). IsRowOf (atoms_of p) x.low)
     (λ x part. subst (λ (A : Atoms). IsRowOf A x.low) (ap (λ (t : Task). atoms_of t.program) (board-task v) ∙ ap atoms_of is.program) part.row) parts is.parts_are
 
-pub stream-raised : {count : ℕ} (p : Program) (v : Booked) (leaf : ℕ) (low : Atoms) (heard : List Atoms) (q : Pending) (parts : List Part) →
-    IsStream p v count heard q parts (leaf ∷ leaves_of parts) → IsLow (board v) leaf low → MayRise q.floor parts low →
-    IsStream p v (count + length (filter (is_below (Some low)) q.sets)) (heard ++ filter (is_below (Some low)) q.sets)
+pub stream-raised : {count : ℕ} (p : Program) (v : Booked) (leaf : ℕ) (low : Atoms) (all heard : List Atoms) (q : Pending) (parts : List Part) →
+    IsStream p v count all heard q parts (leaf ∷ leaves_of parts) → IsLow (board v) leaf low → MayRise q.floor parts low →
+    IsStream p v (count + length (filter (is_below (Some low)) q.sets)) all (heard ++ filter (is_below (Some low)) q.sets)
     (record q { floor = low; sets = filter (λ S. not (is_below (Some low) S)) q.sets }) parts (leaf ∷ leaves_of parts)
-stream-raised p v leaf low heard q parts is low-is may = record {
+stream-raised p v leaf low all heard q parts is low-is may = record {
   program = is.program;
+  all_are = is.all_are;
   counted = ap (λ k. k + length (filter (is_below (Some low)) q.sets)) is.counted ∙ sym (length-append heard (filter (is_below (Some low)) q.sets));
   told = told-raised (board v) heard q low is.told (floor-at (board v) leaf q.floor low parts low-is is.parts_are may is.covers) may.higher;
   parts_are = is.parts_are;
@@ -128,16 +131,16 @@ stream-raised p v leaf low heard q parts is low-is may = record {
 }
 
 -- and by what was seen of it
-pub stream-rose : (p : Program) (v : Booked) (leaf : ℕ) (low : Atoms) (count n : ℕ) (heard after sets : List Atoms) (q w : Pending) (parts : List Part) →
-    IsStream p v count heard q parts (leaf ∷ leaves_of parts) → IsLow (board v) leaf low → MayRise q.floor parts low → sets ≡ filter (is_below (Some low)) q.sets →
+pub stream-rose : (p : Program) (v : Booked) (leaf : ℕ) (low : Atoms) (count n : ℕ) (all heard after sets : List Atoms) (q w : Pending) (parts : List Part) →
+    IsStream p v count all heard q parts (leaf ∷ leaves_of parts) → IsLow (board v) leaf low → MayRise q.floor parts low → sets ≡ filter (is_below (Some low)) q.sets →
     n ≡ count + length sets → after ≡ heard ++ sets → w ≡ record q { floor = low; sets = filter (λ S. not (is_below (Some low) S)) q.sets } →
-    IsStream p v n after w parts (leaf ∷ leaves_of parts)
-stream-rose p v leaf low count n heard after sets q w parts is low-is may sets-are counted heard-is waits =
-    subst (λ k. IsStream p v k after w parts (leaf ∷ leaves_of parts)) (sym (counted ∙ ap (λ (X : List Atoms). count + length X) sets-are))
-    (subst (λ (X : List Atoms). IsStream p v (count + length (filter (is_below (Some low)) q.sets)) X w parts (leaf ∷ leaves_of parts))
+    IsStream p v n all after w parts (leaf ∷ leaves_of parts)
+stream-rose p v leaf low count n all heard after sets q w parts is low-is may sets-are counted heard-is waits =
+    subst (λ k. IsStream p v k all after w parts (leaf ∷ leaves_of parts)) (sym (counted ∙ ap (λ (X : List Atoms). count + length X) sets-are))
+    (subst (λ (X : List Atoms). IsStream p v (count + length (filter (is_below (Some low)) q.sets)) all X w parts (leaf ∷ leaves_of parts))
     (sym (heard-is ∙ ap (λ (X : List Atoms). heard ++ X) sets-are))
-    (subst (λ (z : Pending). IsStream p v (count + length (filter (is_below (Some low)) q.sets)) (heard ++ filter (is_below (Some low)) q.sets) z parts (leaf ∷ leaves_of parts)) (sym waits)
-    (stream-raised p v leaf low heard q parts is low-is may)))
+    (subst (λ (z : Pending). IsStream p v (count + length (filter (is_below (Some low)) q.sets)) all (heard ++ filter (is_below (Some low)) q.sets) z parts (leaf ∷ leaves_of parts)) (sym waits)
+    (stream-raised p v leaf low all heard q parts is low-is may)))
 
 -- ---- a leaf that is split
 stood : (nodes : List Node) (x y : Node) (m : ℕ) →
@@ -212,13 +215,14 @@ leaves-halves : (parts : List Part) (right left : Part) → leaves_of (parts ++ 
 leaves-halves [] right left = refl
 leaves-halves (p ∷ parts) right left = ap (λ (l : List ℕ). p.leaf ∷ l) (leaves-halves parts right left)
 
-pub stream-divided : {count : ℕ} (p : Program) (x : Booked) (leaf : ℕ) (l : Literal) (first second : Row) (heard : List Atoms) (q : Pending) (parts new : List Part) →
-    IsStream p x count heard q parts (leaf ∷ leaves_of parts) → Guard (board x) (event.Split 0 leaf l) →
+pub stream-divided : {count : ℕ} (p : Program) (x : Booked) (leaf : ℕ) (l : Literal) (first second : Row) (all heard : List Atoms) (q : Pending) (parts new : List Part) →
+    IsStream p x count all heard q parts (leaf ∷ leaves_of parts) → Guard (board x) (event.Split 0 leaf l) →
     IsLow (board x) leaf first.set → IsLow (happens (board x) (event.Split 0 leaf l)) (length (board x).nodes + 1) second.set →
     IsRowOf (atoms_of (board x).task.program) first → IsRowOf (atoms_of (board x).task.program) second →
-    HasHalves (length (board x).nodes, length (board x).nodes + 1) first second parts new → IsStream p (divided_by x leaf l) count heard q new (leaves_of new)
-stream-divided p x leaf l first second heard q parts new is guard low low2 row row2 halves = record {
+    HasHalves (length (board x).nodes, length (board x).nodes + 1) first second parts new → IsStream p (divided_by x leaf l) count all heard q new (leaves_of new)
+stream-divided p x leaf l first second all heard q parts new is guard low low2 row row2 halves = record {
   program = is.program;
+  all_are = is.all_are;
   counted = is.counted;
   told = subst (λ (c : Board). IsTold c heard q) (sym b2) (told-happens b1 e2 heard q guard2 refl refl (told-happens (board x) e1 heard q guard refl refl is.told));
   parts_are = subst (λ (c : Board). AllByRecursion (IsPart c) new) (sym b2) (parts-happen b1 e2 new guard2 halves-are);

@@ -77,9 +77,9 @@ pub record IsStreamAtEnd (s : Stream) (heard : List Atoms) : Type 0 where
   pub told : IsTold (board s.ledger) heard s.backlog
   pub counted : s.heard ≡ length heard
 
-abbrev pub IsStreamAfter : Stream → List Atoms → Option End → Type 0
-IsStreamAfter s heard None = IsStreamOf s heard (leaves_of s.parts.items)
-IsStreamAfter s heard (Some e) = IsStreamAtEnd s heard
+abbrev pub IsStreamAfter : Stream → List Atoms → List Atoms → Option End → Type 0
+IsStreamAfter s all heard None = IsStreamOf s all heard (leaves_of s.parts.items)
+IsStreamAfter s all heard (Some e) = IsStreamAtEnd s heard
 
 -- what is left of a leaf that was held
 pub record LeavesHeld (v w : Booked) (leaf : ℕ) (t : Searching) (g : Units) (how : Option End) : Type 0 where

@@ -4,7 +4,7 @@ use Rattle.std.specs.List.{AllByRecursion}
 use mathlib.Core.List.{IsPrefix}
 use Rattle.asp_model.specs.declared.program.Program.{Program}
 use Rattle.asp_model.specs.declared.results.Mode.TheVariants.{Enum}
-use Rattle.asp_model.specs.Models.{answers, atoms_of}
+use Rattle.asp_model.specs.Models.{atoms_of}
 use Rattle.asp_model.specs.Sets.{Atoms, has}
 use Rattle.asp_vars.specs.Literals.{Literal}
 use Rattle.asp_rows.specs.declared.row.Row.{Row}
@@ -16,10 +16,11 @@ use Rattle.asp_book.specs.Books.{Booked, board, with_events}
 use Rattle.asp_search.specs.Beside.{IsOpen}
 use Rattle.asp_search_laws.specs.Searching.{Searching}
 use Rattle.asp_crew_laws.specs.Agrees.{Agrees}
-use Rattle.asp_watermark.specs.Floors.{IsLow, is_below}
+use Rattle.asp_core.specs.declared.goal.Goal.{Goal}
+use Rattle.asp_watermark.specs.Floors.{IsLow, is_below, listed}
 use Rattle.asp_backlog.specs.Backlogs.{Pending}
 use Rattle.asp_backlog.specs.Telling.{IsTold}
-use Rattle.asp_ledger.specs.Ledgers.{enumeration}
+use Rattle.asp_ledger.specs.Ledgers.{listing}
 use Rattle.asp_stream.specs.declared.part.Part.{Part}
 use Rattle.asp_stream.specs.declared.stream.Stream.{Stream}
 use Rattle.asp_stream.specs.declared.stream.View.{View}
@@ -38,27 +39,34 @@ leaves_of parts = map (λ (p : Part). p.leaf) parts
 abbrev pub Covers : Board → List ℕ → Type 0
 Covers b leaves = (leaf : ℕ) → IsTrue (is_unclosed (status_of b.nodes leaf)) → IsTrue (has leaves leaf)
 
--- A stream of the program's answers, whose leaves that aren't closed are among these. So many were heard.
-pub record IsStream (p : Program) (v : Booked) (count : ℕ) (heard : List Atoms) (w : Pending) (parts : List Part) (leaves : List ℕ) : Type 0 where
+-- A stream of these of the program's answers, all that the goal lists, whose leaves that aren't closed are among these. So many were
+-- heard.
+pub record IsStream (p : Program) (v : Booked) (count : ℕ) (all heard : List Atoms) (w : Pending) (parts : List Part) (leaves : List ℕ) : Type 0 where
   pub program : v.task.program ≡ p
+  pub all_are : all ≡ listed v.task
   pub counted : count ≡ length heard
   pub told : IsTold (board v) heard w
   pub parts_are : AllByRecursion (IsPart (board v)) parts
   pub covers : Covers (board v) leaves
 
-abbrev pub IsStreamOf : Stream → List Atoms → List ℕ → Type 0
-IsStreamOf s heard leaves = IsStream s.compiled.now s.ledger s.heard heard s.backlog s.parts.items leaves
+abbrev pub IsStreamOf : Stream → List Atoms → List Atoms → List ℕ → Type 0
+IsStreamOf s all heard leaves = IsStream s.compiled.now s.ledger s.heard all heard s.backlog s.parts.items leaves
+
+-- a ledger at which nothing has happened
+abbrev pub start_of : Program → Goal → ℕ → Booked
+start_of p g budget = record { task = listing p g budget; journal = [] }
 
 -- Nothing has happened, nothing waits, and the one part is the tree's one leaf.
-pub record IsStart (p : Program) (budget : ℕ) (s : Stream) : Type 0 where
+pub record IsStart (p : Program) (g : Goal) (budget : ℕ) (s : Stream) : Type 0 where
   pub compiled : s.compiled.now ≡ p
-  pub ledger : s.ledger ≡ record { task = enumeration p budget; journal = [] }
-  pub stream : IsStreamOf s [] (leaves_of s.parts.items)
+  pub ledger : s.ledger ≡ start_of p g budget
+  pub stream : IsStreamOf s (listed (listing p g budget)) [] (leaves_of s.parts.items)
 
--- The reader is still the program's, and heard a front of the list of its answers.
-pub record IsFrontOf (p q : Program) (heard : List Atoms) : Type 0 where
+-- The reader is still the program's and its list the same, and it heard a front of that.
+pub record IsFrontOf (p : Program) (all : List Atoms) (q : Program) (list heard : List Atoms) : Type 0 where
   pub program : q ≡ p
-  pub front : IsPrefix heard (answers p)
+  pub all_are : list ≡ all
+  pub front : IsPrefix heard all
 
 -- Only what waits, and where the floor is, may have changed.
 pub record Keeps (s t : Stream) : Type 0 where

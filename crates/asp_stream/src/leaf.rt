@@ -81,7 +81,7 @@ fn advance<P: Propagator>(
     requires program { stream.old.ledger.task.program ≡ stream.old.compiled.now }
     requires atoms { stream.old.backlog.atoms ≡ atoms_of stream.old.compiled.now }
     ensures goes { IfOk result (GoesOn stream.old.ledger stream.new.ledger search.old search.new fuel.old fuel.new) }
-    ensures stream { IfOk result (λ c. (heard : List Atoms) (leaves : List ℕ) → IsStreamOf stream.old heard leaves → IsStreamOf stream.new heard leaves) }
+    ensures stream { IfOk result (λ c. (all heard : List Atoms) (leaves : List ℕ) → IsStreamOf stream.old all heard leaves → IsStreamOf stream.new all heard leaves) }
     ensures same { (stream.new.compiled ≡ stream.old.compiled) × (stream.new.parts ≡ stream.old.parts) }
 {
     stream.ledger.lawful();
@@ -111,13 +111,13 @@ fn run<P: Propagator, W: Watch, R: Reader>(
 ) -> Result<Left, AllocError>
     requires underway { IsUnderway Enum stream.old.ledger search.old fuel.old }
     requires cube { search.old.cube ≡ Some (cube_of (board stream.old.ledger).nodes leaf) }
-    requires stream { IsStreamOf stream.old (R.heard reader.old) (leaf ∷ leaves_of stream.old.parts.items) }
+    requires stream { IsStreamOf stream.old (R.all reader.old) (R.heard reader.old) (leaf ∷ leaves_of stream.old.parts.items) }
     requires program { R.program reader.old ≡ stream.old.compiled.now }
     ensures same { (stream.new.compiled ≡ stream.old.compiled) × (stream.new.parts ≡ stream.old.parts) }
     ensures ends { IfOk result (EndsLeaf stream.old.ledger stream.new.ledger leaf search.old search.new fuel.new) }
     ensures unwanted { IfOk result (λ left. left ≡ Left.Unwanted → R.wants reader.new ≡ false) }
-    ensures stream { IfOk result (λ left. IsStreamOf stream.new (R.heard reader.new) (leaf ∷ leaves_of stream.new.parts.items)) }
-    ensures front { IsFrontOf stream.old.compiled.now (R.program reader.new) (R.heard reader.new) }
+    ensures stream { IfOk result (λ left. IsStreamOf stream.new (R.all reader.new) (R.heard reader.new) (leaf ∷ leaves_of stream.new.parts.items)) }
+    ensures front { IsFrontOf stream.old.compiled.now (R.all reader.old) (R.program reader.new) (R.all reader.new) (R.heard reader.new) }
     ensures after { R.IsAfter reader.old reader.new }
     ensures heard { W.IsAfter watch.old watch.new }
 {
@@ -162,14 +162,14 @@ fn search_leaf<P: Propagator, W: Watch, R: Reader>(
 ) -> Result<Option<End>, AllocError>
     requires ready { IsReady Enum stream.old.ledger search.old fuel.old }
     requires held { status_of (board stream.old.ledger).nodes leaf ≡ status.Held 0 }
-    requires stream { IsStreamOf stream.old (R.heard reader.old) (leaf ∷ leaves_of stream.old.parts.items) }
+    requires stream { IsStreamOf stream.old (R.all reader.old) (R.heard reader.old) (leaf ∷ leaves_of stream.old.parts.items) }
     requires program { R.program reader.old ≡ stream.old.compiled.now }
     ensures compiled { stream.new.compiled ≡ stream.old.compiled }
     ensures leaves { IfOk result (LeavesHeld stream.old.ledger stream.new.ledger leaf search.new fuel.new) }
     ensures less { IfOk result (λ end. end ≡ None → parts_left stream.new.ledger stream.new.parts.items < 1 + parts_left stream.old.ledger stream.old.parts.items) }
-    ensures stream { IfOk result (IsStreamAfter stream.new (R.heard reader.new)) }
+    ensures stream { IfOk result (IsStreamAfter stream.new (R.all reader.new) (R.heard reader.new)) }
     ensures unwanted { IfOk result (λ end. end ≡ Some End.Unwanted → R.wants reader.new ≡ false) }
-    ensures front { IsFrontOf stream.old.compiled.now (R.program reader.new) (R.heard reader.new) }
+    ensures front { IsFrontOf stream.old.compiled.now (R.all reader.old) (R.program reader.new) (R.all reader.new) (R.heard reader.new) }
     ensures after { R.IsAfter reader.old reader.new }
     ensures heard { W.IsAfter watch.old watch.new }
 {
@@ -210,14 +210,14 @@ pub(crate) fn work_off<P: Propagator, W: Watch, R: Reader>(
     requires ready { IsReady Enum stream.old.ledger search.old fuel.old }
     requires alone { IsAlone (board stream.old.ledger) }
     requires part { IsPart (board stream.old.ledger) part }
-    requires stream { IsStreamOf stream.old (R.heard reader.old) (part.leaf ∷ leaves_of stream.old.parts.items) }
+    requires stream { IsStreamOf stream.old (R.all reader.old) (R.heard reader.old) (part.leaf ∷ leaves_of stream.old.parts.items) }
     requires program { R.program reader.old ≡ stream.old.compiled.now }
     ensures compiled { stream.new.compiled ≡ stream.old.compiled }
     ensures leaves { IfOk result (LeavesPart stream.old.ledger stream.new.ledger search.new fuel.new) }
     ensures less { IfOk result (λ end. end ≡ None → parts_left stream.new.ledger stream.new.parts.items < 1 + parts_left stream.old.ledger stream.old.parts.items) }
-    ensures stream { IfOk result (IsStreamAfter stream.new (R.heard reader.new)) }
+    ensures stream { IfOk result (IsStreamAfter stream.new (R.all reader.new) (R.heard reader.new)) }
     ensures unwanted { IfOk result (λ end. end ≡ Some End.Unwanted → R.wants reader.new ≡ false) }
-    ensures front { IsFrontOf stream.old.compiled.now (R.program reader.new) (R.heard reader.new) }
+    ensures front { IsFrontOf stream.old.compiled.now (R.all reader.old) (R.program reader.new) (R.all reader.new) (R.heard reader.new) }
     ensures after { R.IsAfter reader.old reader.new }
     ensures heard { W.IsAfter watch.old watch.new }
 {

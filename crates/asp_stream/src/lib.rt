@@ -14,5 +14,5 @@ mod stream;
 mod told;
 mod waiting;
 
-pub use run::stream_alone;
-pub use told::{End, Told, into_report};
+pub use run::{stream_alone, stream_ties};
+pub use told::{End, Told, into_joined, into_report};

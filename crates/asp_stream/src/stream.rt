@@ -8,10 +8,11 @@ ghost use Rattle.asp_vars.specs.Numbering.{IsVar, var_count};
 ghost use Rattle.asp_rows.specs.Listed.{IsRowOf};
 ghost use Rattle.asp_path.specs.declared.status.Status.TheVariants as status;
 ghost use Rattle.asp_path.specs.Trees.{cube_of, status_of};
-ghost use Rattle.asp_core.specs.Boards.{is_answer};
+ghost use Rattle.asp_core.specs.Boards.{is_answer, lists};
 ghost use Rattle.asp_core.specs.declared.event.Event.TheVariants as event;
 ghost use Rattle.asp_book.specs.Books.{board, with_events};
 ghost use Rattle.asp_search.specs.Beside.{IsOpen};
+ghost use Rattle.asp_ledger.specs.Ledgers.{ListsAnswers};
 ghost use Rattle.asp_watermark.specs.Floors.{IsLow};
 ghost use Rattle.asp_stream.specs.Streams.{HasHalves, IsCrowded, IsFrontOf, IsStart, IsStreamOf, Keeps, Knows, MayRise, divided_by, leaves_of};
 
@@ -20,6 +21,7 @@ use crate::pace::Pace;
 use crate::part::{Part, none_before};
 use crate::waiting::{count_without, is_set, nth};
 use asp_backlog::backlog::Backlog;
+use asp_core::goal::Goal;
 use asp_ledger::ledger::Ledger;
 use asp_model::interp::Interp;
 use asp_outlet::Reader;
@@ -71,15 +73,17 @@ fn nothing(alloc: Global, compiled: &Compiled) -> Result<Row, AllocError>
 }
 
 impl<'a> Stream<'a> {
-    /// A stream of which nothing was told: the one leaf waits to be worked on.
+    /// A stream of all answers that the goal lists, of which nothing was told: the one leaf waits to be worked on.
     pub fn start(
         alloc: Global,
         compiled: &'a Compiled,
+        goal: &Goal,
         budget: u64,
     ) -> Result<Stream<'a>, AllocError>
-        ensures { IfOk result (IsStart compiled.now budget) }
+        requires { ListsAnswers goal.now }
+        ensures { IfOk result (IsStart compiled.now goal.now budget) }
     {
-        let ledger = Ledger::start(alloc, compiled, budget)?;
+        let ledger = Ledger::start(alloc, compiled, goal, budget)?;
         let backlog = Backlog::new(alloc, compiled.atoms())?;
         let low = nothing(alloc, compiled)?;
         let mut parts = Vec::new(alloc);
@@ -101,14 +105,15 @@ impl<'a> Stream<'a> {
         })
     }
 
-    /// Delivers an answer, which waits from now on, if it isn't there.
+    /// Delivers an answer that the goal lists, which waits from now on, if it isn't there.
     pub fn deliver(&mut self, set: &Interp) -> Result<(), AllocError>
         requires answer { IsTrue (is_answer self.old.ledger.task set.now) }
+        requires listed { IsTrue (lists self.old.ledger.task set.now) }
         requires program { self.old.ledger.task.program ≡ self.old.compiled.now }
         requires atoms { self.old.backlog.atoms ≡ atoms_of self.old.compiled.now }
         ensures ledger { OnOk result (self.new.ledger ≡ with_events self.old.ledger (event.Deliver 0 set.now ∷ [])) }
         ensures same { (self.new.compiled ≡ self.old.compiled) × (self.new.parts ≡ self.old.parts) }
-        ensures told { OnOk result ((heard : List Atoms) (leaves : List ℕ) → IsStreamOf self.old heard leaves → IsStreamOf self.new heard leaves) }
+        ensures told { OnOk result ((all heard : List Atoms) (leaves : List ℕ) → IsStreamOf self.old all heard leaves → IsStreamOf self.new all heard leaves) }
     {
         self.ledger.lawful();
         self.ledger.deliver(set)?;
@@ -150,15 +155,15 @@ fn raise<R: Reader>(
     low: Row,
     reader: &mut R,
 ) -> Result<bool, AllocError>
-    requires stream { IsStreamOf stream.old (R.heard reader.old) (leaf ∷ leaves_of stream.old.parts.items) }
+    requires stream { IsStreamOf stream.old (R.all reader.old) (R.heard reader.old) (leaf ∷ leaves_of stream.old.parts.items) }
     requires program { R.program reader.old ≡ stream.old.compiled.now }
     requires low { IsLow (board stream.old.ledger) leaf low.set }
     requires row { IsRowOf (atoms_of stream.old.compiled.now) low }
     requires rises { MayRise stream.old.backlog.floor stream.old.parts.items low.set }
     ensures keeps { Keeps stream.old stream.new }
-    ensures stream { IfOk result (λ wanted. IsStreamOf stream.new (R.heard reader.new) (leaf ∷ leaves_of stream.new.parts.items)) }
+    ensures stream { IfOk result (λ wanted. IsStreamOf stream.new (R.all reader.new) (R.heard reader.new) (leaf ∷ leaves_of stream.new.parts.items)) }
     ensures unwanted { IfOk result (λ wanted. wanted ≡ false → R.wants reader.new ≡ false) }
-    ensures front { IsFrontOf stream.old.compiled.now (R.program reader.new) (R.heard reader.new) }
+    ensures front { IsFrontOf stream.old.compiled.now (R.all reader.old) (R.program reader.new) (R.all reader.new) (R.heard reader.new) }
     ensures after { R.IsAfter reader.old reader.new }
 {
     stream.ledger.lawful();
@@ -175,14 +180,14 @@ pub(crate) fn tell<R: Reader>(
     low: Row,
     reader: &mut R,
 ) -> Result<bool, AllocError>
-    requires stream { IsStreamOf stream.old (R.heard reader.old) (leaf ∷ leaves_of stream.old.parts.items) }
+    requires stream { IsStreamOf stream.old (R.all reader.old) (R.heard reader.old) (leaf ∷ leaves_of stream.old.parts.items) }
     requires program { R.program reader.old ≡ stream.old.compiled.now }
     requires low { IsLow (board stream.old.ledger) leaf low.set }
     requires row { IsRowOf (atoms_of stream.old.compiled.now) low }
     ensures keeps { Keeps stream.old stream.new }
-    ensures stream { IfOk result (λ wanted. IsStreamOf stream.new (R.heard reader.new) (leaf ∷ leaves_of stream.new.parts.items)) }
+    ensures stream { IfOk result (λ wanted. IsStreamOf stream.new (R.all reader.new) (R.heard reader.new) (leaf ∷ leaves_of stream.new.parts.items)) }
     ensures unwanted { IfOk result (λ wanted. wanted ≡ false → R.wants reader.new ≡ false) }
-    ensures front { IsFrontOf stream.old.compiled.now (R.program reader.new) (R.heard reader.new) }
+    ensures front { IsFrontOf stream.old.compiled.now (R.all reader.old) (R.program reader.new) (R.all reader.new) (R.heard reader.new) }
     ensures after { R.IsAfter reader.old reader.new }
 {
     stream.ledger.lawful();
@@ -249,14 +254,14 @@ pub(crate) fn look<P: Propagator, R: Reader>(
     search: &Search<'_, P>,
     reader: &mut R,
 ) -> Result<View, AllocError>
-    requires stream { IsStreamOf stream.old (R.heard reader.old) (leaf ∷ leaves_of stream.old.parts.items) }
+    requires stream { IsStreamOf stream.old (R.all reader.old) (R.heard reader.old) (leaf ∷ leaves_of stream.old.parts.items) }
     requires program { R.program reader.old ≡ stream.old.compiled.now }
     requires knows { Knows stream.old.ledger search.now leaf }
     ensures keeps { Keeps stream.old stream.new }
-    ensures stream { IfOk result (λ view. IsStreamOf stream.new (R.heard reader.new) (leaf ∷ leaves_of stream.new.parts.items)) }
+    ensures stream { IfOk result (λ view. IsStreamOf stream.new (R.all reader.new) (R.heard reader.new) (leaf ∷ leaves_of stream.new.parts.items)) }
     ensures view { IfOk result (IsCrowded stream.old.ledger leaf) }
     ensures unwanted { IfOk result (λ view. view ≡ View.Unwanted → R.wants reader.new ≡ false) }
-    ensures front { IsFrontOf stream.old.compiled.now (R.program reader.new) (R.heard reader.new) }
+    ensures front { IsFrontOf stream.old.compiled.now (R.all reader.old) (R.program reader.new) (R.all reader.new) (R.heard reader.new) }
     ensures after { R.IsAfter reader.old reader.new }
 {
     stream.ledger.lawful();
@@ -334,7 +339,7 @@ pub(crate) fn divide<P: Propagator>(
     ensures compiled { stream.new.compiled ≡ stream.old.compiled }
     ensures ledger { OnOk result (stream.new.ledger ≡ divided_by stream.old.ledger leaf lit) }
     ensures parts { OnOk result (length stream.new.parts.items ≡ length stream.old.parts.items + 2) }
-    ensures stream { OnOk result ((heard : List Atoms) → IsStreamOf stream.old heard (leaf ∷ leaves_of stream.old.parts.items) → IsStreamOf stream.new heard (leaves_of stream.new.parts.items)) }
+    ensures stream { OnOk result ((all heard : List Atoms) → IsStreamOf stream.old all heard (leaf ∷ leaves_of stream.old.parts.items) → IsStreamOf stream.new all heard (leaves_of stream.new.parts.items)) }
 {
     stream.ledger.lawful();
     let first = low(stream.alloc, stream.compiled, search, &[])?;

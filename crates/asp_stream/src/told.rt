@@ -1,5 +1,6 @@
 //! How a stream ended.
-ghost use Rattle.std.specs.Prelude.{◌≡◌, []};
+ghost use Rattle.std.specs.Prelude.{◌≡◌, ◌+◌, []};
+ghost use Rattle.asp_crew_laws.specs.Reports.{joined};
 ghost use Rattle.asp_stream.specs.Endings.{report_of};
 
 use asp_core::entry::Entry;
@@ -69,7 +70,61 @@ pub fn into_report(told: Told) -> Report
         short: false,
         unpaid,
         paid,
-        proof: None,
+        core: None,
+    }
+}
+
+/// The report of two searches: of a first one, which found what the optima cost, and of a stream of all optima, whose units were those that
+/// the first left. It lists those of them that weren't told.
+pub fn into_joined(first: Report, told: Told) -> Report
+    requires program { told.paid.program ≡ first.paid.program }
+    requires units { told.paid.left + told.paid.burnt ≡ first.paid.left }
+    requires spent { first.paid.burnt ≡ first.spent }
+    ensures { result ≡ joined first (report_of [] told) }
+{
+    let Report {
+        results,
+        journal,
+        second: _,
+        spent,
+        leaves: _,
+        log,
+        short,
+        unpaid: _,
+        mut paid,
+        core: _,
+    } = first;
+    let Report {
+        results: found,
+        journal: second,
+        second: _,
+        spent: more,
+        leaves,
+        log: _,
+        short: _,
+        unpaid,
+        paid: rest,
+        core: _,
+    } = into_report(told);
+    let left = paid.left();
+    let _given = paid.part(left);
+    paid.merge(rest);
+    Report {
+        results: Results {
+            mode: results.mode,
+            end: found.end,
+            answers: found.answers,
+            best: results.best,
+            known: results.known,
+        },
+        journal,
+        second: Some(second),
+        spent: spent + more,
+        leaves,
+        log,
+        short,
+        unpaid,
+        paid,
         core: None,
     }
 }

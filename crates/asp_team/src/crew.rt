@@ -25,7 +25,7 @@ fn either(one: bool, other: bool) -> bool
 }
 
 // Takes a worker's seats back.
-fn joined(shared: &Shared, lead: Lead, worker: Worker) -> Lead
+fn joined(shared: &Shared<'_>, lead: Lead, worker: Worker) -> Lead
     requires lead { IsLead shared.now lead }
     requires back { IsBack shared.now (view lead.seat).about worker }
     ensures lead { IsLead shared.now result }
@@ -53,7 +53,7 @@ fn joined(shared: &Shared, lead: Lead, worker: Worker) -> Lead
 }
 
 // Takes the seats of all workers back.
-fn all_joined(shared: &Shared, lead: Lead, mut workers: Vec<Worker>) -> Lead
+fn all_joined(shared: &Shared<'_>, lead: Lead, mut workers: Vec<Worker>) -> Lead
     requires lead { IsLead shared.now lead }
     requires back { All (IsBack shared.now (view lead.seat).about) workers.items }
     ensures lead { IsLead shared.now result }
@@ -73,7 +73,7 @@ fn all_joined(shared: &Shared, lead: Lead, mut workers: Vec<Worker>) -> Lead
 // made, calls nest as deep as the logarithm of their number.
 fn halved<R: Threads + Wait + Sync, G: Gate + Sync, H: Halt + Sync>(
     rt: &R,
-    shared: &Shared,
+    shared: &Shared<'_>,
     compiled: &Compiled,
     gate: &G,
     halt: &H,
@@ -93,7 +93,7 @@ fn halved<R: Threads + Wait + Sync, G: Gate + Sync, H: Halt + Sync>(
 // The same. One alone needs no halves. And as `work` is called in two places, it isn't made part of the frames that nest.
 fn each<R: Threads + Wait + Sync, G: Gate + Sync, H: Halt + Sync>(
     rt: &R,
-    shared: &Shared,
+    shared: &Shared<'_>,
     compiled: &Compiled,
     gate: &G,
     halt: &H,
@@ -120,7 +120,7 @@ fn each<R: Threads + Wait + Sync, G: Gate + Sync, H: Halt + Sync>(
 // One worker works in this thread, with the watch, and the others beside it.
 fn beside<R: Threads + Wait + Sync, G: Gate + Sync, H: Halt + Sync, W: Watch>(
     rt: &R,
-    shared: &Shared,
+    shared: &Shared<'_>,
     compiled: &Compiled,
     gate: &G,
     halt: &H,
@@ -152,7 +152,7 @@ fn beside<R: Threads + Wait + Sync, G: Gate + Sync, H: Halt + Sync, W: Watch>(
 // Where no thread can be made, the workers are called one after another, each a few frames deep, however many they are.
 pub fn crew<R: Threads + Wait + Sync, G: Gate + Sync, H: Halt + Sync, W: Watch>(
     rt: &R,
-    shared: &Shared,
+    shared: &Shared<'_>,
     compiled: &Compiled,
     gate: &G,
     halt: &H,

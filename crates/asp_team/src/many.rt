@@ -7,7 +7,6 @@ ghost use Rattle.asp_counts.specs.Counting.{together};
 ghost use Rattle.asp_counts.specs.Tallies.{count_of};
 ghost use Rattle.asp_counts.specs.Telling.{AreNumbered};
 ghost use Rattle.asp_crew_laws.specs.Gone.{IsCrewGone, IsShared};
-ghost use Rattle.asp_crew_laws.specs.Proofs.{HasProof};
 ghost use Rattle.asp_crew_laws.specs.Reports.{IsReport, IsIdle as IsIdleBoard};
 ghost use Rattle.asp_crew_laws.specs.Runs.{asks, task_of};
 ghost use Rattle.asp_crew_laws.specs.Working.{MayBegin};
@@ -26,7 +25,6 @@ use asp_counts::counts::Counts;
 use asp_counts::tallies::{Tallies, WorkerCounts, sum_of};
 use asp_counts::watch::Watch;
 use asp_crew::finish::finish_program;
-use asp_crew::proofs::with_ties_and_proof;
 use asp_crew::reported::reported;
 use asp_crew::ties::with_ties;
 use asp_crew_laws::report::Report;
@@ -43,17 +41,26 @@ use std::mem;
 use std::sync::Wait;
 use std::thread::Threads;
 
+/// Who gets the lines of a run's proof.
+#[derive(Clone, Copy)]
+pub struct Record<'a> {
+    /// The workers' lines.
+    pub scroll: &'a Scroll,
+    /// The main thread's lines, behind those of the workers.
+    pub recorder: &'a Recorder,
+}
+
 /// What is asked of many workers.
 #[derive(Clone, Copy)]
-pub struct Plan {
+pub struct Plan<'a> {
     /// What is asked of the program.
     pub ask: Ask,
     /// How many workers there are, 1 to 64.
     pub workers: u32,
     /// How many units there are for all of them.
     pub budget: u64,
-    /// Whether a proof is wanted, of a run that is finished or found as many answers as were asked for.
-    pub proof: bool,
+    /// Who gets the lines of a proof, if one is wanted. No consequences are asked for then.
+    pub proof: Option<Record<'a>>,
     /// Whether several workers tell one another nogoods by a row of slots, in place of blocks under a lock.
     pub row: bool,
 }
@@ -89,15 +96,15 @@ impl Deeds {
     }
 }
 
-// The book, how many nogoods were shared, and what was told and written down, once every worker has come back.
-fn dismissed(shared: Shared, lead: Lead) -> (Book, u32, Tallies, Scroll)
+// The book, how many nogoods were shared, and what was told, once every worker has come back.
+fn dismissed(shared: Shared<'_>, lead: Lead) -> (Book, u32, Tallies)
     requires lead { IsLead shared lead }
     requires all { IsAllBack (view lead.seat) × HasAllBack lead.pages }
     requires idle { IsIdle (view lead.seat) }
     requires home { (n : ℕ) → 0 < n → n ≤ (view lead.seat).splits → IsHome (view lead.seat) n }
     ensures task { Some result.0.task ≡ (view lead.seat).about }
     ensures idle { IsIdleBoard (board result.0) }
-    ensures tallies { result.2 ≡ shared.tallies }
+    ensures tallies { result.2 ≡ shared.entry.tallies }
     ensures crew { (never : Bool) (begun : List Event) → HaveLeft lead never begun → (rest : List Event) × (result.0.journal ≡ begun ++ rest) ×
         IsCrewGone result.0.task (view lead.seat).splits lead.short never begun rest }
 {
@@ -116,21 +123,42 @@ fn dismissed(shared: Shared, lead: Lead) -> (Book, u32, Tallies, Scroll)
         log,
         pool: _,
         tallies,
-        proof: _,
-        scroll,
+        scroll: _,
     } = shared;
-    (book.close(seat), log.close(pages), tallies, scroll)
+    (book.close(seat), log.close(pages), tallies)
+}
+
+// Who gets the lines of the main thread's searches, if a proof is wanted.
+fn recorder_of<'a>(plan: Plan<'a>) -> Option<&'a Recorder> {
+    match plan.proof {
+        None => None,
+        Some(record) => Some(record.recorder),
+    }
+}
+
+// Who gets the lines of the workers, if a proof is wanted.
+fn scroll_of<'a>(plan: Plan<'a>) -> Option<&'a Scroll> {
+    match plan.proof {
+        None => None,
+        Some(record) => Some(record.scroll),
+    }
+}
+
+// Hands the workers' lines that nobody has taken to the recorder, if a proof is wanted.
+fn hand_over<R: Wait>(rt: &R, plan: Plan<'_>) {
+    if let Some(record) = plan.proof {
+        record.scroll.hand_over(rt, record.recorder);
+    }
 }
 
 // What was left open is worked off. The recorder gets what is found, if a proof is wanted.
 fn work_off<'a, W: Watch>(
     alloc: Global,
     compiled: &'a Compiled,
-    plan: Plan,
+    plan: Plan<'a>,
     book: &mut Book,
     counts: &mut Counts,
     watch: &mut W,
-    recorder: &'a Recorder,
 ) -> Result<Option<Conflict>, AllocError>
     requires task { QueryStands book.old.task }
     requires goal { MayBegin plan.ask.mode None book.old.task.goal }
@@ -140,7 +168,7 @@ fn work_off<'a, W: Watch>(
     ensures finishes { IfOk result (Finishes book.old book.new) }
     ensures heard { W.IsAfter watch.old watch.new }
 {
-    let recorder = if plan.proof { Some(recorder) } else { None };
+    let recorder = recorder_of(plan);
     finish_program(
         alloc,
         compiled,
@@ -153,64 +181,12 @@ fn work_off<'a, W: Watch>(
     )
 }
 
-// What the workers left open is worked off, once they have come back. The report, and what was written down.
+// What the workers left open is worked off, once they have come back.
 fn ended<W: Watch>(
     alloc: Global,
     compiled: &Compiled,
-    plan: Plan,
-    shared: Shared,
-    lead: Lead,
-    deeds: &mut Deeds,
-    watch: &mut W,
-) -> Result<(Report, Recorder), AllocError>
-    requires lead { IsLead shared lead }
-    requires all { IsAllBack (view lead.seat) × HasAllBack lead.pages }
-    requires idle { IsIdle (view lead.seat) }
-    requires home { (n : ℕ) → 0 < n → n ≤ (view lead.seat).splits → IsHome (view lead.seat) n }
-    requires some { 0 < (view lead.seat).splits }
-    requires about { (view lead.seat).about ≡ Some (task_of compiled.now plan.ask plan.budget) }
-    ensures report { IfOk result (λ r. IsReport compiled.now (asks plan.ask.mode plan.ask.models plan.ask.by_name) plan.budget r.0) }
-    ensures second { IfOk result (λ r. r.0.second ≡ None) }
-    ensures proof { IfOk result (λ r. r.0.proof ≡ None) }
-    ensures core { IfOk result (λ r. HasCore compiled.now r.0) }
-    ensures shared { IfOk result (λ r. (never : Bool) (begun : List Event) → HaveLeft lead never begun → IsShared (task_of compiled.now plan.ask plan.budget) r.0.short never r.0.journal) }
-    ensures workers { AreNumbered (count_of shared.tallies) deeds.new.workers.items }
-    ensures heard { W.IsAfter watch.old watch.new }
-{
-    let short = lead.short;
-    let (mut book, log, tallies, scroll) = dismissed(shared, lead);
-    *deeds = Deeds::of(tallies);
-    let recorder = scroll.into_recorder(alloc);
-    match work_off(
-        alloc,
-        compiled,
-        plan,
-        &mut book,
-        &mut deeds.sum,
-        watch,
-        &recorder,
-    ) {
-        Ok(unpaid) => match reported(alloc, compiled, plan.ask, book, unpaid, log, short) {
-            Ok(report) => Ok((report, recorder)),
-            Err(error) => {
-                mem::drop(recorder);
-                Err(error)
-            }
-        },
-        Err(error) => {
-            mem::drop(book);
-            mem::drop(recorder);
-            Err(error)
-        }
-    }
-}
-
-// The same, with a second search where all optima are asked for, and with a proof if one is wanted.
-fn finished<W: Watch>(
-    alloc: Global,
-    compiled: &Compiled,
-    plan: Plan,
-    shared: Shared,
+    plan: Plan<'_>,
+    shared: Shared<'_>,
     lead: Lead,
     deeds: &mut Deeds,
     watch: &mut W,
@@ -221,44 +197,68 @@ fn finished<W: Watch>(
     requires home { (n : ℕ) → 0 < n → n ≤ (view lead.seat).splits → IsHome (view lead.seat) n }
     requires some { 0 < (view lead.seat).splits }
     requires about { (view lead.seat).about ≡ Some (task_of compiled.now plan.ask plan.budget) }
-    ensures report { IfOk result (IsReport compiled.now plan.ask plan.budget) }
-    ensures proof { IfOk result (HasProof plan.proof) }
+    ensures report { IfOk result (IsReport compiled.now (asks plan.entry.ask.mode plan.entry.ask.models plan.entry.ask.by_name) plan.entry.budget) }
+    ensures second { IfOk result (λ r. r.second ≡ None) }
     ensures core { IfOk result (HasCore compiled.now) }
-    ensures shared { IfOk result (λ r. (never : Bool) (begun : List Event) → HaveLeft lead never begun → IsShared (task_of compiled.now plan.ask plan.budget) r.short never r.journal) }
-    ensures workers { AreNumbered (count_of shared.tallies) deeds.new.workers.items }
+    ensures shared { IfOk result (λ r. (never : Bool) (begun : List Event) → HaveLeft lead never begun → IsShared (task_of compiled.now plan.entry.ask plan.entry.budget) r.short never r.journal) }
+    ensures workers { AreNumbered (count_of shared.entry.tallies) deeds.new.workers.items }
     ensures heard { W.IsAfter watch.old watch.new }
 {
-    let (report, recorder) = ended(alloc, compiled, plan, shared, lead, deeds, watch)?;
-    if plan.proof {
-        with_ties_and_proof(
-            alloc,
-            compiled,
-            plan.ask,
-            report,
-            recorder,
-            &mut deeds.sum,
-            watch,
-        )
-    } else {
-        mem::drop(recorder);
-        with_ties(
-            alloc,
-            compiled,
-            plan.ask,
-            report,
-            &mut deeds.sum,
-            watch,
-            None,
-        )
+    let short = lead.short;
+    let (mut book, log, tallies) = dismissed(shared, lead);
+    *deeds = Deeds::of(tallies);
+    match work_off(alloc, compiled, plan, &mut book, &mut deeds.sum, watch) {
+        Ok(unpaid) => {
+            let report = reported(alloc, compiled, plan.ask, book, unpaid, log, short)?;
+            Ok(report)
+        }
+        Err(error) => {
+            mem::drop(book);
+            Err(error)
+        }
     }
+}
+
+// The same, with a second search where all optima are asked for.
+fn finished<W: Watch>(
+    alloc: Global,
+    compiled: &Compiled,
+    plan: Plan<'_>,
+    shared: Shared<'_>,
+    lead: Lead,
+    deeds: &mut Deeds,
+    watch: &mut W,
+) -> Result<Report, AllocError>
+    requires lead { IsLead shared lead }
+    requires all { IsAllBack (view lead.seat) × HasAllBack lead.pages }
+    requires idle { IsIdle (view lead.seat) }
+    requires home { (n : ℕ) → 0 < n → n ≤ (view lead.seat).splits → IsHome (view lead.seat) n }
+    requires some { 0 < (view lead.seat).splits }
+    requires about { (view lead.seat).about ≡ Some (task_of compiled.now plan.ask plan.budget) }
+    ensures report { IfOk result (IsReport compiled.now plan.entry.ask plan.entry.budget) }
+    ensures core { IfOk result (HasCore compiled.now) }
+    ensures shared { IfOk result (λ r. (never : Bool) (begun : List Event) → HaveLeft lead never begun → IsShared (task_of compiled.now plan.entry.ask plan.entry.budget) r.short never r.journal) }
+    ensures workers { AreNumbered (count_of shared.entry.tallies) deeds.new.workers.items }
+    ensures heard { W.IsAfter watch.old watch.new }
+{
+    let report = ended(alloc, compiled, plan, shared, lead, deeds, watch)?;
+    with_ties(
+        alloc,
+        compiled,
+        plan.ask,
+        report,
+        &mut deeds.sum,
+        watch,
+        recorder_of(plan),
+    )
 }
 
 // A run of workers who are ready. The watch comes back, whatever comes of it.
 fn worked<R: Threads + Wait + Sync, G: Gate + Sync, H: Halt + Sync, W: Watch + Drop>(
     rt: &R,
     compiled: &Compiled,
-    plan: Plan,
-    team: Team,
+    plan: Plan<'_>,
+    team: Team<'_>,
     gate: &G,
     halt: &H,
     deeds: &mut Deeds,
@@ -266,11 +266,10 @@ fn worked<R: Threads + Wait + Sync, G: Gate + Sync, H: Halt + Sync, W: Watch + D
 ) -> (Result<Report, AllocError>, W)
     requires team { IsTeam compiled.now plan.ask plan.budget team }
     requires some { 0 < length team.workers.items }
-    ensures report { IfOk result.0 (IsReport compiled.now plan.ask plan.budget) }
-    ensures proof { IfOk result.0 (HasProof plan.proof) }
+    ensures report { IfOk result.0 (IsReport compiled.now plan.entry.ask plan.entry.budget) }
     ensures core { IfOk result.0 (HasCore compiled.now) }
-    ensures shared { IfOk result.0 (λ r. (never : Bool) → (never ≡ true → H.never halt.now) → IsShared (task_of compiled.now plan.ask plan.budget) r.short never r.journal) }
-    ensures workers { AreNumbered (count_of team.shared.tallies) deeds.new.workers.items }
+    ensures shared { IfOk result.0 (λ r. (never : Bool) → (never ≡ true → H.never halt.now) → IsShared (task_of compiled.now plan.entry.ask plan.entry.budget) r.short never r.journal) }
+    ensures workers { AreNumbered (count_of team.entry.shared.tallies) deeds.new.workers.items }
     ensures heard { W.IsAfter watch result.1 }
 {
     let Team {
@@ -280,6 +279,7 @@ fn worked<R: Threads + Wait + Sync, G: Gate + Sync, H: Halt + Sync, W: Watch + D
     } = team;
     let alloc = shared.alloc;
     let lead = crew(rt, &shared, compiled, gate, halt, lead, workers, &mut watch);
+    hand_over(rt, plan);
     let report = finished(alloc, compiled, plan, shared, lead, deeds, &mut watch);
     (report, watch)
 }
@@ -297,18 +297,17 @@ pub fn solve_with<R: Threads + Wait + Sync, G: Gate + Sync, H: Halt + Sync, W: W
     rt: &R,
     alloc: Global,
     compiled: &Compiled,
-    plan: Plan,
+    plan: Plan<'_>,
     gate: &G,
     halt: &H,
     deeds: &mut Deeds,
     watch: W,
 ) -> (Result<Report, AllocError>, W)
     requires count { (1 ≤ plan.workers) × (plan.workers ≤ 64) }
-    ensures report { IfOk result.0 (IsReport compiled.now plan.ask plan.budget) }
-    ensures proof { IfOk result.0 (HasProof plan.proof) }
+    ensures report { IfOk result.0 (IsReport compiled.now plan.entry.ask plan.entry.budget) }
     ensures core { IfOk result.0 (HasCore compiled.now) }
-    ensures shared { IfOk result.0 (λ r. (never : Bool) → (never ≡ true → H.never halt.now) → IsShared (task_of compiled.now plan.ask plan.budget) r.short never r.journal) }
-    ensures workers { OnOk result.0 (AreNumbered plan.workers deeds.new.workers.items) }
+    ensures shared { IfOk result.0 (λ r. (never : Bool) → (never ≡ true → H.never halt.now) → IsShared (task_of compiled.now plan.entry.ask plan.entry.budget) r.short never r.journal) }
+    ensures workers { OnOk result.0 (AreNumbered plan.entry.workers deeds.new.workers.items) }
     ensures heard { W.IsAfter watch result.1 }
 {
     match gathered(
@@ -317,7 +316,7 @@ pub fn solve_with<R: Threads + Wait + Sync, G: Gate + Sync, H: Halt + Sync, W: W
         plan.ask,
         plan.budget,
         plan.workers,
-        plan.proof,
+        scroll_of(plan),
         plan.row,
     ) {
         Err(error) => (Err(error), watch),
@@ -330,17 +329,16 @@ pub fn solve<R: Threads + Wait + Sync, G: Gate + Sync, W: Watch + Drop>(
     rt: &R,
     alloc: Global,
     compiled: &Compiled,
-    plan: Plan,
+    plan: Plan<'_>,
     gate: &G,
     deeds: &mut Deeds,
     watch: W,
 ) -> (Result<Report, AllocError>, W)
     requires count { (1 ≤ plan.workers) × (plan.workers ≤ 64) }
-    ensures report { IfOk result.0 (IsReport compiled.now plan.ask plan.budget) }
-    ensures proof { IfOk result.0 (HasProof plan.proof) }
+    ensures report { IfOk result.0 (IsReport compiled.now plan.entry.ask plan.entry.budget) }
     ensures core { IfOk result.0 (HasCore compiled.now) }
-    ensures shared { IfOk result.0 (λ r. IsShared (task_of compiled.now plan.ask plan.budget) r.short true r.journal) }
-    ensures workers { OnOk result.0 (AreNumbered plan.workers deeds.new.workers.items) }
+    ensures shared { IfOk result.0 (λ r. IsShared (task_of compiled.now plan.entry.ask plan.entry.budget) r.short true r.journal) }
+    ensures workers { OnOk result.0 (AreNumbered plan.entry.workers deeds.new.workers.items) }
     ensures heard { W.IsAfter watch result.1 }
 {
     solve_with(rt, alloc, compiled, plan, gate, &NoHalt, deeds, watch)

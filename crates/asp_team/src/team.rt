@@ -31,9 +31,9 @@ const LOG_LIMIT: u32 = 1048576;
 
 /// A run before its workers begin.
 #[derive(Drop)]
-pub(crate) struct Team {
+pub(crate) struct Team<'a> {
     /// What the workers share.
-    pub(crate) shared: Shared,
+    pub(crate) shared: Shared<'a>,
     /// The main thread's seats.
     pub(crate) lead: Lead,
     /// Their numbers are 1 and those that follow.
@@ -63,7 +63,7 @@ fn start(
 }
 
 // The next worker, with a lane and a pass.
-fn next(shared: &Shared, lead: &mut Lead, lane: Lane, pass: Pass) -> Worker
+fn next(shared: &Shared<'_>, lead: &mut Lead, lane: Lane, pass: Pass) -> Worker
     requires host { IsHost shared.now lead.old }
     requires room { ((view lead.old.seat).splits + 1 < 2 ^ 32) × HasRoom lead.old.pages }
     requires pass { IsOfPool shared.now.pool pass }
@@ -85,7 +85,7 @@ fn next(shared: &Shared, lead: &mut Lead, lane: Lane, pass: Pass) -> Worker
 
 // Adds the next worker, who takes a pass.
 fn add(
-    shared: &Shared,
+    shared: &Shared<'_>,
     lead: &mut Lead,
     workers: &mut Vec<Worker>,
     lane: Lane,
@@ -114,7 +114,7 @@ fn add(
 
 // A worker for each lane. The only error is want of memory.
 fn workers(
-    shared: &Shared,
+    shared: &Shared<'_>,
     lead: &mut Lead,
     mut lanes: Vec<Lane>,
     mut passes: Vec<Pass>,
@@ -137,17 +137,17 @@ fn workers(
     Ok(workers)
 }
 
-/// So many workers, 1 to 64, with what they share and what the main thread has. They write down a proof, if one is wanted. Their
-/// log is a row of slots where this is wanted and there are several.
-pub(crate) fn gathered(
+/// So many workers, 1 to 64, with what they share and what the main thread has. The scroll, if there is one, gets the lines of their
+/// proof. Their log is a row of slots where this is wanted and there are several.
+pub(crate) fn gathered<'a>(
     alloc: Global,
     compiled: &Compiled,
     ask: Ask,
     budget: u64,
     count: u32,
-    proof: bool,
+    scroll: Option<&'a Scroll>,
     row: bool,
-) -> Result<Team, AllocError>
+) -> Result<Team<'a>, AllocError>
     requires { (1 ≤ count) × (count ≤ 64) }
     ensures team { IfOk result (IsTeam compiled.now ask budget) }
     ensures count { IfOk result (λ team. length team.workers.items ≡ count) }
@@ -167,8 +167,7 @@ pub(crate) fn gathered(
         log,
         pool,
         tallies,
-        proof,
-        scroll: Scroll::new(alloc),
+        scroll,
     };
     let mut lead = Lead {
         seat,

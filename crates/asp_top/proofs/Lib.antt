@@ -1,9 +1,13 @@
 pub mod ListingLaws
 pub mod StreamLaws
+pub mod AfterLaws
 pub mod EndLaws
 pub mod RunLaws
 pub mod DoneLaws
 pub mod WholeLaws
 pub mod WriteLaws
+pub mod BetterLaws
+pub mod ShownLaws
 pub mod TellLaws
+pub mod ProveLaws
 pub mod SeriesLaws

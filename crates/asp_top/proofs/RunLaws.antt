@@ -25,9 +25,9 @@ use Rattle.asp_top.specs.declared.status.Outcome.{Outcome}
 use Rattle.asp_prepare.specs.declared.prepared.Prepared.{Prepared}
 use Rattle.asp_prepare.specs.declared.prepared.Unready.{Unready}
 use Rattle.asp_prepare.specs.declared.prepared.Unready.TheVariants as unready
-use Rattle.asp_prepare.specs.Meaning.{has_model}
+use Rattle.asp_prepare.specs.Meaning.{has_model, mode_of}
 use Rattle.asp_prepare.specs.Naming.{HasNumbers, WhyNot, ask_of, asked, is_named, prepared_of, searched, set_aside}
-use Rattle.asp_prepare.specs.Told.{report_text, report_with, told_with}
+use Rattle.asp_prepare.specs.Told.{report_text, told_with}
 use Rattle.asp_prepare.proofs.AskedLaws.{asked-sound, limited-has}
 use Rattle.asp_prepare.proofs.ToldLaws.{told-model, told-says, told-text}
 use Rattle.asp_top.specs.Meaning.{status_for}
@@ -35,9 +35,12 @@ use Rattle.asp_top.specs.Codes.{IsLost}
 use Rattle.asp_named.specs.Named.{has_numbers}
 use Rattle.asp_top.specs.Notes.{is_written}
 use Rattle.asp_top.specs.Parting.{Divides, HandingMeans}
-use Rattle.asp_top.specs.Runs.{Around, DeliversPart, DeliversRest, DeliveryMeans, Does, DoesBy, EndsUnready, HasFirst, HasPart, IsAnswered, IsDivided, IsExact, IsFew, IsGiven, IsOver, IsReady, IsReported, IsSaid, IsSentOn, IsSolved, IsStreamCut, Means, Prepares, Runs, Says, Solves, SolvesBy, Streams, TellsClosed, WritesAs, around, first_text, layout_of, part_text, run_ask, status_of, status_unready, streams}
+use Rattle.asp_top.specs.Runs.{Around, DeliversPart, DeliversRest, DeliveryMeans, Does, DoesBy, EndsUnready, HasFirst, HasPart, HasText, IsAnswered, IsDivided, IsExact, IsFew, IsGiven, IsOver, IsProofCut, IsReady, IsReported, IsRunCut, IsSaid, IsSentOn, IsSolved, IsStreamCut, Means, Prepares, Proves, Runs, Says, Solves, SolvesAs, SolvesBy, SolvesOr, Streams, TellsClosed, WritesAs, around, first_text, layout_of, part_text, run_ask, status_of, status_unready, streams, whole_list}
 use Rattle.asp_top.proofs.ListingLaws.{is-listing}
-use Rattle.asp_top.proofs.StreamLaws.{first-searched, means-asked, part-lines, streamed-cut, streamed-first, streamed-solved}
+use Rattle.asp_top.proofs.StreamLaws.{done-is, first-searched, means-asked, part-lines, streamed-cut, streamed-first, streamed-solved, unproved}
+use Rattle.asp_proof.specs.declared.proof.Line.{Line}
+use Rattle.asp_proof.specs.Texts.{text_of}
+use Rattle.asp_scribe.specs.Proofs.{proof_of}
 use Rattle.asp_equal.specs.declared.reduce.Aside.{Aside}
 use Rattle.asp_model.specs.Sound.{IsSound}
 use Rattle.asp_cli.specs.declared.Options.{Options}
@@ -68,6 +71,16 @@ given-exact given a program status source done quiet = record {
     said None none p from text is e out = ok-or-err (outcome_for given.format text) p e (says-at given.format a text _ is from.says) out
     said (Some n) none p from text is e out = absurd cc
 
+-- the program of a run that was cut
+cut-program : (given : Options) (a : Around) (report : Option Report) → IsRunCut given a report → Program
+cut-program given a report (inl m) = m.program
+cut-program given a report (inr m) = m.program
+
+cut-source : (given : Options) (a : Around) (report : Option Report) (m : IsRunCut given a report) → IsGiven given.format given.make a (cut-program given a report m)
+unfolding cut-program
+cut-source given a report (inl m) = m.source
+cut-source given a report (inr m) = m.source
+
 exact : (given : Options) (a : Around) (report : Option Report) (status : Status) → Means given a report status → Quiet a status → IsExact given a status
 exact given a report All m quiet = given-exact given a m.solved.program All m.solved.source (λ w. inl refl) quiet
 exact given a report NoModel m quiet = given-exact given a m.solved.program NoModel m.solved.source (λ w. inl refl) quiet
@@ -79,7 +92,8 @@ exact given a report Enough (inr m) quiet = given-exact given a m.has.program En
 exact given a report Parts m quiet = given-exact given a m.divided.program Parts m.divided.source (λ w. inl refl) quiet
 exact given a report (WriteFault closed) (inl m) quiet = given-exact given a m.solved.program (WriteFault closed) m.solved.source (λ w. absurd (w m.cause)) quiet
 exact given a report (WriteFault closed) (inr (inl m)) quiet = given-exact given a m.divided.program (WriteFault closed) m.divided.source (λ w. absurd (w m.cause)) quiet
-exact given a report (WriteFault closed) (inr (inr (inl m))) quiet = given-exact given a m.0.program (WriteFault closed) m.0.source (λ w. absurd (w m.1)) quiet
+exact given a report (WriteFault closed) (inr (inr (inl m))) quiet =
+    given-exact given a (cut-program given a report m.0) (WriteFault closed) (cut-source given a report m.0) (λ w. absurd (w m.1)) quiet
 exact given a report (WriteFault closed) (inr (inr (inr (inl m)))) quiet = given-exact given a m.has.program (WriteFault closed) m.has.source (λ w. absurd (w m.cause)) quiet
 exact given a report (WriteFault closed) (inr (inr (inr (inr m)))) quiet = given-exact given a m.has.solved.program (WriteFault closed) m.has.solved.source (λ w. absurd (w m.cause)) quiet
 exact given a report Unnamed m quiet = given-exact given a m.program Unnamed m.source (λ w. inr refl) quiet
@@ -147,7 +161,7 @@ runs-memory given a kept reads writes quiet =
     record { means = means; exact = exact given a None Memory means (λ isn't. quiet); later = (reads, writes) }
 
 written : (given : Options) (a : Around) (report : Option Report) → (s : IsSolved given a report) → IsFew given s.program s.done → (end : End) (model : Bool) → s.done.results.end ≡ end →
-    has_model s.done.results ≡ model → Appends a.held a.held' (report_text (asked given s.program) (report_with (set_aside given s.program) s.done) (layout_of given))
+    has_model s.done.results ≡ model → HasText given.proof given s.program s.done (Appends a.held a.held')
     → Means given a report (status_for end model)
 written given a report s few Finished true e m text = record { solved = s; end_is = e; model_is = m; few = few; text = text }
 written given a report s few Finished false e m text = record { solved = s; end_is = e; model_is = m; few = few; text = text }
@@ -156,27 +170,34 @@ written given a report s few Limited model e m text =
 written given a report s few Unfinished true e m text = inl (record { solved = s; end_is = e; model_is = m; few = few; text = text })
 written given a report s few Unfinished false e m text = record { solved = s; end_is = e; model_is = m; few = few; text = text }
 
-delivered : (given : Options) (a : Around) (s : Status) (report : Option Report) → (solved : IsSolved given a report) → IsFew given solved.program solved.done
+-- the text of the results, where no proof is asked for
+plain-text : (given : Options) (p : Program) (done : Report) (Is : List ℕ → Type 0) → given.proof ≡ false
+    → Is (report_text (searched given p) (told_with (set_aside given p) done) (layout_of given)) → HasText given.proof given p done Is
+plain-text given p done Is plain is =
+    subst (λ (b : Bool). HasText b given p done Is) (sym plain) (subst Is (told-text given p done (layout_of given)) is)
+
+delivered : (given : Options) (a : Around) (s : Status) (report : Option Report) → given.proof ≡ false → (solved : IsSolved given a report) → IsFew given solved.program solved.done
     → DeliveryMeans (layout_of given) (searched given solved.program) (told_with (set_aside given solved.program) solved.done) a.held a.held' a.writes a.writes' s → Means given a report s
-delivered given a s report solved few (inl m) =
+delivered given a s report plain solved few (inl m) =
     let F = set_aside given solved.program in
     let done = solved.done in
     let is : s ≡ status_for done.results.end (has_model done.results) = m.0 ∙ ap (status_for done.results.end) (told-model F done) in
-    let text = subst (Appends a.held a.held') (told-text given solved.program done (layout_of given) solved.proof) m.1 in
+    let text = plain-text given solved.program done (Appends a.held a.held') plain m.1 in
     subst (Means given a report) (sym is) (written given a report solved few done.results.end (has_model done.results) refl refl text)
-delivered given a s report solved few (inr m) =
+delivered given a s report plain solved few (inr m) =
     subst (Means given a report) (sym m.0.1)
     (inl (record {
       solved = solved;
       few = few;
       text =
-          subst (AppendsFront a.held a.held') (told-text given solved.program solved.done (layout_of given) solved.proof) m.1;
+          plain-text given solved.program solved.done (AppendsFront a.held a.held') plain m.1;
       cause =
           m.2;
     }))
 
--- the first of all answers were written, or a front of their lines
-first-written : (given : Options) (a : Around) (text : List ℕ) (s : Status) (report : Option Report) → (has : HasFirst given a report) → text ≡ first_text has.program given.models
+-- the first of the list were written, or a front of their lines
+first-written : (given : Options) (a : Around) (text : List ℕ) (s : Status) (report : Option Report) → (has : HasFirst given a report) →
+    text ≡ first_text has.price has.program (whole_list (mode_of given.mode has.program) has.program) given.models
     → WritesAs Enough text a.held a.held' a.writes a.writes' s → Means given a report s
 first-written given a text s report has same w = by w.means
   where
@@ -204,11 +225,11 @@ asked-once : (given : Options) (p : Program) → streams given p ≡ false → a
 asked-once given p off = ap (λ (b : Bool). record (ask_of given p) { models = cond b 0 given.models }) (sym off)
 
 runs-solved : (given : Options) (a : Around) (p : Program) (o : Outcome) → given.split ≡ None → IsGiven given.format given.make a p → IsSound p →
-    HasNumbers given p → a.reads ≤ a.reads' → a.reads' ≡ a.reads → streams given p ≡ false
+    HasNumbers given p → a.reads ≤ a.reads' → a.reads' ≡ a.reads → streams given p ≡ false → given.proof ≡ false
     → Solves given p a.held a.held' a.writes a.writes' o → Runs given a o
-runs-solved given a p o whole from sound numbers reads quiet off (inl m) = subst (Runs given a) (sym m.0) (runs-memory given a m.1 reads (omega (arith, m.2)) quiet)
-runs-solved given a p o whole from sound numbers reads quiet off (inr s) =
-    let is : IsReport (searched given p) (run_ask given p) given.budget s.0 = subst (λ (ask : Ask). IsReport (searched given p) ask given.budget s.0) (asked-once given p off) s.1.0 in
+runs-solved given a p o whole from sound numbers reads quiet off plain (inl m) = subst (Runs given a) (sym m.0) (runs-memory given a m.1 reads (omega (arith, m.2)) quiet)
+runs-solved given a p o whole from sound numbers reads quiet off plain (inr s) =
+    let is : IsReport (searched given p) (run_ask given p) given.budget s.0 = subst (λ (ask : Ask). IsReport (searched given p) ask given.budget s.0) (asked-once given p off) s.1 in
     let solved : IsSolved given a o.report = record {
       program = p;
       source = from;
@@ -220,40 +241,96 @@ runs-solved given a p o whole from sound numbers reads quiet off (inr s) =
       is = is;
       says =
           told-says given p (run_ask given p) s.0 s.0.results.end (asked-sound given p sound numbers) is.says;
-      proof = s.1.1;
     } in
-    let means = delivered given a o.status o.report solved (λ on some. absurd (false≢true (sym off ∙ on))) s.2.means in
+    let means = delivered given a o.status o.report plain solved (λ on some. absurd (false≢true (sym off ∙ on))) s.2.means in
     record { means = means; exact = exact given a o.report o.status means (λ isn't. quiet); later = (reads, s.2.later) }
 
--- its answers were written while they were found
+-- The text of the proof was written, or a front of it.
+proof-written : (given : Options) (a : Around) (s : Status) (report : Option Report) (entries : List Line)
+    → given.proof ≡ true → (solved : IsSolved given a report) → IsFew given solved.program solved.done
+    → WritesAs (status_for solved.done.results.end (has_model solved.done.results)) (text_of (proof_of (ask_of given solved.program) entries solved.done.results)) a.held a.held' a.writes a.writes' s
+    → Means given a report s
+proof-written given a s report entries asked solved few w = by w.means
+  where
+    text : List ℕ
+    text = text_of (proof_of (ask_of given solved.program) entries solved.done.results)
+
+    by : ((s ≡ status_for solved.done.results.end (has_model solved.done.results)) × Appends a.held a.held' text) ⊎ (IsLost s × AppendsFront a.held a.held' text × Rose a.writes a.writes')
+        → Means given a report s
+    by (inl m) =
+        subst (Means given a report) (sym m.0) (written given a report solved few solved.done.results.end (has_model solved.done.results) refl refl
+        (subst (λ (b : Bool). HasText b given solved.program solved.done (Appends a.held a.held')) (sym asked) (entries, m.1)))
+    by (inr m) =
+        subst (Means given a report) (sym m.0.1) (inl (record {
+          solved = solved;
+          few = few;
+          text = subst (λ (b : Bool). HasText b given solved.program solved.done (AppendsFront a.held a.held')) (sym asked) (entries, m.1);
+          cause = m.2;
+        }))
+
+-- no list is written while a proof is
+proved-unstreamed : (given : Options) (p : Program) (b : Bool) → given.proof ≡ true → streams given p ≡ b → b ≡ false
+proved-unstreamed given p false asked on = refl
+proved-unstreamed given p true asked on = absurd (false≢true (sym (unproved given p on) ∙ asked))
+
+-- its proof was written while it was found
+runs-proved : (given : Options) (a : Around) (p : Program) (o : Outcome) → given.split ≡ None → IsGiven given.format given.make a p → IsSound p →
+    HasNumbers given p → a.reads ≤ a.reads' → a.reads' ≡ a.reads → given.proof ≡ true
+    → Proves given p a.held a.held' a.writes a.writes' o → Runs given a o
+runs-proved given a p o whole from sound numbers reads quiet asked (inl cut) =
+    let short : IsProofCut given a o.report = record { program = p; source = from; asked = asked; none = cut.none; entries = cut.entries; text = cut.text } in
+    let means : Means given a o.report o.status = by cut.why short in
+    record { means = means; exact = exact given a o.report o.status means (λ isn't. quiet); later = (reads, cut.later) }
+  where
+    by : ((o.status ≡ Memory) × (a.writes' ≡ a.writes)) ⊎ (IsLost o.status × Rose a.writes a.writes') → IsProofCut given a o.report → Means given a o.report o.status
+    by (inl m) short = subst (Means given a o.report) (sym m.0) (inr (inr short))
+    by (inr m) short = subst (Means given a o.report) (sym m.0.1) (inr (inr (inl (inr short, m.1))))
+runs-proved given a p o whole from sound numbers reads quiet asked (inr s) =
+    let off = proved-unstreamed given p (streams given p) asked refl in
+    let is : IsReport (searched given p) (run_ask given p) given.budget s.0 = subst (λ (ask : Ask). IsReport (searched given p) ask given.budget s.0) (asked-once given p off) s.1 in
+    let solved : IsSolved given a o.report = record {
+      program = p;
+      source = from;
+      sound = sound;
+      numbers = numbers;
+      whole = whole;
+      done = s.0;
+      reports = subst (λ (b : Bool). IsReported b given.models (set_aside given p) s.0 o.report) (sym off) s.2.reports;
+      is = is;
+      says = told-says given p (run_ask given p) s.0 s.0.results.end (asked-sound given p sound numbers) is.says;
+    } in
+    let means = proof-written given a o.status o.report s.2.entries asked solved (λ on some. absurd (false≢true (sym off ∙ on))) s.2.wrote in
+    record { means = means; exact = exact given a o.report o.status means (λ isn't. quiet); later = (reads, s.2.wrote.later) }
+
+-- its list was written while it was found
 runs-streamed : (given : Options) (a : Around) (p : Program) (o : Outcome) → given.split ≡ None → IsGiven given.format given.make a p → IsSound p →
     HasNumbers given p → a.reads ≤ a.reads' → a.reads' ≡ a.reads → streams given p ≡ true
-    → Streams (searched given p) given.budget given.models a.held a.held' a.writes a.writes' o → Runs given a o
+    → Streams (searched given p) (mode_of given.mode p) given.budget given.models a.held a.held' a.writes a.writes' o → Runs given a o
 runs-streamed given a p o whole from sound numbers reads quiet on (inl cut) =
     let short = streamed-cut given a p o from sound numbers on cut in
     let means : Means given a o.report o.status = by cut.why short in
     record { means = means; exact = exact given a o.report o.status means (λ isn't. quiet); later = (reads, cut.later) }
   where
     by : ((o.status ≡ Memory) × (a.writes' ≡ a.writes)) ⊎ (IsLost o.status × Rose a.writes a.writes') → IsStreamCut given a o.report → Means given a o.report o.status
-    by (inl m) short = subst (Means given a o.report) (sym m.0) (inr short)
-    by (inr m) short = subst (Means given a o.report) (sym m.0.1) (inr (inr (inl (short, m.1))))
-runs-streamed given a p o whole from sound numbers reads quiet on (inr (inl f)) = by f.3
+    by (inl m) short = subst (Means given a o.report) (sym m.0) (inr (inl short))
+    by (inr m) short = subst (Means given a o.report) (sym m.0.1) (inr (inr (inl (inl short, m.1))))
+runs-streamed given a p o whole from sound numbers reads quiet on (inr (inl f)) = by f.4
   where
-    by : DeliversRest (searched given p) f.0 f.1 given.models a.held a.held' a.writes a.writes' o ⊎ DeliversPart (searched given p) f.0 f.1 given.models a.held a.held' a.writes a.writes' o
+    by : DeliversRest (searched given p) f.0 f.1 f.2 given.models a.held a.held' a.writes a.writes' o ⊎ DeliversPart (searched given p) f.0 f.1 f.2 given.models a.held a.held' a.writes a.writes' o
         → Runs given a o
     by (inl d) =
-        let solved = streamed-solved given a p f.0 f.1 o whole from sound numbers on f.2 d.reports in
-        let means = delivered given a o.status o.report solved (λ streamed some. d.few some)
-        (means-asked given p (searched given p) f.0 f.1 a.held a.held' a.writes a.writes' o.status (is-listing given p on) d.means) in
+        let solved = streamed-solved given a p f.0 f.1 f.2 o whole from sound numbers on f.3 d.reports in
+        let means = delivered given a o.status o.report (unproved given p on) solved (λ streamed some. d.few some)
+        (means-asked given p (searched given p) f.2 a.held a.held' a.writes a.writes' o.status (done-is given p f.0 f.1 f.2 (is-listing given p on) f.3) d.means) in
         record { means = means; exact = exact given a o.report o.status means (λ isn't. quiet); later = (reads, d.later) }
     by (inr d) =
-        let solved = streamed-solved given a p f.0 f.1 o whole from sound numbers on f.2 d.reports in
+        let solved = streamed-solved given a p f.0 f.1 f.2 o whole from sound numbers on f.3 d.reports in
         let has : HasPart given a o.report = record { solved = solved; end_is = d.end_is; streamed = on; some = d.some; enough = d.enough } in
-        let means = part-written given a _ o.status o.report has (part-lines given p f.0 f.1 (is-listing given p on)) d.wrote in
+        let means = part-written given a _ o.status o.report has (part-lines given p f.2 (done-is given p f.0 f.1 f.2 (is-listing given p on) f.3)) d.wrote in
         record { means = means; exact = exact given a o.report o.status means (λ isn't. quiet); later = (reads, d.wrote.later) }
 runs-streamed given a p o whole from sound numbers reads quiet on (inr (inr d)) =
     let has = streamed-first given a p o from sound numbers on d in
-    let means = first-written given a _ o.status o.report has (first-searched given p given.models sound numbers (is-listing given p on)) d.wrote in
+    let means = first-written given a _ o.status o.report has (first-searched given p d.price given.models sound numbers (is-listing given p on)) d.wrote in
     record { means = means; exact = exact given a o.report o.status means (λ isn't. quiet); later = (reads, d.wrote.later) }
 
 runs-divided : (given : Options) (a : Around) (p : Program) (most : ℕ) (o : Outcome) → given.split ≡ Some most → IsGiven given.format given.make a p → a.reads ≤ a.reads' → a.reads' ≡ a.reads
@@ -324,17 +401,34 @@ prepares given l l' r r' p (Err status) ready same numbers wanting = subst (IsOv
 
 -- it is solved
 pub runs-ready : (given : Options) (l l' : Option (List ℕ)) (r r' : ℕ) (h h' : Option (List ℕ)) (w w' : ℕ) (p : Program) (o : Outcome) →
-    given.split ≡ None → IsReady given l l' r r' p → HasNumbers given p → streams given p ≡ false → Solves given p h h' w w' o
+    given.split ≡ None → IsReady given l l' r r' p → HasNumbers given p → streams given p ≡ false → given.proof ≡ false → Solves given p h h' w w' o
     → Runs given (around l l' r r' h h' w w') o
-runs-ready given l l' r r' h h' w w' p o whole ready numbers off solves =
-    runs-solved given (around l l' r r' h h' w w') p o whole (ready.source h h' w w') ready.sound numbers ready.later ready.quiet off solves
+runs-ready given l l' r r' h h' w w' p o whole ready numbers off plain solves =
+    runs-solved given (around l l' r r' h h' w w') p o whole (ready.source h h' w w') ready.sound numbers ready.later ready.quiet off plain solves
 
--- at once, or its answers while they are found
-runs-by : (given : Options) (l l' : Option (List ℕ)) (r r' : ℕ) (h h' : Option (List ℕ)) (w w' : ℕ) (p : Program) (o : Outcome) (b : Bool) →
-    given.split ≡ None → IsReady given l l' r r' p → HasNumbers given p → streams given p ≡ b → SolvesBy b given p h h' w w' o
+-- and its proof is written while it is found
+runs-shown : (given : Options) (l l' : Option (List ℕ)) (r r' : ℕ) (h h' : Option (List ℕ)) (w w' : ℕ) (p : Program) (o : Outcome) →
+    given.split ≡ None → IsReady given l l' r r' p → HasNumbers given p → given.proof ≡ true → Proves given p h h' w w' o
     → Runs given (around l l' r r' h h' w w') o
-runs-by given l l' r r' h h' w w' p o false whole ready numbers off solves = runs-ready given l l' r r' h h' w w' p o whole ready numbers off solves
-runs-by given l l' r r' h h' w w' p o true whole ready numbers on solves =
+runs-shown given l l' r r' h h' w w' p o whole ready numbers asked proves =
+    runs-proved given (around l l' r r' h h' w w') p o whole (ready.source h h' w w') ready.sound numbers ready.later ready.quiet asked proves
+
+-- workers solved it, or proved it
+pub runs-crew : (given : Options) (l l' : Option (List ℕ)) (r r' : ℕ) (h h' : Option (List ℕ)) (w w' : ℕ) (p : Program) (o : Outcome) →
+    given.split ≡ None → IsReady given l l' r r' p → HasNumbers given p → streams given p ≡ false → SolvesOr given.proof given p h h' w w' o
+    → Runs given (around l l' r r' h h' w w') o
+runs-crew given l l' r r' h h' w w' p o whole ready numbers off solves = by given.proof refl solves
+  where
+    by : (b : Bool) → given.proof ≡ b → SolvesOr b given p h h' w w' o → Runs given (around l l' r r' h h' w w') o
+    by false plain solves = runs-ready given l l' r r' h h' w w' p o whole ready numbers off plain solves
+    by true asked proves = runs-shown given l l' r r' h h' w w' p o whole ready numbers asked proves
+
+-- at once, or its list while it is found
+runs-by : (given : Options) (l l' : Option (List ℕ)) (r r' : ℕ) (h h' : Option (List ℕ)) (w w' : ℕ) (p : Program) (o : Outcome) (b : Bool) →
+    given.split ≡ None → IsReady given l l' r r' p → HasNumbers given p → given.proof ≡ false → streams given p ≡ b → SolvesBy b given p h h' w w' o
+    → Runs given (around l l' r r' h h' w w') o
+runs-by given l l' r r' h h' w w' p o false whole ready numbers plain off solves = runs-ready given l l' r r' h h' w w' p o whole ready numbers off plain solves
+runs-by given l l' r r' h h' w w' p o true whole ready numbers plain on solves =
     runs-streamed given (around l l' r r' h h' w w') p o whole (ready.source h h' w w') ready.sound numbers ready.later ready.quiet on solves
 
 -- it is divided
@@ -349,7 +443,11 @@ pub runs-done : (given : Options) (l l' : Option (List ℕ)) (r r' : ℕ) (h h' 
 runs-done given l l' r r' h h' w w' p o ready numbers done = go given.split refl done
   where
     go : (m : Option ℕ) → given.split ≡ m → DoesBy m given p h h' w w' o → Runs given (around l l' r r' h h' w w') o
-    go None asked d = runs-by given l l' r r' h h' w w' p o (streams given p) asked ready numbers refl d
+    go None asked d = by given.proof refl d
+      where
+        by : (b : Bool) → given.proof ≡ b → SolvesAs b given p h h' w w' o → Runs given (around l l' r r' h h' w w') o
+        by false plain solves = runs-by given l l' r r' h h' w w' p o (streams given p) asked ready numbers plain refl solves
+        by true wanted proves = runs-shown given l l' r r' h h' w w' p o asked ready numbers wanted proves
     go (Some most) asked d = runs-parted given l l' r r' h h' w w' p most o asked ready d
 
 -- the units of a report are of its program

@@ -1,5 +1,5 @@
 -- What a run that finished has read and written, from what its status means.
-use Rattle.std.proofs.Common.{◌≡◌, ℕ, ◌<◌, ◌≤◌, Bool, true, false, not, ◌&&◌, ◌||◌, cond, List, [], ◌∷◌, ◌++◌, length, take, inl, inr, refl, sym, ap, ◌∙◌, subst, ℤ, Contains, arith, length-take-le}
+use Rattle.std.proofs.Common.{◌≡◌, ℕ, ◌<◌, ◌≤◌, Bool, true, false, not, ◌&&◌, ◌||◌, cond, List, [], ◌∷◌, ◌++◌, length, take, inl, inr, refl, sym, ap, ◌∙◌, subst, ℤ, Contains, arith, append_assoc, length-take-le}
 use Rattle.std.specs.Prelude.{Option, None, Some, Ok, IfSome, codes, decimal, filter, flat_map, is_some, map, option_map}
 use Rattle.std.specs.List.{list_any}
 use Rattle.std.specs.Io.KnownBytes.{Appends}
@@ -30,7 +30,6 @@ use Rattle.asp_equal.specs.Reduced.{restored}
 use Rattle.asp_crew_laws.specs.declared.report.Report.{Report}
 use Rattle.asp_crew_laws.specs.Runs.{IsBest, IsFound}
 use Rattle.asp_crew_laws.specs.Reports.{HasBest, IsAllFound, IsAsked, IsPartOf, Says as SaysReport, asks_list}
-use Rattle.asp_crew_laws.specs.Proofs.{HasProof}
 use Rattle.asp_cli.specs.Given.{Given, options}
 use Rattle.asp_cli.specs.declared.Options.{Options}
 use Rattle.asp_top.specs.declared.status.Status.{Status}
@@ -41,8 +40,10 @@ use Rattle.asp_model.specs.declared.program.Minimize.{Minimize}
 use Rattle.asp_model.specs.Texts.{shown}
 use Rattle.asp_prepare.specs.Meaning.{has_model_in, is_some_of, mode_by, mode_of}
 use Rattle.asp_prepare.specs.Naming.{HasNumbers, asked, is_json, is_named, is_settled, set_aside}
-use Rattle.asp_prepare.specs.Told.{found_with, report_text, report_with, text_by, text_in, with_known, without_names}
-use Rattle.asp_top.specs.Runs.{Around, IsGiven, IsSentOn, IsWritten, Means, Runs, first_text, is_brief, layout_of, run_ask, streams}
+use Rattle.asp_prepare.specs.Told.{found_with, report_text, report_with, text_in, with_known, without_names}
+use Rattle.asp_outlet.specs.Outlets.{closing_of}
+use Rattle.asp_top.specs.Notes.{is_list}
+use Rattle.asp_top.specs.Runs.{Around, HasText, IsCostOf, IsGiven, IsSentOn, IsWritten, Means, Runs, first_text, is_brief, layout_of, run_ask, streams, whole_list}
 use Rattle.asp_top.proofs.ListingLaws.{IsListing, is-listing, streams-by}
 use Rattle.asp_top.specs.Series.{RunsBy, RunsOn}
 use Rattle.asp_json.specs.Json.{json_text, json_with}
@@ -52,7 +53,6 @@ use Rattle.asp_cli.specs.declared.Format.{Format}
 use Rattle.asp_top.specs.Formats.{outcome_for}
 use Rattle.asp_top.specs.Whole.{ArePicked, ArePickedBy, InForm, IsInput, IsWhole, TellsAll, TellsEnough, TellsNone, Wrote, closing, none_text, told_line}
 use Rattle.asp_prepare.proofs.PlainLaws.{model-same, text-same}
-use Rattle.asp_prepare.proofs.ToldLaws.{no-proof}
 
 -- ---- what is read
 input-told : (f : Format) (left : Option (List ℕ)) (p : Program) → IfSome left (λ t. outcome_for f t ≡ Ok p) → (text : List ℕ) ×
@@ -102,14 +102,14 @@ no-lines true p = refl
 no-lines false p = refl
 
 -- an optimum is one of the optima
-an-optimum : (p : Program) (S : Atoms) (c : List ℤ) → IsOptimum p S c → Contains (optima p) S
+pub an-optimum : (p : Program) (S : Atoms) (c : List ℤ) → IsOptimum p S c → Contains (optima p) S
 an-optimum p S c is = (optima-are p S).1 (record {
   answer = is.answer;
   sums = refl;
   least = subst (λ (d : List ℤ). list_any (λ T. betters (cost p T) d) (answers p) ≡ false) is.sums is.least;
 })
 
-no-optima : (p : Program) → answers p ≡ [] → optima p ≡ []
+pub no-optima : (p : Program) → answers p ≡ [] → optima p ≡ []
 no-optima p none = ap (λ (all : List Atoms). filter (λ S. not (list_any (λ T. betters (cost p T) (cost p S)) all)) all) none
 
 -- ---- finished, with an answer
@@ -403,17 +403,73 @@ tells-listed-enough given p L best known picked brief = by given.form refl
     by Text form = in-lines given.stream form refl
     by Json form = (L, (picked, enough-enum Json given p given.models L best known picked.1))
 
--- the first of them were written, in lines
-first-told : (given : Options) (p : Program) → IsListing given p → given.models ≤ length (answers p) → TellsEnough given p (mode_of given.mode p) (first_text p given.models)
-first-told given p list enough =
+-- what a text of optima tells, in this form
+abbrev ToldOptima : Form → Bool → Options → Program → List ℕ → Atoms → List Atoms → Type 0
+ToldOptima form streamed given p text S Ss =
+    InForm form (ArePickedBy streamed given.models (optima p) Ss × (text ≡ lines (is_brief given) p Ss ++ cost_line (cost p S) ++ last_lines given.models))
+    (ArePicked given.models (optima p) Ss × (text ≡ json_found given p (found Opt Limited Ss (Some (S, cost p S)) None)))
+
+-- Of them too no line tells which they are with `--stream`.
+tells-optima-enough : (given : Options) (p : Program) (L : List Atoms) (best : Option (Atoms × List ℤ)) (known : Option Atoms) →
+    asks_list given.all_optima Opt ≡ true → 0 < given.models → length L ≡ given.models
+    → IsPartOf given.all_optima false p Opt (found Opt Limited L best known) → IsBest p best
+    → (given.form ≡ Text → given.stream ≡ true → is_brief given ≡ true) → TellsEnough given p Opt (text_for given.form given p (found Opt Limited L best known))
+tells-optima-enough given p L best known listing some count part is brief = by given.form refl
+  where
+    in-lines : (streamed : Bool) → given.form ≡ Text → given.stream ≡ streamed →
+        (S : Atoms) × (Ss : List Atoms) × Contains (optima p) S × ToldOptima Text streamed given p (text_for Text given p (found Opt Limited L best known)) S Ss
+    in-lines false form stream =
+        let told = enough-opt Text given p given.models L best known listing some count part is in
+        (told.0, told.1, told.2, (told.3, told.4))
+    in-lines true form stream =
+        let told = enough-opt Text given p given.models L best known listing some count part is in (
+          told.0,
+          take given.models (optima p),
+          told.2,
+          (
+            (refl, length-take-le given.models (optima p) (few-of given.models (optima p) told.1 told.3)),
+            told.4 ∙ ap (λ (x : List ℕ). x ++ cost_line (cost p told.0) ++ last_lines given.models)
+                (brief-lines (is_brief given) p told.1 (take given.models (optima p)) (brief form stream)),
+          ),
+        )
+
+    by : (form : Form) → given.form ≡ form →
+        (S : Atoms) × (Ss : List Atoms) × Contains (optima p) S × ToldOptima form given.stream given p (text_for form given p (found Opt Limited L best known)) S Ss
+    by Text form = in-lines given.stream form refl
+    by Json form =
+        let told = enough-opt Json given p given.models L best known listing some count part is in
+        (told.0, told.1, told.2, (told.3, told.4))
+
+-- the first of the list were written, in lines
+first-lines : (mode : Mode) (given : Options) (p : Program) (price : Option (List ℤ)) → IsListing given p → is_list given.all_optima mode ≡ true → IsCostOf mode p price
+    → given.models ≤ length (whole_list mode p) → TellsEnough given p mode (first_text price p (whole_list mode p) given.models)
+first-lines Enum given p price list listed is enough =
     let Ss : List Atoms = take given.models (answers p) in
     let count : length Ss ≡ given.models = length-take-le given.models (answers p) enough in
-    let text : first_text p given.models ≡ lines (is_brief given) p Ss ++ last_lines given.models =
+    let text : first_text None p (answers p) given.models ≡ lines (is_brief given) p Ss ++ last_lines given.models =
     joined (lines false p Ss) _ _ (ap last_lines count) ∙ ap (λ (b : Bool). lines b p Ss ++ last_lines given.models) (sym list.full) in
-    let told : ToldEnough Text given.stream given p (first_text p given.models) Ss =
+    let told : ToldEnough Text given.stream given p (first_text None p (answers p) given.models) Ss =
     (subst (λ (b : Bool). ArePickedBy b given.models (answers p) Ss) (sym list.stream) (refl, count), text) in
-    subst (λ (m : Mode). TellsEnough given p m (first_text p given.models)) (sym list.mode)
-    (Ss, subst (λ (f : Form). ToldEnough f given.stream given p (first_text p given.models) Ss) (sym list.form) told)
+    subst (λ (c : Option (List ℤ)). TellsEnough given p Enum (first_text c p (answers p) given.models)) (sym is)
+    (Ss, subst (λ (f : Form). ToldEnough f given.stream given p (first_text None p (answers p) given.models) Ss) (sym list.form) told)
+first-lines Opt given p price list listed is enough =
+    let Ss : List Atoms = take given.models (optima p) in
+    let S : Atoms = is.0 in
+    let count : length Ss ≡ given.models = length-take-le given.models (optima p) enough in
+    let text : first_text (Some (cost p S)) p (optima p) given.models ≡ lines (is_brief given) p Ss ++ cost_line (cost p S) ++ last_lines given.models =
+    sym (append_assoc (lines false p Ss) (cost_line (cost p S)) (closing_of Opt Limited (length Ss)))
+    ∙ ap (λ (n : ℕ). lines false p Ss ++ cost_line (cost p S) ++ last_lines n) count
+    ∙ ap (λ (b : Bool). lines b p Ss ++ cost_line (cost p S) ++ last_lines given.models) (sym list.full) in
+    let told : ToldOptima Text given.stream given p (first_text (Some (cost p S)) p (optima p) given.models) S Ss =
+    (subst (λ (b : Bool). ArePickedBy b given.models (optima p) Ss) (sym list.stream) (refl, count), text) in
+    subst (λ (c : Option (List ℤ)). TellsEnough given p Opt (first_text c p (optima p) given.models)) (sym is.2)
+    (S, Ss, is.1, subst (λ (f : Form). ToldOptima f given.stream given p (first_text (Some (cost p S)) p (optima p) given.models) S Ss) (sym list.form) told)
+first-lines (Consequences w) given p price list listed is enough = absurd (false≢true listed)
+
+first-told : (given : Options) (p : Program) (price : Option (List ℤ)) → IsListing given p → IsCostOf (mode_of given.mode p) p price
+    → given.models ≤ length (whole_list (mode_of given.mode p) p)
+    → TellsEnough given p (mode_of given.mode p) (first_text price p (whole_list (mode_of given.mode p) p) given.models)
+first-told given p price list is enough = first-lines (mode_of given.mode p) given p price list list.lists is enough
 
 -- ---- whether there is a model, told with what was set aside
 some-map : {A B : Type 0} (f : A → B) (L : List A) → is_some_of (map f L) ≡ is_some_of L
@@ -590,13 +646,14 @@ nothing-asked given p (Consequences w) L best known sound numbers mode is none =
           told.1,
     )
 
--- Where the answers of an enumeration aren't written while they are found, they aren't, or not as lines.
-brief-so : (given : Options) (p : Program) → is_settled given ≡ true → mode_of given.mode p ≡ Enum → streams given p ≡ false → given.form ≡ Text → given.stream ≡ true → is_brief given ≡ true
-brief-so given p settled mode off form stream = by (is_brief given) refl
+-- Where a list isn't written while it is found, it isn't, or not as lines.
+brief-so : (given : Options) (p : Program) → is_settled given ≡ true → is_list given.all_optima (mode_of given.mode p) ≡ true → streams given p ≡ false →
+    given.form ≡ Text → given.stream ≡ true → is_brief given ≡ true
+brief-so given p settled lists off form stream = by (is_brief given) refl
   where
     by : (b : Bool) → is_brief given ≡ b → is_brief given ≡ true
     by true e = e
-    by false e = absurd (false≢true (sym off ∙ streams-by given p (record { stream = stream; mode = mode; form = form; full = e; settled = settled })))
+    by false e = absurd (false≢true (sym off ∙ streams-by given p (record { stream = stream; lists = lists; form = form; full = e; settled = settled })))
 
 enough-asked : (given : Options) (p : Program) (mode : Mode) (L : List Atoms) (best : Option (Atoms × List ℤ)) (known : Option Atoms) →
     is_settled given ≡ true → streams given p ≡ false → mode_of given.mode p ≡ mode → asks_list given.all_optima mode ≡ true → 0 < given.models
@@ -605,11 +662,13 @@ enough-asked : (given : Options) (p : Program) (mode : Mode) (L : List Atoms) (b
 enough-asked given p Enum L best known settled off mode listing some count part is =
     subst (λ (q : Program). IsPartOf given.all_optima false q Enum (found Enum Limited L best known) →
     TellsEnough given p Enum (text_for given.form given q (found Enum Limited L best known))) (sym (asked-listed given p Enum mode refl))
-    (λ own. tells-listed-enough given p L best known (part-enum given.all_optima p (found Enum Limited L best known) own, count) (brief-so given p settled mode off)) part
+    (λ own. tells-listed-enough given p L best known (part-enum given.all_optima p (found Enum Limited L best known) own, count)
+    (brief-so given p settled (ap (is_list given.all_optima) mode) off)) part
 enough-asked given p Opt L best known settled off mode listing some count part is =
     subst (λ (q : Program). IsPartOf given.all_optima false q Opt (found Opt Limited L best known) → HasBest q Opt best →
     TellsEnough given p Opt (text_for given.form given q (found Opt Limited L best known))) (sym (asked-listed given p Opt mode refl))
-    (λ own best-own. enough-opt given.form given p given.models L best known listing some count own best-own) part is
+    (λ own best-own. tells-optima-enough given p L best known listing some count own best-own
+    (brief-so given p settled (ap (is_list given.all_optima) mode ∙ listing) off)) part is
 enough-asked given p (Consequences w) L best known settled off mode listing some count part is = absurd (false≢true listing)
 
 -- A run that asks for all answers has no limit.
@@ -650,9 +709,8 @@ wrote given a report end model Tells is_sent plain telling w sent =
     let s = w.solved.says in
     let R = with_known s.known told in
     let mode = mode_of given.mode p in
-    let none : done.proof ≡ None = no-proof done.results.end (is_some done.second) done.results done.proof (subst (λ wanted. HasProof wanted done) plain w.solved.proof) in
     let same : report_text q told (layout_of given) ≡ text_for given.form given q (found mode end R.results.answers R.results.best R.results.known) =
-    ap (λ proof. text_by proof q told.results (layout_of given)) none ∙ text-of given.form q told.results (is_brief given) given.names mode end w.solved.is.mode_is w.end_is
+    text-of given.form q told.results (is_brief given) given.names mode end w.solved.is.mode_is w.end_is
     ∙ text-same given.form given.names (is_brief given) q mode end told.results.answers told.results.best told.results.known s.known (is_named given)
     (last-of (is_settled given) (seeks_consequences (Some given.mode)) (given.names || is_json given.form)) s.same in
     record {
@@ -663,7 +721,7 @@ wrote given a report end model Tells is_sent plain telling w sent =
           (model-same (is_named given) q mode end told.results.answers told.results.best s.known told.results.known s.same
           ∙ model-of mode mode end told.results ∙ ap (λ m. has_model_in m told.results) (sym w.solved.is.mode_is)
           ∙ model-with F done.results.mode done.results ∙ w.model_is);
-      written = subst (Appends a.held a.held') same w.text;
+      written = subst (Appends a.held a.held') same (subst (λ (b : Bool). HasText b given p done (Appends a.held a.held')) plain w.text);
       sent = sent;
     }
 
@@ -686,8 +744,8 @@ whole given a o is_sent plain runs sent = by o.status runs.means sent
     by Enough (inr m) sent = record {
       program = m.has.program;
       input = input-of given.format given.make a m.has.program m.has.source;
-      text = first_text m.has.program given.models;
-      tells = first-told given m.has.program (is-listing given m.has.program m.has.streamed) m.has.enough;
+      text = first_text m.has.price m.has.program (whole_list (mode_of given.mode m.has.program) m.has.program) given.models;
+      tells = first-told given m.has.program m.has.price (is-listing given m.has.program m.has.streamed) m.has.told m.has.enough;
       written = m.text;
       sent = sent refl;
     }

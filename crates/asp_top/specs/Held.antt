@@ -7,7 +7,7 @@ use Rattle.asp_rows.specs.Bits.{word_count}
 use Rattle.asp_cli.specs.declared.Options.{Options}
 use Rattle.asp_prepare.specs.Meaning.{mode_of}
 use Rattle.asp_prepare.specs.Naming.{searched}
-use Rattle.asp_top.specs.Notes.{is_enumeration, lists_lines}
+use Rattle.asp_top.specs.Notes.{is_list, lists_lines}
 
 -- the bytes of an answer among these atoms: a row of 32, in which two words of 64 bits have room; where they are more, they stand apart
 abbrev pub row_bytes : List ℕ → ℕ
@@ -15,7 +15,7 @@ row_bytes atoms = if nat_lt 128 (length atoms) then 32 + 8 * word_count atoms el
 
 -- Whether answers are held until the end that `--stream` would write sooner: they are listed as lines, and it isn't asked for.
 abbrev pub holds : Options → Mode → Bool
-holds given mode = not given.stream && (is_enumeration mode && lists_lines given)
+holds given mode = not given.stream && (is_list given.all_optima mode && lists_lines given)
 
 -- how many bytes each answer takes that is held so, in a search of this program; 0 where none is
 abbrev pub row_in : Options → Program → ℕ

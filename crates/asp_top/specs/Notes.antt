@@ -110,17 +110,13 @@ optima_text given mode = if is_idle_request given mode then codes "aspenum: --op
 abbrev pub asked_text : Options → Mode → List ℕ
 asked_text given mode = limit_text given mode ++ optima_text given mode
 
-abbrev pub is_enumeration : Mode → Bool
-is_enumeration Enum = true
-is_enumeration _ = false
-
 -- whether answers are written as lines, where they are listed
 abbrev pub lists_lines : Options → Bool
 lists_lines given = not (is_json given.form) && (not (is_some given.make || given.quiet) && is_settled given)
 
 -- Whether answers are written while they are found: where that was asked for, and answers are listed as lines.
 abbrev pub is_streamed : Options → Mode → Bool
-is_streamed given mode = given.stream && (is_enumeration mode && lists_lines given)
+is_streamed given mode = given.stream && (is_list given.all_optima mode && lists_lines given)
 
 abbrev pub is_idle_stream : Options → Mode → Bool
 is_idle_stream given mode = given.stream && not (is_streamed given mode)

@@ -1,20 +1,38 @@
 -- What the notes get while a run goes on.
-use Rattle.std.specs.Prelude.{◌≡◌, ℕ, ◌+◌, ◌<◌, ◌≤◌, ◌⊎◌, ◌&&◌, Bool, true, false, List, [], ◌∷◌, ◌++◌, codes, ℤ, Option, None, Some, cond, nat_eq}
+use Rattle.std.specs.Prelude.{◌≡◌, ℕ, ◌+◌, ◌<◌, ◌≤◌, ◌^◌, ◌⊎◌, ◌&&◌, Bool, true, false, List, [], ◌∷◌, ◌++◌, codes, ℤ, Option, None, Some, cond, nat_eq, IfSome, length}
 use Rattle.std.proofs.Common.{inl, inr}
 use Rattle.std.specs.List.{AllByRecursion, flat_map}
 use Rattle.std.specs.Fmt.{decimal, signed_decimal}
 use Rattle.asp_counts.specs.declared.counts.Counts.{Counts}
 pub use Rattle.asp_counts.specs.Counting.{nothing}
 use Rattle.asp_counts.specs.Counting.{since}
+use Rattle.asp_counts.specs.declared.watch.Best.{Best}
+use Rattle.asp_crew_laws.specs.Reports.{IsPriced}
+use Rattle.asp_model.specs.declared.program.Program.{Program}
+use Rattle.asp_model.specs.Sets.{Atoms}
+use Rattle.asp_model.specs.Models.{atoms_of}
+use Rattle.asp_model.specs.Texts.{answers_from}
+use Rattle.asp_rows.specs.Listed.{Listed}
 use Rattle.asp_cli.specs.declared.Options.{Options}
 use Rattle.asp_top.specs.Counts.{item_text, part_items, search_items, told_items}
 use Rattle.asp_top.specs.Held.{IsMuch, held_text}
 use Rattle.asp_top.specs.Notes.{IsNoted}
 
--- what a line tells: the counts, and in an optimisation the cost of the best answer so far
+-- what the best answer costs that is told
+abbrev pub cost_in : Option Best → Option (List ℤ)
+cost_in None = None
+cost_in (Some b) = Some b.cost.now
+
+-- sets that are told as answers of a program
+pub record Shown : Type 0 where
+  pub program : Program
+  pub sets : List Atoms
+
+-- what a line tells: the counts, and in an optimisation the cost of the best answer so far; and what is shown behind it
 pub record Told : Type 0 where
   pub counts : Counts
   pub best : Option (List ℤ)
+  pub shown : Option Shown
 
 -- the sums of the best cost, each behind a blank
 abbrev pub best_text : Option (List ℤ) → List ℕ
@@ -31,6 +49,20 @@ end_of query = cond (nat_eq query 0) (codes "\n") (query_text query)
 abbrev pub line_of : Told → List ℕ
 line_of t = flat_map item_text (told_items t.counts) ++ best_text t.best ++ end_of t.counts.query
 
+-- rows that are told as answers of this program, where some are
+abbrev pub shown_of : Program → Option Listed → Option Shown
+shown_of p None = None
+shown_of p (Some rows) = Some (record { program = p; sets = rows.sets })
+
+-- the lines of the sets, of which the first has this number
+abbrev pub shown_text : ℕ → Option Shown → List ℕ
+shown_text n None = []
+shown_text n (Some s) = answers_from s.program n s.sets
+
+-- a line with what is shown behind it: the best answer has its number among the answers found
+abbrev pub told_text : Told → List ℕ
+told_text t = line_of t ++ shown_text t.counts.answers t.shown
+
 -- what was counted of a query, or of all queries together
 pub record Part : Type 0 where
   pub all : Bool
@@ -44,7 +76,7 @@ abbrev pub Entry : Type 0
 Entry = Told ⊎ (Part ⊎ ℕ)
 
 abbrev pub entry_text : Entry → List ℕ
-entry_text (inl t) = line_of t
+entry_text (inl t) = told_text t
 entry_text (inr (inl x)) = part_text x
 entry_text (inr (inr answers)) = held_text answers
 
@@ -52,11 +84,39 @@ entry_text (inr (inr answers)) = held_text answers
 abbrev pub tells_parts : Options → Bool
 tells_parts given = given.stats && given.queries
 
--- What is told is asked for; that answers are held is told where they take much, each so many bytes.
-abbrev pub IsDue : Bool → Bool → ℕ → Entry → Type 0
-IsDue on parts row (inl t) = on ≡ true
-IsDue on parts row (inr (inl x)) = parts ≡ true
-IsDue on parts row (inr (inr answers)) = IsMuch answers row
+-- what is told of a run: whether lines and parts are, how many bytes each answer takes that it holds, and the program whose better answers
+-- are shown, if they are
+pub record Scope : Type 0 where
+  pub on : Bool
+  pub parts : Bool
+  pub row : ℕ
+  pub sought : Option Program
+
+abbrev pub scope : Bool → Bool → ℕ → Option Program → Scope
+scope on parts row sought = record { on = on; parts = parts; row = row; sought = sought }
+
+-- What is shown are answers of the program, each of this cost.
+pub record AreBest (sought : Option Program) (best : Option (List ℤ)) (s : Shown) : Type 0 where
+  pub program : sought ≡ Some s.program
+  pub cost : List ℤ
+  pub cost_is : best ≡ Some cost
+  pub answers : AllByRecursion (λ S. IsPriced s.program (S, cost)) s.sets
+
+-- a row of an answer that costs so much, among the program's atoms
+pub record IsRowOfBest (p : Program) (c : List ℤ) (r : Listed) : Type 0 where
+  pub atoms : r.atoms ≡ atoms_of p
+  pub answers : AllByRecursion (λ S. IsPriced p (S, c)) r.sets
+  pub one : length r.sets ≡ 1
+
+-- the number of answers is one, and there is room for the next
+abbrev pub IsNumber : ℕ → Type 0
+IsNumber n = (0 < n) × (n + 1 < 2 ^ 64)
+
+-- What is told is asked for, and what is shown the best; that answers are held is told where they take much, each so many bytes.
+abbrev pub IsDue : Scope → Entry → Type 0
+IsDue s (inl t) = (s.on ≡ true) × IfSome t.shown (AreBest s.sought t.best)
+IsDue s (inr (inl x)) = s.parts ≡ true
+IsDue s (inr (inr answers)) = IsMuch answers s.row
 
 -- neither conflicts nor answers are fewer, and one of them are more
 pub record IsMore (c d : Counts) : Type 0 where
@@ -95,9 +155,9 @@ Warns w (inr (inr answers) ∷ told) v = (w ≡ false) × Warns true told v
 
 -- A front of the lines of a run that went on, of the parts of a series, and of this text was written, and all of it where no fault was
 -- counted. What isn't due isn't told.
-pub record IsTold (on parts : Bool) (row : ℕ) (held held' : Option (List ℕ)) (faults faults' : ℕ) (text : List ℕ) : Type 0 where
+pub record IsTold (s : Scope) (held held' : Option (List ℕ)) (faults faults' : ℕ) (text : List ℕ) : Type 0 where
   pub told : List Entry
-  pub due : AllByRecursion (IsDue on parts row) told
+  pub due : AllByRecursion (IsDue s) told
   pub last : Counts
   pub rises : Rises nothing told last
   pub before : Counts

@@ -1,5 +1,5 @@
 -- What each status of a run says of the words, of the bytes read and of the bytes written.
-use Rattle.std.specs.Prelude.{◌≡◌, ◌⊎◌, ℕ, ◌+◌, ◌-◌, ◌<◌, ◌≤◌, ◌^◌, ◌==◌, nat_lt, Bool, true, false, ◌||◌, if◌then◌else◌, List, [], ◌++◌, Option, None, Some, Result, Ok, Err, IfSome, is_some, length, take, ℤ}
+use Rattle.std.specs.Prelude.{◌≡◌, ◌⊎◌, ℕ, ◌+◌, ◌-◌, ◌<◌, ◌≤◌, ◌^◌, ◌==◌, nat_lt, Bool, true, false, ◌&&◌, ◌||◌, if◌then◌else◌, List, [], ◌++◌, Contains, Option, None, Some, Result, Ok, Err, IfSome, is_some, length, take, ℤ}
 use Rattle.std.specs.Io.KnownBytes.{Appends, Keeps, IsAtEnd}
 use Rattle.asp_io.specs.Causes.{Rose, AppendsFront}
 use Rattle.asp_read.specs.declared.fault.Fault.{Fault}
@@ -9,7 +9,9 @@ use Rattle.asp_model.specs.declared.program.Program.{Program}
 use Rattle.asp_model.specs.declared.results.Ask.{Ask}
 use Rattle.asp_model.specs.declared.results.End.{End}
 use Rattle.asp_model.specs.declared.results.End.TheVariants.{Finished, Limited, Unfinished}
-use Rattle.asp_model.specs.declared.results.Mode.TheVariants.{Enum}
+use Rattle.asp_model.specs.declared.results.Mode.{Mode}
+use Rattle.asp_model.specs.declared.results.Mode.TheVariants.{Enum, Opt, Consequences}
+use Rattle.asp_model.specs.Costs.{cost, optima}
 use Rattle.asp_model.specs.Sound.{IsSound}
 use Rattle.asp_equal.specs.declared.reduce.Aside.{Aside}
 use Rattle.asp_named.specs.Named.{has_numbers}
@@ -22,14 +24,15 @@ use Rattle.asp_make.specs.Texts.{parts_text}
 use Rattle.asp_cli.specs.Given.{Given, help, misuse, options, version}
 use Rattle.asp_cli.specs.declared.Options.{Options}
 use Rattle.asp_cli.specs.declared.Form.TheVariants as forms
-use Rattle.asp_model.specs.Models.{answers, atoms_of}
+use Rattle.asp_model.specs.Models.{atoms_of}
 use Rattle.asp_model.specs.Sets.{Atoms}
 use Rattle.asp_model.specs.Texts.{answers_from}
 use Rattle.asp_vars.specs.Numbering.{bodies_of}
 use Rattle.asp_counts.specs.Telling.{AreNumbered}
+use Rattle.asp_crew.specs.Refuting.{is_finished}
 use Rattle.asp_crew_laws.specs.declared.report.Report.{Report}
-use Rattle.asp_crew_laws.specs.Reports.{IsReport}
-use Rattle.asp_crew_laws.specs.Proofs.{HasProof}
+use Rattle.asp_crew_laws.specs.Reports.{IsReport, joined}
+use Rattle.asp_crew_laws.specs.Runs.{asks}
 use Rattle.asp_top.specs.declared.status.Status.{Status}
 use Rattle.asp_top.specs.declared.status.Status.TheVariants.{All, NoModel, Partial, Unknown, Enough, Help, Memory, Usage, Refused, ReadFault, TooLong, Unnamed, WriteFault, Parts}
 use Rattle.asp_top.specs.declared.status.Outcome.{Outcome}
@@ -43,16 +46,20 @@ use Rattle.asp_prepare.specs.Meaning.{has_model, is_some_of, mode_of}
 use Rattle.asp_prepare.specs.Naming.{HasNumbers, WhyNot, ask_of, asked, is_named, prepared_of, searched, set_aside}
 use Rattle.asp_prepare.specs.Told.{SaysOf, report_text, report_with, told_with}
 use Rattle.asp_top.specs.Meaning.{status_for}
-use Rattle.asp_outlet.specs.Outlets.{whole_text}
+use Rattle.asp_outlet.specs.Outlets.{list_of, optima_text, whole_text}
 use Rattle.asp_limit.specs.Limits.{room}
-use Rattle.asp_stream.specs.Endings.{HasReport, report_of}
+use Rattle.asp_stream.specs.Endings.{IsTellingOf, IsTellingOfTies, report_of}
 use Rattle.asp_stream.specs.declared.told.End.{End as StreamEnd}
 use Rattle.asp_stream.specs.declared.told.End.TheVariants as ends
 use Rattle.asp_stream.specs.declared.told.Told.{Told}
-use Rattle.asp_top.specs.Notes.{IsNoted, is_answered, is_streamed, is_written, note_of, notes_of}
+use Rattle.asp_proof.specs.declared.proof.Line.{Line}
+use Rattle.asp_proof.specs.declared.proof.Sought.{Sought}
+use Rattle.asp_proof.specs.Texts.{head_text, line_text, lines, text_of}
+use Rattle.asp_scribe.specs.Proofs.{proof_of, sought_of}
+use Rattle.asp_top.specs.Notes.{IsNoted, is_answered, is_optimum, is_streamed, is_written, note_of, notes_of}
 use Rattle.asp_top.specs.Parting.{AreParts, Divides}
 use Rattle.asp_top.specs.Held.{row_of}
-use Rattle.asp_top.specs.Progress.{IsTold, tells_parts}
+use Rattle.asp_top.specs.Progress.{IsTold, scope, tells_parts}
 use Rattle.asp_top.specs.Telling.{Point, Tells}
 use Rattle.asp_top.specs.Usage.{misuse_note}
 
@@ -95,16 +102,37 @@ abbrev pub IsGiven : Format → Option ℕ → Around → Program → Type 0
 IsGiven f None a p = IsRead f a p
 IsGiven f (Some n) a p = (p ≡ ring n) × IsUnasked a
 
--- ---- answers written while they are found
--- whether they are
+-- ---- a list that is written while it is found
+-- whether one is
 abbrev pub streams : Options → Program → Bool
 streams given p = is_streamed given (mode_of given.mode p)
+
+-- the list: all answers, or where an optimum is sought all optima
+abbrev pub whole_list : Mode → Program → List Atoms
+whole_list mode p = list_of (is_optimum mode) p
+
+-- The cost that is told after the last: of optima that of each, and of answers none.
+abbrev pub IsCostOf : Mode → Program → Option (List ℤ) → Type 0
+IsCostOf Enum p c = c ≡ None
+IsCostOf Opt p c = (S : Atoms) × Contains (optima p) S × (c ≡ Some (cost p S))
+IsCostOf (Consequences w) p c = ⊥
+
+-- the text of a list that ended so
+abbrev pub list_text : Option (List ℤ) → Program → End → List Atoms → List ℕ
+list_text None p end Ss = whole_text p end Ss
+list_text (Some c) p end Ss = optima_text p end c Ss
+
+-- what is asked of a run that has no limit
+abbrev pub list_ask : Mode → Ask
+list_ask Enum = asks Enum 0 false
+list_ask Opt = record { mode = Opt; models = 0; all_optima = true; by_name = false }
+list_ask (Consequences w) = asks (Consequences w) 0 false
 
 -- the report with these answers
 abbrev pub with_answers : List Atoms → Report → Report
 with_answers Ss r = record r { results = record r.results { answers = Ss } }
 
--- what is asked of a run: all answers, where they are written while they are found; the limit then ends what is written
+-- what is asked of a run: the whole list, where it is written while it is found; the limit then ends what is written
 abbrev pub run_ask : Options → Program → Ask
 run_ask given p = record (ask_of given p) { models = if streams given p then 0 else given.models }
 
@@ -120,7 +148,7 @@ IsReported true models A done report = (heard rest : List Atoms) × (done.result
 
 -- ---- outputs get atoms, and facts and copies are set aside, before the search
 -- No parts are asked for. The report is that of a run on what is left of the program, with what is asked of the run and the units that were given;
--- with what was set aside it says of the program what was asked, and has a proof if that was asked for. Where consequences are told by name all
+-- with what was set aside it says of the program what was asked. Where consequences are told by name all
 -- this is about the program with atoms for its outputs, and the texts of those are what is said.
 pub record IsSolved (given : Options) (a : Around) (report : Option Report) : Type 0 where
   pub program : Program
@@ -132,7 +160,6 @@ pub record IsSolved (given : Options) (a : Around) (report : Option Report) : Ty
   pub reports : IsReported (streams given program) given.models (set_aside given program) done report
   pub is : IsReport (searched given program) (run_ask given program) given.budget done
   pub says : SaysOf (asked given program) (run_ask given program) (report_with (set_aside given program) done) done.results.end
-  pub proof : HasProof given.proof done
 
 -- the closing lines alone are written of a ring, and where they were asked for
 abbrev pub is_brief : Options → Bool
@@ -146,19 +173,25 @@ layout_of given = record { form = given.form; brief = is_brief given; names = gi
 abbrev pub IsFew : Options → Program → Report → Type 0
 IsFew given p done = streams given p ≡ true → 0 < given.models → length done.results.answers < given.models
 
+-- ---- its text
+-- The text of the results; or where a proof is asked for that of a proof that lists them, with some lines.
+abbrev pub HasText : Bool → Options → Program → Report → (List ℕ → Type 0) → Type 0
+HasText false given p done Is = Is (report_text (asked given p) (report_with (set_aside given p) done) (layout_of given))
+HasText true given p done Is = (entries : List Line) × Is (text_of (proof_of (ask_of given p) entries done.results))
+
 -- exactly the text of the report was written
 pub record IsWritten (given : Options) (a : Around) (report : Option Report) (end : End) (model : Bool) : Type 0 where
   pub solved : IsSolved given a report
   pub end_is : solved.done.results.end ≡ end
   pub model_is : has_model solved.done.results ≡ model
   pub few : IsFew given solved.program solved.done
-  pub text : Appends a.held a.held' (report_text (asked given solved.program) (report_with (set_aside given solved.program) solved.done) (layout_of given))
+  pub text : HasText given.proof given solved.program solved.done (Appends a.held a.held')
 
 -- a front of that text was written, and a fault counted
 pub record IsCutOff (given : Options) (a : Around) (report : Option Report) : Type 0 where
   pub solved : IsSolved given a report
   pub few : IsFew given solved.program solved.done
-  pub text : AppendsFront a.held a.held' (report_text (asked given solved.program) (report_with (set_aside given solved.program) solved.done) (layout_of given))
+  pub text : HasText given.proof given solved.program solved.done (AppendsFront a.held a.held')
   pub cause : Rose a.writes a.writes'
 
 -- the program was divided into parts as was asked, and not solved
@@ -182,38 +215,54 @@ pub record ArePartsCutOff (given : Options) (a : Around) (report : Option Report
   pub text : AppendsFront a.held a.held' (parts_text divided.cubes)
   pub cause : Rose a.writes a.writes'
 
--- A run whose answers are written while they are found ended before: a front of the lines of all answers was written, and nothing is
+-- A run whose list is written while it is found ended before: a front of the lines of the whole list was written, and nothing is
 -- reported.
 pub record IsStreamCut (given : Options) (a : Around) (report : Option Report) : Type 0 where
   pub program : Program
   pub source : IsGiven given.format given.make a program
   pub streamed : streams given program ≡ true
   pub none : report ≡ None
-  pub text : AppendsFront a.held a.held' (answers_from program 1 (answers program))
+  pub text : AppendsFront a.held a.held' (answers_from program 1 (whole_list (mode_of given.mode program) program))
+
+-- A run whose proof is written while it goes on ended before: a front of the head of a proof's text and some lines was written, no answer
+-- and no last line, and nothing is reported.
+pub record IsProofCut (given : Options) (a : Around) (report : Option Report) : Type 0 where
+  pub program : Program
+  pub source : IsGiven given.format given.make a program
+  pub asked : given.proof ≡ true
+  pub none : report ≡ None
+  pub entries : List Line
+  pub text : AppendsFront a.held a.held' (head_text (sought_of (ask_of given program)) ++ lines line_text entries)
+
+-- a run that wrote while it went on ended before
+abbrev pub IsRunCut : Options → Around → Option Report → Type 0
+IsRunCut given a report = IsStreamCut given a report ⊎ IsProofCut given a report
 
 -- ---- as many answers as `--models` asks for, written while they are found
--- They are the first of all answers. The report tells that a list was sought.
+-- They are the first of the list. The report tells that a list was sought.
 pub record HasFirst (given : Options) (a : Around) (report : Option Report) : Type 0 where
   pub program : Program
   pub source : IsGiven given.format given.make a program
   pub streamed : streams given program ≡ true
   pub some : 0 < given.models
-  pub enough : given.models ≤ length (answers program)
-  pub reports : (r : Report) × (report ≡ Some r) × (r.results.mode ≡ Enum)
+  pub enough : given.models ≤ length (whole_list (mode_of given.mode program) program)
+  pub price : Option (List ℤ)
+  pub told : IsCostOf (mode_of given.mode program) program price
+  pub reports : (r : Report) × (report ≡ Some r) × (r.results.mode ≡ mode_of given.mode program)
 
--- the lines of the first answers, so many, and those after the last
-abbrev pub first_text : Program → ℕ → List ℕ
-first_text p models = whole_text p Limited (take models (answers p))
+-- the lines of the first of a list, so many, and those after the last
+abbrev pub first_text : Option (List ℤ) → Program → List Atoms → ℕ → List ℕ
+first_text c p all models = list_text c p Limited (take models all)
 
 -- exactly these lines were written
 pub record IsFirst (given : Options) (a : Around) (report : Option Report) : Type 0 where
   pub has : HasFirst given a report
-  pub text : Appends a.held a.held' (first_text has.program given.models)
+  pub text : Appends a.held a.held' (first_text has.price has.program (whole_list (mode_of given.mode has.program) has.program) given.models)
 
 -- a front of them was written, and a fault counted
 pub record IsFirstCut (given : Options) (a : Around) (report : Option Report) : Type 0 where
   pub has : HasFirst given a report
-  pub text : AppendsFront a.held a.held' (first_text has.program given.models)
+  pub text : AppendsFront a.held a.held' (first_text has.price has.program (whole_list (mode_of given.mode has.program) has.program) given.models)
   pub cause : Rose a.writes a.writes'
 
 -- The budget was spent before it was known which answers are the first, and no fewer were found than `--models` asks for.
@@ -288,14 +337,14 @@ Means given a report Partial = IsWritten given a report Unfinished true ⊎ IsPa
 Means given a report Unknown = IsWritten given a report Unfinished false
 Means given a report Enough = IsWritten given a report Limited true ⊎ IsFirst given a report
 Means given a report Help = ⊥
-Means given a report Memory = IsUntouched a report ⊎ IsStreamCut given a report
+Means given a report Memory = IsUntouched a report ⊎ IsRunCut given a report
 Means given a report Usage = ⊥
 Means given a report (Refused fault line) = Reads given × IsRefused given.format a report (errors.Refused fault line)
 Means given a report ReadFault = Reads given × IsUnread given.format a report
 Means given a report TooLong = Reads given × IsRefused given.format a report errors.TooLong
 Means given a report Unnamed = IsUnnamed given a report
 Means given a report (WriteFault closed) =
-    IsCutOff given a report ⊎ (ArePartsCutOff given a report ⊎ ((IsStreamCut given a report × Rose a.writes a.writes') ⊎ (IsFirstCut given a report ⊎ IsPartCut given a report)))
+    IsCutOff given a report ⊎ (ArePartsCutOff given a report ⊎ ((IsRunCut given a report × Rose a.writes a.writes') ⊎ (IsFirstCut given a report ⊎ IsPartCut given a report)))
 Means given a report Parts = IsParted given a report
 
 -- an accepted text, where one is read
@@ -352,26 +401,66 @@ Concludes layout p A r held held' writes writes' o =
 abbrev pub Solves : Options → Program → Option (List ℕ) → Option (List ℕ) → ℕ → ℕ → Outcome → Type 0
 Solves given p held held' writes writes' o =
     ((o ≡ record { status = Memory; report = None }) × Keeps held held' × (writes' ≡ writes))
-    ⊎ ((r : Report) × (IsReport (searched given p) (ask_of given p) given.budget r × HasProof given.proof r) ×
+    ⊎ ((r : Report) × IsReport (searched given p) (ask_of given p) given.budget r ×
     Delivers (layout_of given) (searched given p) (told_with (set_aside given p) r) held held' writes writes' o)
-
--- ---- a list that is written while it is found
--- Memory ran out or a write failed before, and a front of the list's lines was written.
-pub record IsCutShort (p : Program) (held held' : Option (List ℕ)) (writes writes' : ℕ) (o : Outcome) : Type 0 where
-  pub none : o.report ≡ None
-  pub text : AppendsFront held held' (answers_from p 1 (answers p))
-  pub why : ((o.status ≡ Memory) × (writes' ≡ writes)) ⊎ (IsLost o.status × Rose writes writes')
-  pub later : writes ≤ writes'
-
--- as lines, each answer with them
-abbrev pub as_lines : Layout
-as_lines = record { form = forms.Text; brief = false; names = false }
 
 -- This text was written, and so the status is this one; or a front of it, and exactly then a fault was counted.
 pub record WritesAs (status : Status) (text : List ℕ) (held held' : Option (List ℕ)) (writes writes' : ℕ) (result : Status) : Type 0 where
   pub means : ((result ≡ status) × Appends held held' text) ⊎ (IsLost result × AppendsFront held held' text × Rose writes writes')
   pub later : writes ≤ writes'
   pub quiet : TellsFaults writes writes' result
+
+-- ---- a proof that is written while it is found
+-- Memory ran out or a write failed before, and a front of the head of a proof's text and of some lines was written.
+pub record IsProofStopped (s : Sought) (held held' : Option (List ℕ)) (writes writes' : ℕ) (o : Outcome) : Type 0 where
+  pub none : o.report ≡ None
+  pub entries : List Line
+  pub text : AppendsFront held held' (head_text s ++ lines line_text entries)
+  pub why : ((o.status ≡ Memory) × (writes' ≡ writes)) ⊎ (IsLost o.status × Rose writes writes')
+  pub later : writes ≤ writes'
+
+-- The text of a proof was written that lists these answers, and so the status is this one; or a front of it.
+pub record WritesProof (s : Sought) (listed : List Atoms) (part : Bool) (status : Status) (held held' : Option (List ℕ)) (writes writes' : ℕ) (result : Status) : Type 0 where
+  pub entries : List Line
+  pub wrote : WritesAs status (text_of (record { sought = s; lines = entries; answers = listed; part = part })) held held' writes writes' result
+
+-- The text of a proof was written that lists what the report found, or a front of it, and exactly then a fault was counted.
+pub record DeliversProof (ask : Ask) (A : Aside) (r : Report) (held held' : Option (List ℕ)) (writes writes' : ℕ) (o : Outcome) : Type 0 where
+  pub reports : o.report ≡ Some (told_with A r)
+  pub entries : List Line
+  pub wrote : WritesAs (status_for r.results.end (has_model r.results)) (text_of (proof_of ask entries r.results)) held held' writes writes' o.status
+
+-- The proof of what the report found was written, unless it was stopped.
+abbrev pub EndsProof : Ask → Aside → Report → Option (List ℕ) → Option (List ℕ) → ℕ → ℕ → Outcome → Type 0
+EndsProof ask A r held held' writes writes' o = IsProofStopped (sought_of ask) held held' writes writes' o ⊎ DeliversProof ask A r held held' writes writes' o
+
+-- the same where memory may have run out before there was a report
+abbrev pub EndsProofBy : {E : Type 0} → Result Report E → Ask → Aside → Option (List ℕ) → Option (List ℕ) → ℕ → ℕ → Outcome → Type 0
+EndsProofBy (Ok r) ask A held held' writes writes' o = EndsProof ask A r held held' writes writes' o
+EndsProofBy (Err e) ask A held held' writes writes' o = IsProofStopped (sought_of ask) held held' writes writes' o
+
+-- The program was solved as was asked, and its proof written while it went on, unless it was stopped.
+abbrev pub Proves : Options → Program → Option (List ℕ) → Option (List ℕ) → ℕ → ℕ → Outcome → Type 0
+Proves given p held held' writes writes' o =
+    IsProofStopped (sought_of (ask_of given p)) held held' writes writes' o
+    ⊎ ((r : Report) × IsReport (searched given p) (ask_of given p) given.budget r × DeliversProof (ask_of given p) (set_aside given p) r held held' writes writes' o)
+
+-- what workers do: they solve it, or prove it where a proof is asked for
+abbrev pub SolvesOr : Bool → Options → Program → Option (List ℕ) → Option (List ℕ) → ℕ → ℕ → Outcome → Type 0
+SolvesOr false given p held held' writes writes' o = Solves given p held held' writes writes' o
+SolvesOr true given p held held' writes writes' o = Proves given p held held' writes writes' o
+
+-- ---- a list that is written while it is found
+-- Memory ran out or a write failed before, and a front of the list's lines was written.
+pub record IsCutShort (p : Program) (all : List Atoms) (held held' : Option (List ℕ)) (writes writes' : ℕ) (o : Outcome) : Type 0 where
+  pub none : o.report ≡ None
+  pub text : AppendsFront held held' (answers_from p 1 all)
+  pub why : ((o.status ≡ Memory) × (writes' ≡ writes)) ⊎ (IsLost o.status × Rose writes writes')
+  pub later : writes ≤ writes'
+
+-- as lines, each answer with them
+abbrev pub as_lines : Layout
+as_lines = record { form = forms.Text; brief = false; names = false }
 
 -- fewer were found than the limit says; 0 is no limit
 abbrev pub is_few : ℕ → ℕ → Bool
@@ -392,78 +481,151 @@ last_at models written rest e = last_of e (is_few models (written + rest)) (room
 abbrev pub kept_of : ℕ → List Atoms → Told → Told
 kept_of models written t = record t { rest = record t.rest { sets = take (room models (length written)) t.rest.sets } }
 
+-- ---- after a first search that was finished and found an optimum, if there was one
+abbrev pub mode_after : Option Report → Mode
+mode_after None = Enum
+mode_after (Some first) = Opt
+
+-- the cost that the optima have
+abbrev pub price_of : Option (Atoms × List ℤ) → Option (List ℤ)
+price_of None = None
+price_of (Some best) = Some best.1
+
+abbrev pub price_after : Option Report → Option (List ℤ)
+price_after None = None
+price_after (Some first) = price_of first.results.best
+
+-- the report of both searches, or of the one
+abbrev pub report_after : Option Report → Report → Report
+report_after None r = r
+report_after (Some first) r = joined first r
+
+-- The first search's report, with so many units.
+pub record HasOptimum (p : Program) (units : ℕ) (first : Report) : Type 0 where
+  pub is : IsReport p (asks Opt 0 false) units first
+  pub finished : first.results.end ≡ Finished
+  pub best : Atoms × List ℤ
+  pub found : first.results.best ≡ Some best
+
+abbrev pub IsFirstOf : Program → ℕ → Option Report → Type 0
+IsFirstOf p units None = Unit {0}
+IsFirstOf p units (Some first) = HasOptimum p units first
+
+-- whether a report is that of such a search
+abbrev pub has_optimum : Report → Bool
+has_optimum first = is_finished first.results.end && is_some first.results.best
+
+-- it sought an optimum
+abbrev pub IsFirstMode : Option Report → Type 0
+IsFirstMode None = Unit {0}
+IsFirstMode (Some first) = first.results.mode ≡ Opt
+
+-- The stream after it had the units that it left.
+abbrev pub Follows : Option Report → Told → Type 0
+Follows None t = Unit {0}
+Follows (Some first) t = (t.paid.program ≡ first.paid.program) × (t.paid.left + t.paid.burnt ≡ first.paid.left) × (first.paid.burnt ≡ first.spent)
+
+-- some optimum was heard or is left
+abbrev pub HasTold : Option Report → List Atoms → Told → Type 0
+HasTold None heard t = Unit {0}
+HasTold (Some first) heard t = 0 < length heard + length t.rest.sets
+
+-- what is told of the optima of the cost that this one has
+abbrev pub TellsOptima : Option (Atoms × List ℤ) → Program → ℕ → List Atoms → Bool → Told → Type 0
+TellsOptima None p units heard wants t = ⊥
+TellsOptima (Some best) p units heard wants t = IsTellingOfTies p (cost p best.0) units heard wants t
+
+-- what is told of all answers, or after a first search of all optima
+abbrev pub TellsAfter : Option Report → Program → ℕ → List Atoms → Bool → Told → Type 0
+TellsAfter None p units heard wants t = IsTellingOf p units heard wants t
+TellsAfter (Some first) p units heard wants t = TellsOptima first.results.best p first.paid.left heard wants t
+
 -- what is reported of a stream that ended so
-abbrev pub ReportsLast : End → Program → Told → Report → Type 0
-ReportsLast Limited p t r = (r.results.mode ≡ Enum) × (r.paid.program ≡ p)
-ReportsLast end p t r = r ≡ report_of [] t
+abbrev pub ReportsLast : End → Program → Mode → Report → Report → Type 0
+ReportsLast Limited p mode done r = (r.results.mode ≡ mode) × (r.paid.program ≡ p)
+ReportsLast end p mode done r = r ≡ done
 
 -- The answers that were left and may be written were, and the lines after the last, or a front of them.
-pub record DeliversLast (p : Program) (models : ℕ) (written : List Atoms) (t : Told) (held held' : Option (List ℕ)) (writes writes' : ℕ) (o : Outcome) : Type 0 where
+pub record DeliversLast (p : Program) (first : Option Report) (models : ℕ) (written : List Atoms) (t : Told) (held held' : Option (List ℕ)) (writes writes' : ℕ) (o : Outcome) : Type 0 where
   pub report : Report
   pub reports : o.report ≡ Some report
-  pub report_is : ReportsLast (last_at models (length written) (length t.rest.sets) t.end) p (kept_of models written t) report
+  pub report_is : ReportsLast (last_at models (length written) (length t.rest.sets) t.end) p (mode_after first) (report_after first (report_of [] (kept_of models written t))) report
   pub wrote : WritesAs (status_for (last_at models (length written) (length t.rest.sets) t.end) (is_some_of (written ++ (kept_of models written t).rest.sets)))
-      (whole_text p (last_at models (length written) (length t.rest.sets) t.end) (written ++ (kept_of models written t).rest.sets)) held held' writes writes' o.status
+      (list_text (price_after first) p (last_at models (length written) (length t.rest.sets) t.end) (written ++ (kept_of models written t).rest.sets)) held held' writes writes' o.status
 
--- What is left can be counted, with what was heard, and is among the program's atoms.
-pub record HasRest (p : Program) (heard : List Atoms) (t : Told) : Type 0 where
+-- What is left can be counted, with what was heard, and is among the program's atoms; and it follows the first search.
+pub record HasRest (p : Program) (first : Option Report) (heard : List Atoms) (t : Told) : Type 0 where
   pub atoms : t.rest.atoms ≡ atoms_of p
   pub few : length heard + length t.rest.sets + 1 < 2 ^ 64
+  pub follows : Follows first t
 
 -- how a stream ends whose outlet wrote these: by a fault or want of memory, or with all that may be written
-abbrev pub EndsStream : Program → ℕ → List Atoms → Bool → Bool → Told → Option (List ℕ) → Option (List ℕ) → ℕ → ℕ → Outcome → Type 0
-EndsStream p models written failed short t held held' writes writes' o =
-    IsCutShort p held held' writes writes' o ⊎ ((failed ≡ false) × (short ≡ false) × DeliversLast p models written t held held' writes writes' o)
+abbrev pub EndsStream : Program → List Atoms → Option Report → ℕ → List Atoms → Bool → Bool → Told → Option (List ℕ) → Option (List ℕ) → ℕ → ℕ → Outcome → Type 0
+EndsStream p all first models written failed short t held held' writes writes' o =
+    IsCutShort p all held held' writes writes' o ⊎ ((failed ≡ false) × (short ≡ false) × DeliversLast p first models written t held held' writes writes' o)
 
 -- the same where memory may have run out
-abbrev pub EndsRun : {E : Type 0} → Result Told E → Program → ℕ → List Atoms → Bool → Bool → Option (List ℕ) → Option (List ℕ) → ℕ → ℕ → Outcome → Type 0
-EndsRun (Ok t) p models written failed short held held' writes writes' o = EndsStream p models written failed short t held held' writes writes' o
-EndsRun (Err e) p models written failed short held held' writes writes' o = IsCutShort p held held' writes writes' o
+abbrev pub EndsRun : {E : Type 0} → Result Told E → Program → List Atoms → Option Report → ℕ → List Atoms → Bool → Bool → Option (List ℕ) → Option (List ℕ) → ℕ → ℕ → Outcome → Type 0
+EndsRun (Ok t) p all first models written failed short held held' writes writes' o = EndsStream p all first models written failed short t held held' writes writes' o
+EndsRun (Err e) p all first models written failed short held held' writes writes' o = IsCutShort p all held held' writes writes' o
 
--- The text of the report of what was heard and left was written, or cut off by a fault; what is left is reported.
-pub record DeliversRest (p : Program) (heard : List Atoms) (t : Told) (models : ℕ) (held held' : Option (List ℕ)) (writes writes' : ℕ) (o : Outcome) : Type 0 where
-  pub few : 0 < models → length (report_of heard t).results.answers < models
-  pub reports : o.report ≡ Some (with_answers (left_of models heard t.rest.sets) (report_of heard t))
-  pub means : DeliveryMeans as_lines p (report_of heard t) held held' writes writes' o.status
+-- ---- what was found
+-- a report of what was heard and what is left, in this order
+pub record IsFound (p : Program) (mode : Mode) (units : ℕ) (heard rest : List Atoms) (done : Report) : Type 0 where
+  pub answers : done.results.answers ≡ heard ++ rest
+  pub is : IsReport p (list_ask mode) units done
+
+-- The text of the report was written, or cut off by a fault; what is left is reported.
+pub record DeliversRest (p : Program) (heard rest : List Atoms) (done : Report) (models : ℕ) (held held' : Option (List ℕ)) (writes writes' : ℕ) (o : Outcome) : Type 0 where
+  pub few : 0 < models → length done.results.answers < models
+  pub reports : o.report ≡ Some (with_answers (left_of models heard rest) done)
+  pub means : DeliveryMeans as_lines p done held held' writes writes' o.status
   pub later : writes ≤ writes'
   pub quiet : TellsFaults writes writes' o.status
 
 -- The same with the first of these answers alone, where the budget was spent and no fewer were found than may be written.
-pub record DeliversPart (p : Program) (heard : List Atoms) (t : Told) (models : ℕ) (held held' : Option (List ℕ)) (writes writes' : ℕ) (o : Outcome) : Type 0 where
-  pub end_is : (report_of heard t).results.end ≡ Unfinished
+pub record DeliversPart (p : Program) (heard rest : List Atoms) (done : Report) (models : ℕ) (held held' : Option (List ℕ)) (writes writes' : ℕ) (o : Outcome) : Type 0 where
+  pub end_is : done.results.end ≡ Unfinished
   pub some : 0 < models
-  pub enough : models ≤ length (report_of heard t).results.answers
-  pub reports : o.report ≡ Some (with_answers (left_of models heard t.rest.sets) (report_of heard t))
-  pub wrote : WritesAs Partial (report_text p (cut_to models (report_of heard t)) as_lines) held held' writes writes' o.status
+  pub enough : models ≤ length done.results.answers
+  pub reports : o.report ≡ Some (with_answers (left_of models heard rest) done)
+  pub wrote : WritesAs Partial (report_text p (cut_to models done) as_lines) held held' writes writes' o.status
 
--- The first of all answers were written, as many as may be, or a front of their lines.
-pub record DeliversFirst (p : Program) (models : ℕ) (held held' : Option (List ℕ)) (writes writes' : ℕ) (o : Outcome) : Type 0 where
+-- The first of the list were written, as many as may be, or a front of their lines.
+pub record DeliversFirst (p : Program) (mode : Mode) (models : ℕ) (held held' : Option (List ℕ)) (writes writes' : ℕ) (o : Outcome) : Type 0 where
   pub some : 0 < models
-  pub enough : models ≤ length (answers p)
+  pub enough : models ≤ length (whole_list mode p)
+  pub price : Option (List ℤ)
+  pub told : IsCostOf mode p price
   pub report : Report
   pub reports : o.report ≡ Some report
-  pub mode : report.results.mode ≡ Enum
+  pub mode_is : report.results.mode ≡ mode
   pub program : report.paid.program ≡ p
-  pub wrote : WritesAs Enough (first_text p models) held held' writes writes' o.status
+  pub wrote : WritesAs Enough (first_text price p (whole_list mode p) models) held held' writes writes' o.status
 
 -- what was heard and left is what a report says, and was written; or the first of it
-abbrev pub StreamsFound : Program → ℕ → ℕ → Option (List ℕ) → Option (List ℕ) → ℕ → ℕ → Outcome → Type 0
-StreamsFound p units models held held' writes writes' o = (heard : List Atoms) × (t : Told) × HasReport p units heard t
-    × (DeliversRest p heard t models held held' writes writes' o ⊎ DeliversPart p heard t models held held' writes writes' o)
+abbrev pub StreamsFound : Program → Mode → ℕ → ℕ → Option (List ℕ) → Option (List ℕ) → ℕ → ℕ → Outcome → Type 0
+StreamsFound p mode units models held held' writes writes' o = (heard : List Atoms) × (rest : List Atoms) × (done : Report) × IsFound p mode units heard rest done
+    × (DeliversRest p heard rest done models held held' writes writes' o ⊎ DeliversPart p heard rest done models held held' writes writes' o)
 
--- All answers that were sought with these units were found and written, or the first of them, as many as may be, unless it was cut short.
-abbrev pub Streams : Program → ℕ → ℕ → Option (List ℕ) → Option (List ℕ) → ℕ → ℕ → Outcome → Type 0
-Streams p units models held held' writes writes' o = IsCutShort p held held' writes writes' o
-    ⊎ (StreamsFound p units models held held' writes writes' o ⊎ DeliversFirst p models held held' writes writes' o)
+-- The whole list that was sought with these units was found and written, or the first of it, as many as may be, unless it was cut short.
+abbrev pub Streams : Program → Mode → ℕ → ℕ → Option (List ℕ) → Option (List ℕ) → ℕ → ℕ → Outcome → Type 0
+Streams p mode units models held held' writes writes' o = IsCutShort p (whole_list mode p) held held' writes writes' o
+    ⊎ (StreamsFound p mode units models held held' writes writes' o ⊎ DeliversFirst p mode models held held' writes writes' o)
 
--- The program was solved as was asked: its answers written while they were found, or all at once.
+-- The program was solved as was asked: its list written while it was found, or all at once.
 abbrev pub SolvesBy : Bool → Options → Program → Option (List ℕ) → Option (List ℕ) → ℕ → ℕ → Outcome → Type 0
 SolvesBy false given p held held' writes writes' o = Solves given p held held' writes writes' o
-SolvesBy true given p held held' writes writes' o = Streams (searched given p) given.budget given.models held held' writes writes' o
+SolvesBy true given p held held' writes writes' o = Streams (searched given p) (mode_of given.mode p) given.budget given.models held held' writes writes' o
+
+-- The same where no proof is asked for, and else its proof was written.
+abbrev pub SolvesAs : Bool → Options → Program → Option (List ℕ) → Option (List ℕ) → ℕ → ℕ → Outcome → Type 0
+SolvesAs false given p held held' writes writes' o = SolvesBy (streams given p) given p held held' writes writes' o
+SolvesAs true given p held held' writes writes' o = Proves given p held held' writes writes' o
 
 -- The program was divided where parts are asked for, and else solved.
 abbrev pub DoesBy : Option ℕ → Options → Program → Option (List ℕ) → Option (List ℕ) → ℕ → ℕ → Outcome → Type 0
-DoesBy None given p held held' writes writes' o = SolvesBy (streams given p) given p held held' writes writes' o
+DoesBy None given p held held' writes writes' o = SolvesAs given.proof given p held held' writes writes' o
 DoesBy (Some most) given p held held' writes writes' o = Divides p most held held' writes writes' o
 
 abbrev pub Does : Options → Program → Option (List ℕ) → Option (List ℕ) → ℕ → ℕ → Outcome → Type 0
@@ -537,14 +699,16 @@ pub record IsCounted (workers : ℕ) (t : Tally) (r : Report) : Type 0 where
   pub loops : IfSome t.loops (HasLoops r.paid.program)
   pub numbered : AreNumbered workers t.workers
 
--- So many bytes each answer takes that is held until the end, where `--stream` would write it sooner; 0 where none is, as where there is
--- no program.
-abbrev pub IsRow : Options → Around → ℕ → Type 0
-IsRow given a row = (row ≡ 0) ⊎ ((p : Program) × IsGiven given.format given.make a p × (row ≡ row_of given p))
+-- So many bytes each answer takes that is held until the end, where `--stream` would write it sooner; and the program whose better
+-- answers may be shown, that with atoms for its outputs where consequences are told by name. 0 and none where there is no program, and
+-- of queries.
+abbrev pub IsScope : Options → Around → ℕ → Option Program → Type 0
+IsScope given a row sought =
+    ((row ≡ 0) × (sought ≡ None)) ⊎ ((p : Program) × IsGiven given.format given.make a p × (row ≡ row_of given p) × (sought ≡ Some (asked given p)))
 
 -- what was told while such a run went on
 abbrev pub Hears : Options → Around → Bool → Bool → Point → Point → Type 0
-Hears given a on parts p q = (row : ℕ) × IsRow given a row × Tells on parts row p q
+Hears given a on parts p q = (row : ℕ) × (sought : Option Program) × IsScope given a row sought × Tells (scope on parts row sought) p q
 
 -- What the notes get of a run after the words: lines while it goes on, where they are asked for, and one where answers are held that take
 -- much; then the line of its status, lines for options that had no effect, and the counts, where they are asked for
@@ -552,8 +716,9 @@ pub record NotesRun (workers : ℕ) (given : Options) (a : Around) (held held' :
   pub tally : Tally
   pub counted : IfSome o.report (IsCounted workers tally)
   pub row : ℕ
-  pub row_is : IsRow given a row
-  pub told : IsTold given.progress (tells_parts given) row held held' faults faults' (notes_of given tally o)
+  pub sought : Option Program
+  pub scope_is : IsScope given a row sought
+  pub told : IsTold (scope given.progress (tells_parts given) row sought) held held' faults faults' (notes_of given tally o)
 
 -- what the notes get of a run whose words give this
 abbrev pub NotesOn : Given → Around → Option (List ℕ) → Option (List ℕ) → ℕ → ℕ → Outcome → Type 0

@@ -93,14 +93,14 @@ TellsAll given p Opt text = (S : Atoms) × Contains (optima p) S × InForm given
 TellsAll given p (Consequences w) text = ¬ (answers p ≡ []) × InForm given.form (text ≡ told_line given.names w p ++ ended_line (codes "CONSEQUENCES FOUND"))
     (text ≡ json_of given p (Consequences w) Finished [] None (Some (consequences w p (answers p))) (told_texts w p))
 
--- As many answers as `--models` asks for are written, with `--stream` in lines the first of all; or with `--opt-all` as many optima.
+-- As many answers as `--models` asks for are written, or with `--opt-all` as many optima; with `--stream` in lines the first of all.
 abbrev pub TellsEnough : Options → Program → Mode → List ℕ → Type 0
 TellsEnough given p Enum text = (Ss : List Atoms) × InForm given.form (ArePickedBy given.stream given.models (answers p) Ss × (text ≡ listed given p Ss
     ++ closing (codes "LIMIT REACHED") (decimal given.models ++ codes "+")))
     (ArePicked given.models (answers p) Ss × (text ≡ json_of given p Enum Limited Ss None None []))
-TellsEnough given p Opt text = (S : Atoms) × (Ss : List Atoms) × Contains (optima p) S × ArePicked given.models (optima p) Ss × InForm given.form
-    (text ≡ listed given p Ss ++ cost_line (cost p S) ++ closing (codes "LIMIT REACHED") (decimal given.models ++ codes "+"))
-    (text ≡ json_of given p Opt Limited Ss (Some (S, cost p S)) None [])
+TellsEnough given p Opt text = (S : Atoms) × (Ss : List Atoms) × Contains (optima p) S × InForm given.form
+    (ArePickedBy given.stream given.models (optima p) Ss × (text ≡ listed given p Ss ++ cost_line (cost p S) ++ closing (codes "LIMIT REACHED") (decimal given.models ++ codes "+")))
+    (ArePicked given.models (optima p) Ss × (text ≡ json_of given p Opt Limited Ss (Some (S, cost p S)) None []))
 TellsEnough given p (Consequences w) text = ⊥
 
 -- ---- the theorem

@@ -4,16 +4,14 @@
 //! the queries, one that it finishes within so few conflicts; and of a small program one that a trial of one search finishes.
 ghost use Rattle.std.specs.Prelude.{◌≡◌, ◌≤◌, IfOk, false};
 ghost use Rattle.asp_crew_laws.specs.Reports.{IsReport};
-ghost use Rattle.asp_crew_laws.specs.Proofs.{HasProof};
 ghost use Rattle.asp_counts.specs.Counting.{joined, keeping};
 ghost use Rattle.asp_cli.specs.Values.{is_row};
 
 use asp_cli::Options;
 use asp_counts::counts::Counts;
-use asp_counts::watch::{Unwatched, Watch};
+use asp_counts::watch::{Best, Unwatched, Watch};
 use asp_crew::alone::solve_alone;
 use asp_crew::report::Report;
-use asp_model::cost::Cost;
 use asp_model::results::{Ask, End};
 use asp_series::solver::Solver;
 use asp_team::gate::OpenGate;
@@ -92,7 +90,7 @@ impl<W: Watch> Watch for InSeries<'_, W> {
     ghost IsAfter = { λ p q. (q.watch.ghost_name ≡ p.watch.ghost_name) × (q.before ≡ p.before)
         × W.IsAfter p.watch.now q.watch.now };
 
-    fn tell(&mut self, counts: &Counts, best: Option<&Cost>) {
+    fn tell(&mut self, counts: &Counts, best: Option<Best<'_>>) {
         self.watch.tell(&with_before(&self.before, counts), best);
     }
 
@@ -155,9 +153,9 @@ fn fails(
         compiled,
         tried(ask),
         PATIENCE,
-        false,
         &mut trial,
         &mut Unwatched,
+        None,
     )?;
     let is_over = is_over(ask, report.results.end);
     mem::drop(report);
@@ -195,14 +193,13 @@ fn search<R: Threads + Wait + Sync, W: Watch>(
     watch: &mut W,
 ) -> Result<Report, AllocError>
     ensures report { IfOk result (IsReport compiled.now ask units) }
-    ensures proof { IfOk result (HasProof false) }
     ensures heard { W.IsAfter watch.old watch.new }
 {
     let plan = Plan {
         ask,
         workers: crew.workers,
         budget: units,
-        proof: false,
+        proof: None,
         row: crew.row,
     };
     let mut deeds = Deeds::new(alloc);
@@ -253,7 +250,7 @@ impl<R: Threads + Wait + Sync> Solver for Crew<'_, R> {
         watch: &mut W,
     ) -> Result<Report, AllocError> {
         if !is_hard(alloc, compiled, ask, units, counts)? {
-            return solve_alone(alloc, compiled, ask, units, false, counts, watch);
+            return solve_alone(alloc, compiled, ask, units, counts, watch, None);
         }
         search(self, alloc, compiled, ask, units, counts, watch)
     }

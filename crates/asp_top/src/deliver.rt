@@ -2,7 +2,6 @@
 ghost use Rattle.std.specs.Prelude.{◌≡◌, None, OnOk, true};
 ghost use Rattle.asp_json.specs.Json.{json_text};
 ghost use Rattle.asp_print.specs.Named.{printed_text};
-ghost use Rattle.asp_proof.specs.Texts.{text_of};
 ghost use Rattle.asp_top.specs.Notes.{Writes};
 ghost use Rattle.asp_prepare.specs.Told.{report_text, text_in};
 ghost use Rattle.asp_top.specs.Runs.{Delivers, IsSentOn, TellsClosed, TellsFaults};
@@ -17,8 +16,6 @@ use asp_model::program::Program;
 use asp_model::results::Results;
 use asp_prepare::layout::Layout;
 use asp_print::print;
-use asp_proof::proof::Proof;
-use asp_proof::write_proof;
 use asp_rows::sets::Sets;
 use std::alloc::Global;
 
@@ -30,13 +27,6 @@ pub fn failed(status: Status) -> Outcome
         status,
         report: None,
     }
-}
-
-fn write_proof_text<K: Sink>(sink: &mut K, proof: &Proof) -> Result<(), Failed>
-    ensures { Writes (K.held sink.old) (K.held sink.new) (K.faults sink.old) (K.faults sink.new)
-        result (text_of proof.now) }
-{
-    write_proof(sink, proof)
 }
 
 fn write_lines<K: Sink>(
@@ -82,23 +72,6 @@ fn write_results<K: Sink>(
     }
 }
 
-// Writes the text of the proof, if there is one, and else that of the results.
-fn write_text<K: Sink>(
-    alloc: Global,
-    sink: &mut K,
-    layout: Layout,
-    program: &Program,
-    report: &Report,
-) -> Result<(), Failed>
-    ensures { Writes (K.held sink.old) (K.held sink.new) (K.faults sink.old) (K.faults sink.new)
-        result (report_text program.now report.now layout) }
-{
-    match &report.proof {
-        Some(proof) => write_proof_text(sink, proof),
-        None => write_results(alloc, sink, layout, program, &report.results),
-    }
-}
-
 // Writes the text of a report, and flushes the sink.
 fn write_report<K: Sink>(
     alloc: Global,
@@ -111,7 +84,7 @@ fn write_report<K: Sink>(
         result (report_text program.now report.now layout) }
     ensures sent { OnOk result (K.is_sent sink.new ≡ true) }
 {
-    write_text(alloc, sink, layout, program, report)?;
+    write_results(alloc, sink, layout, program, &report.results)?;
     sink.flush()
 }
 

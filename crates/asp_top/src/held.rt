@@ -5,7 +5,7 @@ ghost use Rattle.asp_model.specs.Models.{atoms_of};
 ghost use Rattle.asp_top.specs.Held.{IsMuch, held_text, holds, row_bytes, row_in};
 ghost use Rattle.asp_top.specs.Notes.{Writes};
 
-use crate::notes::{is_enumeration, lists_lines};
+use crate::notes::{is_list, lists_lines};
 use asp_buffer::{Waiting, flush, put, put_number};
 use asp_cli::Options;
 use asp_io::{Failed, Sink};
@@ -32,7 +32,7 @@ fn row_bytes(compiled: &Compiled) -> u64
 fn holds(options: &Options, mode: Mode) -> bool
     ensures { result ≡ holds options.now mode }
 {
-    !options.stream && is_enumeration(mode) && lists_lines(options)
+    !options.stream && is_list(options.all_optima, mode) && lists_lines(options)
 }
 
 /// How many bytes each answer takes that is held until the end, in a search of this program, where `--stream` would write it sooner; 0

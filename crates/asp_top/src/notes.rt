@@ -2,7 +2,7 @@
 ghost use Rattle.std.specs.Prelude.{◌≡◌, ◌++◌, codes, decimal};
 ghost use Rattle.asp_buffer.specs.Out.{Puts, out};
 ghost use Rattle.asp_top.specs.Counts.{loop_items, program_items, report_items, search_items};
-ghost use Rattle.asp_top.specs.Notes.{IsNoted, Writes, asked_text, counts_if, counts_of, crew_text, idle_of, idle_text, is_answered, is_enumeration, is_idle_crew, is_idle_limit, is_idle_request, is_idle_row, is_idle_stream, is_list, is_optimum, is_streamed, items_text, later_notes, limit_text, lists_lines, loops_text, note_of, notes_of, optima_text, program_text, row_text, sought_text, stats_of, stream_text, threads_text, worker_text, workers_text};
+ghost use Rattle.asp_top.specs.Notes.{IsNoted, Writes, asked_text, counts_if, counts_of, crew_text, idle_of, idle_text, is_answered, is_idle_crew, is_idle_limit, is_idle_request, is_idle_row, is_idle_stream, is_list, is_optimum, is_streamed, items_text, later_notes, limit_text, lists_lines, loops_text, note_of, notes_of, optima_text, program_text, row_text, sought_text, stats_of, stream_text, threads_text, worker_text, workers_text};
 
 use crate::counts::{
     Tally, loop_items, program_items, put_items, report_items, search_items, worker_items,
@@ -235,8 +235,8 @@ fn write_counts_if<N: Sink>(
     }
 }
 
-// Whether a list of answers was sought, which a limit can end.
-fn is_list(all_optima: bool, mode: Mode) -> bool
+/// Whether a list of answers was sought, which a limit can end.
+pub fn is_list(all_optima: bool, mode: Mode) -> bool
     ensures { result ≡ is_list all_optima mode }
 {
     match mode {
@@ -297,16 +297,6 @@ fn write_optima<N: Sink>(notes: &mut N, options: &Options, mode: Mode) -> Result
     }
 }
 
-/// Whether all answers are sought.
-pub fn is_enumeration(mode: Mode) -> bool
-    ensures { result ≡ is_enumeration mode }
-{
-    match mode {
-        Mode::Enum => true,
-        _ => false,
-    }
-}
-
 /// Whether answers are written as lines, where they are listed.
 pub fn lists_lines(options: &Options) -> bool
     ensures { result ≡ lists_lines options.now }
@@ -324,7 +314,7 @@ pub fn lists_lines(options: &Options) -> bool
 pub fn is_streamed(options: &Options, mode: Mode) -> bool
     ensures { result ≡ is_streamed options.now mode }
 {
-    options.stream && is_enumeration(mode) && lists_lines(options)
+    options.stream && is_list(options.all_optima, mode) && lists_lines(options)
 }
 
 fn is_idle_stream(options: &Options, mode: Mode) -> bool

@@ -1,12 +1,15 @@
 //! Lines on the notes while a run goes on.
-ghost use Rattle.std.specs.Prelude.{◌≡◌, ◌<◌, IsTrue, false, true};
+ghost use Rattle.std.specs.Prelude.{◌≡◌, ◌<◌, None, Some, IsTrue, false, true};
 ghost use Rattle.std.specs.Option.{option_copied};
+ghost use Rattle.std.specs.Prelude.{Option};
+ghost use Rattle.asp_model.specs.declared.program.Program.{Program};
 ghost use Rattle.asp_buffer.specs.Out.{Puts, out};
 ghost use Rattle.asp_top.specs.Held.{IsMuch, row_in};
 ghost use Rattle.asp_top.specs.Notes.{Writes, notes_of};
-ghost use Rattle.asp_top.specs.Progress.{IsMore, best_text, end_of, line_of, nothing, part_text, query_text, tells_parts};
+ghost use Rattle.asp_top.specs.Progress.{IsMore, best_text, cost_in, end_of, line_of, nothing, part_text, query_text, scope, tells_parts};
 ghost use Rattle.asp_top.specs.Telling.{EndsWith, Tells, point};
 
+use crate::better::{new_row, write_told};
 use crate::counts::{Tally, part_items, put_items, search_items, told_items};
 use crate::held::{is_much, row_in, write_held};
 use crate::notes::note;
@@ -14,11 +17,12 @@ use crate::status::Outcome;
 use asp_buffer::{Waiting, flush, put, put_number};
 use asp_cli::Options;
 use asp_counts::counts::Counts;
-use asp_counts::watch::Watch;
+use asp_counts::watch::{Best, Watch};
 use asp_io::{Failed, Sink};
 use asp_model::cost::Cost;
 use asp_print::put_sums;
 use asp_vars::compiled::Compiled;
+use std::alloc::Global;
 
 fn put_cost<N: Sink>(notes: &mut N, waiting: &mut Waiting, cost: &Cost) -> Result<(), Failed>
     ensures { Puts (out (N.held notes.old) (N.faults notes.old) waiting.old)
@@ -72,7 +76,7 @@ fn put_line<N: Sink>(
 ) -> Result<(), Failed>
     ensures { Puts (out (N.held notes.old) (N.faults notes.old) waiting.old)
         (out (N.held notes.new) (N.faults notes.new) waiting.new) result
-        (line_of (record { counts = counts.now; best = option_copied best.entry })) }
+        (line_of (record { counts = counts.now; best = option_copied best.entry; shown = None })) }
 {
     let items = told_items(counts);
     put_items(notes, waiting, &items)?;
@@ -80,9 +84,14 @@ fn put_line<N: Sink>(
     put_end(notes, waiting, counts.query)
 }
 
-fn write_line<N: Sink>(notes: &mut N, counts: &Counts, best: Option<&Cost>) -> Result<(), Failed>
+/// Writes a line.
+pub fn write_line<N: Sink>(
+    notes: &mut N,
+    counts: &Counts,
+    best: Option<&Cost>,
+) -> Result<(), Failed>
     ensures { Writes (N.held notes.old) (N.held notes.new) (N.faults notes.old) (N.faults notes.new) result
-        (line_of (record { counts = counts.now; best = option_copied best.entry })) }
+        (line_of (record { counts = counts.now; best = option_copied best.entry; shown = None })) }
 {
     let mut waiting = Waiting::new();
     put_line(notes, &mut waiting, counts, best)?;
@@ -119,6 +128,16 @@ fn due_by(last: u64, alone: bool) -> u64
     ensures { 0 < result }
 {
     if alone { 1 } else { last.max(1) }
+}
+
+// What the best answer costs, if there is one.
+fn cost_of<'a>(best: Option<Best<'a>>) -> Option<&'a Cost>
+    ensures { option_copied result ≡ cost_in best.entry }
+{
+    match best {
+        None => None,
+        Some(best) => Some(best.cost),
+    }
 }
 
 // Whether there is more to tell than at the last line: the conflicts have doubled since, or the answers have; a cheaper one
@@ -212,11 +231,11 @@ impl<'a, N: Sink> Progress<'a, N> {
         }
     }
 
-    // Writes that the answers held take much, where it is due.
-    fn tell_held(&mut self, counts: &Counts)
+    /// Writes that the answers held take much, where it is due.
+    pub fn tell_held(&mut self, counts: &Counts)
         ensures notes { self.new.notes.ghost_name ≡ self.old.notes.ghost_name }
         ensures same { (self.new.on ≡ self.old.on) × (self.new.parts ≡ self.old.parts) × (self.new.row ≡ self.old.row) }
-        ensures told { Tells self.old.on self.old.parts self.old.row
+        ensures told { (sought : Option Program) → Tells (scope self.old.on self.old.parts self.old.row sought)
             (point (N.held self.old.notes.now) (N.faults self.old.notes.now) self.old.state self.old.last self.old.before self.old.warned)
             (point (N.held self.new.notes.now) (N.faults self.new.notes.now) self.new.state self.new.last self.new.before self.new.warned) }
     {
@@ -225,6 +244,28 @@ impl<'a, N: Sink> Progress<'a, N> {
         }
         self.state = write_held(self.notes, counts.answers);
         self.warned = true;
+    }
+
+    /// Writes a line, where it is due, and behind it the best answer, where it wasn't told before.
+    pub fn tell_line(
+        &mut self,
+        alloc: Global,
+        compiled: &Compiled,
+        counts: &Counts,
+        best: Option<Best<'_>>,
+    )
+        ensures notes { self.new.notes.ghost_name ≡ self.old.notes.ghost_name }
+        ensures same { (self.new.on ≡ self.old.on) × (self.new.parts ≡ self.old.parts) × (self.new.row ≡ self.old.row) }
+        ensures told { Tells (scope self.old.on self.old.parts self.old.row (Some compiled.now))
+            (point (N.held self.old.notes.now) (N.faults self.old.notes.now) self.old.state self.old.last self.old.before self.old.warned)
+            (point (N.held self.new.notes.now) (N.faults self.new.notes.now) self.new.state self.new.last self.new.before self.new.warned) }
+    {
+        if !self.is_due(counts, best.is_some()) {
+            return;
+        }
+        let row = new_row(alloc, compiled, &self.last, counts, best);
+        self.state = write_told(self.notes, counts, cost_of(best), compiled.program(), &row);
+        self.last = *counts;
     }
 
     // Whether a part is to be written.
@@ -262,15 +303,15 @@ impl<N: Sink> Watch for Progress<'_, N> {
     ghost use Rattle.asp_top.specs.Telling.{Tells, as_told, more_told, nothing_told, point};
 
     ghost IsAfter = { λ p q. (q.notes.ghost_name ≡ p.notes.ghost_name) × (q.on ≡ p.on) × (q.parts ≡ p.parts) × (q.row ≡ p.row)
-        × Tells p.on p.parts p.row (point (N.held p.notes.now) (N.faults p.notes.now) p.state p.last p.before p.warned)
+        × Tells (scope p.on p.parts p.row None) (point (N.held p.notes.now) (N.faults p.notes.now) p.state p.last p.before p.warned)
         (point (N.held q.notes.now) (N.faults q.notes.now) q.state q.last q.before q.warned) };
 
-    fn tell(&mut self, counts: &Counts, best: Option<&Cost>) {
+    fn tell(&mut self, counts: &Counts, best: Option<Best<'_>>) {
         self.tell_held(counts);
         if !self.is_due(counts, best.is_some()) {
             return;
         }
-        self.state = write_line(self.notes, counts, best);
+        self.state = write_line(self.notes, counts, cost_of(best));
         self.last = *counts;
     }
 
@@ -294,7 +335,7 @@ impl<N: Sink> Watch for Progress<'_, N> {
       refl,
       refl,
       refl,
-      nothing_told w.on w.parts w.row (point (N.held w.notes.now) (N.faults w.notes.now) w.state w.last w.before w.warned),
+      nothing_told (scope w.on w.parts w.row None) (point (N.held w.notes.now) (N.faults w.notes.now) w.state w.last w.before w.warned),
     ) };
 
     ghost goes_on = { λ u v w a b.
@@ -305,6 +346,6 @@ impl<N: Sink> Watch for Progress<'_, N> {
           b.1 ∙ a.1,
           b.2 ∙ a.2,
           b.3 ∙ a.3,
-          more_told u.on u.parts u.row p q r a.4 (as_told u.on v.on u.parts v.parts u.row v.row q r a.1 a.2 a.3 b.4),
+          more_told (scope u.on u.parts u.row None) p q r a.4 (as_told u.on v.on u.parts v.parts u.row v.row None q r a.1 a.2 a.3 b.4),
         ) };
 }

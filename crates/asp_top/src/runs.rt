@@ -1,5 +1,5 @@
 //! A whole run: words, reading, solving and writing, in this order; the first that doesn't succeed decides.
-ghost use Rattle.std.specs.Prelude.{◌≡◌, None, IfSome, OnOk, false, true, map, string_bytes};
+ghost use Rattle.std.specs.Prelude.{◌≡◌, None, Some, IfSome, OnOk, false, true, map, string_bytes};
 ghost use Rattle.asp_cli.specs.Given.{fault_seen, options, words_give};
 ghost use Rattle.asp_cli.specs.declared.Options.{Options};
 ghost use Rattle.asp_cli.specs.Found.{IsApart, IsAsking};
@@ -8,12 +8,14 @@ ghost use Rattle.asp_cli.specs.Values.{IsCrew, IsPartCount, IsRing};
 ghost use Rattle.asp_prepare.specs.Naming.{prepared_of};
 ghost use Rattle.asp_top.specs.Notes.{IsNoted, Writes, note_of};
 ghost use Rattle.asp_top.specs.Usage.{misuse_note};
-ghost use Rattle.asp_top.specs.Runs.{Does, Hears, IsCounted, IsSentOn, NotesOn, NotesRun, Runs, TellsClosed, TellsFaults, TextMeans, around, crew_of, is_alone};
+ghost use Rattle.asp_top.specs.Runs.{Does, Hears, IsCounted, IsSentOn, NotesOn, NotesRun, Runs, SolvesOr, TellsClosed, TellsFaults, TextMeans, around, crew_of, is_alone};
 ghost use Rattle.asp_top.specs.Series.{RunsBy, RunsOn};
-ghost use Rattle.asp_top.specs.Telling.{point};
+ghost use Rattle.asp_top.specs.Progress.{scope};
+ghost use Rattle.asp_top.specs.Telling.{Tells, point};
 ghost use Rattle.asp_top.specs.Whole.{IsWhole};
 ghost use Rattle.asp_model.specs.declared.program.Program.{Program};
 
+use crate::announcer::Announcer;
 use crate::counts::Tally;
 use crate::crew::Crew;
 use crate::deliver::failed;
@@ -21,10 +23,9 @@ use crate::notes::{note_status, write};
 use crate::parts::divide;
 use crate::prepare::prepare;
 use crate::progress::{Progress, end};
-use crate::search::solve_by_crew;
+use crate::prove::{solve_or_prove, solve_or_prove_by_crew};
 use crate::series::run_series;
 use crate::status::{Outcome, Status};
-use crate::stream::solve_or_stream;
 use crate::usage::{note_misuse, write_three};
 use asp_cli::{CliError, Options, WordFault, page_back, page_front, usage, version};
 use asp_counts::watch::Watch;
@@ -90,79 +91,154 @@ fn divide_or_solve<K: Sink, W: Watch>(
     ensures heard { W.IsAfter watch.old watch.new }
 {
     match options.split {
-        None => solve_or_stream(alloc, options, prepared, sink, tally, watch),
+        None => solve_or_prove(alloc, options, prepared, sink, tally, watch),
         Some(most) => divide(alloc, &prepared.compiled, most, sink),
     }
 }
 
-// The outcome of a run after the words, whose program is divided, or solved by one search.
-fn outcome_alone<S: Source, K: Sink, N: Sink>(
+// The same, where better answers are told.
+fn announced<'a, K: Sink, N: Sink>(
+    alloc: Global,
+    options: &Options,
+    prepared: &Prepared,
+    sink: &mut K,
+    tally: &mut Tally,
+    progress: Progress<'a, N>,
+) -> (Outcome, Progress<'a, N>)
+    requires parts { IsPartCount options.now.split }
+    requires apart { IsApart options.now }
+    ensures does { (p : Program) → prepared.now ≡ prepared_of options.now p → Does options.now p (K.held sink.old) (K.held sink.new) (K.faults sink.old) (K.faults sink.new) result.0 }
+    ensures flushed { TellsFaults (K.faults sink.old) (K.faults sink.new) result.0.status }
+    ensures sent { IsSentOn result.0.status (K.is_sent sink.new) }
+    ensures closed { TellsClosed result.0.status (K.is_closed sink.new) }
+    ensures counted { IfSome result.0.report (IsCounted 0 tally.new) }
+    ensures same { result.1.notes.ghost_name ≡ progress.entry.notes.ghost_name }
+    ensures told { Tells (scope progress.entry.on progress.entry.parts progress.entry.row (Some prepared.now.compiled))
+        (point (N.held progress.entry.notes.now) (N.faults progress.entry.notes.now) progress.entry.state progress.entry.last progress.entry.before progress.entry.warned)
+        (point (N.held result.1.notes.now) (N.faults result.1.notes.now) result.1.state result.1.last result.1.before result.1.warned) }
+{
+    let mut announcer = Announcer {
+        progress,
+        compiled: &prepared.compiled,
+        alloc,
+    };
+    let outcome = divide_or_solve(alloc, options, prepared, sink, tally, &mut announcer);
+    let Announcer {
+        progress,
+        compiled: _,
+        alloc: _,
+    } = announcer;
+    (outcome, progress)
+}
+
+// The outcome of a run after the words, whose program is divided, or solved by one search. Who tells of it comes back.
+fn outcome_alone<'a, S: Source, K: Sink, N: Sink>(
     alloc: Global,
     options: &Options,
     source: &mut S,
     sink: &mut K,
     tally: &mut Tally,
-    progress: &mut Progress<'_, N>,
-) -> Outcome
+    mut progress: Progress<'a, N>,
+) -> (Outcome, Progress<'a, N>)
     requires ring { IsRing options.now.make }
     requires parts { IsPartCount options.now.split }
     requires apart { IsApart options.now }
     ensures runs { Runs options.now (around (S.left source.old) (S.left source.new) (S.faults source.old) (S.faults source.new)
-        (K.held sink.old) (K.held sink.new) (K.faults sink.old) (K.faults sink.new)) result }
-    ensures flushed { TellsFaults (K.faults sink.old) (K.faults sink.new) result.status }
-    ensures sent { IsSentOn result.status (K.is_sent sink.new) }
-    ensures closed { TellsClosed result.status (K.is_closed sink.new) }
-    ensures counted { IfSome result.report (IsCounted 0 tally.new) }
-    ensures same { progress.new.notes.ghost_name ≡ progress.old.notes.ghost_name }
+        (K.held sink.old) (K.held sink.new) (K.faults sink.old) (K.faults sink.new)) result.0 }
+    ensures flushed { TellsFaults (K.faults sink.old) (K.faults sink.new) result.0.status }
+    ensures sent { IsSentOn result.0.status (K.is_sent sink.new) }
+    ensures closed { TellsClosed result.0.status (K.is_closed sink.new) }
+    ensures counted { IfSome result.0.report (IsCounted 0 tally.new) }
+    ensures same { result.1.notes.ghost_name ≡ progress.entry.notes.ghost_name }
     ensures heard { Hears options.now (around (S.left source.old) (S.left source.new) (S.faults source.old) (S.faults source.new)
-        (K.held sink.old) (K.held sink.new) (K.faults sink.old) (K.faults sink.new)) progress.old.on progress.old.parts
-        (point (N.held progress.old.notes.now) (N.faults progress.old.notes.now) progress.old.state progress.old.last progress.old.before progress.old.warned)
-        (point (N.held progress.new.notes.now) (N.faults progress.new.notes.now) progress.new.state progress.new.last progress.new.before progress.new.warned) }
+        (K.held sink.old) (K.held sink.new) (K.faults sink.old) (K.faults sink.new)) progress.entry.on progress.entry.parts
+        (point (N.held progress.entry.notes.now) (N.faults progress.entry.notes.now) progress.entry.state progress.entry.last progress.entry.before progress.entry.warned)
+        (point (N.held result.1.notes.now) (N.faults result.1.notes.now) result.1.state result.1.last result.1.before result.1.warned) }
 {
     match prepare(alloc, options, source) {
         Ok(prepared) => {
             progress.weigh(options, &prepared.compiled);
-            let outcome = divide_or_solve(alloc, options, &prepared, sink, tally, progress);
+            let done = announced(alloc, options, &prepared, sink, tally, progress);
             mem::drop(prepared);
-            outcome
+            done
         }
-        Err(status) => failed(status),
+        Err(status) => (failed(status), progress),
     }
 }
 
 // The outcome of a run after the words that starts no workers, with queries or without.
-fn outcome<V: Solver, S: Source, K: Sink, N: Sink>(
+fn outcome<'a, V: Solver, S: Source, K: Sink, N: Sink>(
     alloc: Global,
     solver: &V,
     options: &Options,
     source: &mut S,
     sink: &mut K,
     tally: &mut Tally,
-    progress: &mut Progress<'_, N>,
-) -> Outcome
+    mut progress: Progress<'a, N>,
+) -> (Outcome, Progress<'a, N>)
     requires solver { V.may solver.now }
     requires ring { IsRing options.now.make }
     requires parts { IsPartCount options.now.split }
     requires apart { IsApart options.now }
     requires asking { IsAsking options.now }
-    requires row { progress.old.row ≡ 0 }
+    requires row { progress.row ≡ 0 }
     ensures runs { RunsBy options.now.queries options.now (around (S.left source.old) (S.left source.new) (S.faults source.old) (S.faults source.new)
-        (K.held sink.old) (K.held sink.new) (K.faults sink.old) (K.faults sink.new)) result }
-    ensures flushed { TellsFaults (K.faults sink.old) (K.faults sink.new) result.status }
-    ensures sent { IsSentOn result.status (K.is_sent sink.new) }
-    ensures closed { TellsClosed result.status (K.is_closed sink.new) }
-    ensures counted { IfSome result.report (IsCounted 0 tally.new) }
-    ensures same { progress.new.notes.ghost_name ≡ progress.old.notes.ghost_name }
+        (K.held sink.old) (K.held sink.new) (K.faults sink.old) (K.faults sink.new)) result.0 }
+    ensures flushed { TellsFaults (K.faults sink.old) (K.faults sink.new) result.0.status }
+    ensures sent { IsSentOn result.0.status (K.is_sent sink.new) }
+    ensures closed { TellsClosed result.0.status (K.is_closed sink.new) }
+    ensures counted { IfSome result.0.report (IsCounted 0 tally.new) }
+    ensures same { result.1.notes.ghost_name ≡ progress.entry.notes.ghost_name }
     ensures heard { Hears options.now (around (S.left source.old) (S.left source.new) (S.faults source.old) (S.faults source.new)
-        (K.held sink.old) (K.held sink.new) (K.faults sink.old) (K.faults sink.new)) progress.old.on progress.old.parts
-        (point (N.held progress.old.notes.now) (N.faults progress.old.notes.now) progress.old.state progress.old.last progress.old.before progress.old.warned)
-        (point (N.held progress.new.notes.now) (N.faults progress.new.notes.now) progress.new.state progress.new.last progress.new.before progress.new.warned) }
+        (K.held sink.old) (K.held sink.new) (K.faults sink.old) (K.faults sink.new)) progress.entry.on progress.entry.parts
+        (point (N.held progress.entry.notes.now) (N.faults progress.entry.notes.now) progress.entry.state progress.entry.last progress.entry.before progress.entry.warned)
+        (point (N.held result.1.notes.now) (N.faults result.1.notes.now) result.1.state result.1.last result.1.before result.1.warned) }
 {
     if options.queries {
-        run_series(alloc, solver, options, source, sink, progress)
+        let outcome = run_series(alloc, solver, options, source, sink, &mut progress);
+        (outcome, progress)
     } else {
         outcome_alone(alloc, options, source, sink, tally, progress)
     }
+}
+
+// Workers side by side solve it, and better answers are told.
+fn announced_by_crew<'a, R: Threads + Wait + Sync, K: Sink, N: Sink, G: Gate + Sync>(
+    rt: &R,
+    alloc: Global,
+    options: &Options,
+    prepared: &Prepared,
+    sink: &mut K,
+    gate: &G,
+    tally: &mut Tally,
+    progress: Progress<'a, N>,
+) -> (Outcome, Progress<'a, N>)
+    requires crew { IsCrew options.now.workers }
+    requires apart { IsApart options.now }
+    ensures solves { (p : Program) → prepared.now ≡ prepared_of options.now p → SolvesOr options.now.proof options.now p (K.held sink.old) (K.held sink.new) (K.faults sink.old) (K.faults sink.new) result.0 }
+    ensures flushed { TellsFaults (K.faults sink.old) (K.faults sink.new) result.0.status }
+    ensures sent { IsSentOn result.0.status (K.is_sent sink.new) }
+    ensures closed { TellsClosed result.0.status (K.is_closed sink.new) }
+    ensures counted { IfSome result.0.report (IsCounted options.now.workers tally.new) }
+    ensures same { result.1.notes.ghost_name ≡ progress.entry.notes.ghost_name }
+    ensures told { Tells (scope progress.entry.on progress.entry.parts progress.entry.row (Some prepared.now.compiled))
+        (point (N.held progress.entry.notes.now) (N.faults progress.entry.notes.now) progress.entry.state progress.entry.last progress.entry.before progress.entry.warned)
+        (point (N.held result.1.notes.now) (N.faults result.1.notes.now) result.1.state result.1.last result.1.before result.1.warned) }
+{
+    let announcer = Announcer {
+        progress,
+        compiled: &prepared.compiled,
+        alloc,
+    };
+    let (outcome, announcer) = solve_or_prove_by_crew(
+        rt, alloc, options, prepared, sink, gate, tally, announcer,
+    );
+    let Announcer {
+        progress,
+        compiled: _,
+        alloc: _,
+    } = announcer;
+    (outcome, progress)
 }
 
 // The same where workers side by side solve it. Who tells of it comes back.
@@ -196,7 +272,9 @@ fn outcome_by_crew<'a, R: Threads + Wait + Sync, S: Source, K: Sink, N: Sink, G:
     match prepare(alloc, options, source) {
         Ok(prepared) => {
             progress.weigh(options, &prepared.compiled);
-            let done = solve_by_crew(rt, alloc, options, &prepared, sink, gate, tally, progress);
+            let done = announced_by_crew(
+                rt, alloc, options, &prepared, sink, gate, tally, progress,
+            );
             mem::drop(prepared);
             done
         }
@@ -227,16 +305,8 @@ fn run_with<V: Solver, S: Source, K: Sink, N: Sink>(
         (K.held sink.old) (K.held sink.new) (K.faults sink.old) (K.faults sink.new)) (N.held notes.old) (N.held notes.new) (N.faults notes.old) (N.faults notes.new) result }
 {
     let mut tally = Tally::new(alloc);
-    let mut progress = Progress::new(notes, options);
-    let outcome = outcome(
-        alloc,
-        solver,
-        options,
-        source,
-        sink,
-        &mut tally,
-        &mut progress,
-    );
+    let progress = Progress::new(notes, options);
+    let (outcome, progress) = outcome(alloc, solver, options, source, sink, &mut tally, progress);
     let Progress {
         notes,
         on: _,

@@ -1,9 +1,8 @@
 //! A program that was compiled is solved, and its results are written.
 ghost use Rattle.std.specs.Prelude.{◌≡◌, IfOk, IfSome, OnOk};
 ghost use Rattle.asp_cli.specs.Found.{IsApart};
-ghost use Rattle.asp_cli.specs.Values.{IsCrew};
+ghost use Rattle.asp_cli.specs.Values.{IsCrew, is_row};
 ghost use Rattle.asp_counts.specs.Telling.{AreNumbered};
-ghost use Rattle.asp_crew_laws.specs.Proofs.{HasProof};
 ghost use Rattle.asp_crew_laws.specs.Reports.{IsReport};
 ghost use Rattle.asp_model.specs.declared.program.Program.{Program};
 ghost use Rattle.asp_prepare.specs.Naming.{prepared_of};
@@ -28,7 +27,7 @@ use asp_prepare::prepared::Prepared;
 use asp_prepare::told::told_with;
 use asp_team::gate::Gate;
 use asp_team::many;
-use asp_team::many::{Deeds, Plan};
+use asp_team::many::{Deeds, Plan, Record};
 use asp_vars::compiled::Compiled;
 use std::alloc::{AllocError, Global};
 use std::mem;
@@ -92,9 +91,9 @@ pub fn solve<K: Sink, W: Watch>(
         compiled,
         ask,
         options.budget,
-        options.proof,
         &mut counts,
         watch,
+        None,
     ) {
         Ok(report) => {
             let loops = loops(alloc, compiled, options.stats);
@@ -112,6 +111,19 @@ pub fn solve<K: Sink, W: Watch>(
     }
 }
 
+/// What is asked of workers, and who gets the lines of a proof, if one is wanted.
+pub fn plan_of<'a>(options: &Options, ask: Ask, proof: Option<Record<'a>>) -> Plan<'a>
+    ensures { result ≡ record { ask = ask; workers = options.now.workers; budget = options.now.budget; proof = proof.entry; row = is_row options.now.log } }
+{
+    Plan {
+        ask,
+        workers: options.workers,
+        budget: options.budget,
+        proof,
+        row: options.log.is_row(),
+    }
+}
+
 // What workers side by side find. The watch comes back.
 fn solved_by_crew<R: Threads + Wait + Sync, G: Gate + Sync, W: Watch + Drop>(
     rt: &R,
@@ -125,17 +137,10 @@ fn solved_by_crew<R: Threads + Wait + Sync, G: Gate + Sync, W: Watch + Drop>(
 ) -> (Result<Report, AllocError>, W)
     requires crew { IsCrew options.now.workers }
     ensures report { IfOk result.0 (IsReport compiled.now ask options.now.budget) }
-    ensures proof { IfOk result.0 (HasProof options.now.proof) }
     ensures workers { OnOk result.0 (AreNumbered options.now.workers deeds.new.workers.items) }
     ensures heard { W.IsAfter watch result.1 }
 {
-    let plan = Plan {
-        ask,
-        workers: options.workers,
-        budget: options.budget,
-        proof: options.proof,
-        row: options.log.is_row(),
-    };
+    let plan = plan_of(options, ask, None);
     many::solve(rt, alloc, compiled, plan, gate, deeds, watch)
 }
 

@@ -20,7 +20,7 @@ pub enum Status {
     Enough,
     /// Help or the version was asked for and written.
     Help,
-    /// Memory ran out, and nothing was written to the sink; or of a list that is written while it is found, a front of it.
+    /// Memory ran out, and nothing was written to the sink; or of a list or a proof that is written while it is found, a front of it.
     Memory,
     /// The words of the command line are faulty.
     Usage,

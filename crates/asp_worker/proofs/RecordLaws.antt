@@ -38,7 +38,7 @@ use Rattle.asp_book.proofs.CallLaws.{task-stays, seen-after}
 use Rattle.asp_propagate.specs.Useful.{IsSmaller}
 use Rattle.asp_search_laws.specs.Searching.{Searching}
 use Rattle.asp_search_laws.specs.Steps.{Records}
-use Rattle.asp_crew_laws.specs.Proofs.{is_opt}
+use Rattle.asp_crew_laws.specs.Runs.{is_opt}
 use Rattle.asp_crew_laws.specs.Working.{IsAtWork, IsSought}
 use Rattle.asp_crew_laws.proofs.WorkLaws.{work-on, work-delivered, work-improved, work-unimproved, work-leased, work-told, out_of-leased, Fits-merged, may-list, may-optimise, may-tell}
 use Rattle.asp_worker.specs.Seats.{IsRun, IsSettled, Idles, Leases, WasEmpty}

@@ -37,7 +37,7 @@ pub(crate) struct Engine<'a, P: Propagator> {
 
 /// A search that knows no answer, without a unit. The recorder gets what it finds, if a proof is wanted.
 pub(crate) fn start<'a>(
-    shared: &Shared,
+    shared: &Shared<'_>,
     compiled: &'a Compiled,
     recorder: &'a Recorder,
 ) -> Result<Engine<'a, Propagators<'a>>, AllocError>
@@ -45,7 +45,7 @@ pub(crate) fn start<'a>(
     ensures fuel { IfOk result (λ e. e.fuel ≡ record { program = compiled.now; left = 0; burnt = 0; reasoned = false; known = 0; least = None }) }
     ensures read { IfOk result (λ e. e.read ≡ 0) }
 {
-    let recorder = if shared.proof { Some(recorder) } else { None };
+    let recorder = shared.scroll.map(|_| recorder);
     let mut propagators = Propagators::new(shared.alloc, compiled)?;
     propagators.record(recorder);
     let mut search = Search::new(shared.alloc, compiled, shared.mode, propagators)?;

@@ -26,7 +26,7 @@ const DOUBLINGS: u32 = 10;
 // Takes a path, if it is open.
 fn try_take<R: Wait>(
     rt: &R,
-    shared: &Shared,
+    shared: &Shared<'_>,
     seat: &mut Seat<Book>,
     leaf: Leaf,
 ) -> Result<Option<Leaf>, AllocError>
@@ -44,7 +44,7 @@ fn try_take<R: Wait>(
 // Takes a path that this worker offered.
 fn take_own<R: Wait>(
     rt: &R,
-    shared: &Shared,
+    shared: &Shared<'_>,
     seat: &mut Seat<Book>,
     lane: &mut Lane,
 ) -> Result<Option<Leaf>, AllocError>
@@ -72,7 +72,7 @@ fn take_own<R: Wait>(
 // Takes a path that the lane's worker offered, if that is another.
 fn take_from<R: Wait>(
     rt: &R,
-    shared: &Shared,
+    shared: &Shared<'_>,
     seat: &mut Seat<Book>,
     pass: &mut Pass,
     lane: u32,
@@ -108,7 +108,7 @@ fn take_from<R: Wait>(
 // Takes a path that another worker offered.
 fn take_other<R: Wait>(
     rt: &R,
-    shared: &Shared,
+    shared: &Shared<'_>,
     seat: &mut Seat<Book>,
     pass: &mut Pass,
 ) -> Result<Option<Leaf>, AllocError>
@@ -133,7 +133,7 @@ fn take_other<R: Wait>(
 // Takes a path that was offered, by this worker or by another.
 fn take_offered<R: Wait>(
     rt: &R,
-    shared: &Shared,
+    shared: &Shared<'_>,
     seat: &mut Seat<Book>,
     lane: &mut Lane,
     pass: &mut Pass,
@@ -166,7 +166,7 @@ pub(crate) enum Sight {
 }
 
 // How many paths are open, and how many are held.
-fn count_paths<R: Wait>(rt: &R, shared: &Shared, seat: &mut Seat<Book>) -> (usize, usize)
+fn count_paths<R: Wait>(rt: &R, shared: &Shared<'_>, seat: &mut Seat<Book>) -> (usize, usize)
     requires of { IsOf shared.now.book seat.old }
     requires settled { IsSettled (view seat.old) }
     ensures of { IsBeside seat.old seat.new }
@@ -197,7 +197,7 @@ fn pause<R: Wait>(rt: &R, parker: &Parker, round: u32) {
 // may be the rest of it: answers that were found there would be found again.
 fn survey<R: Wait>(
     rt: &R,
-    shared: &Shared,
+    shared: &Shared<'_>,
     seat: &mut Seat<Book>,
     round: u32,
 ) -> Result<Sight, AllocError>
@@ -227,7 +227,7 @@ fn survey<R: Wait>(
 // Takes the path, if there is one and it is open.
 fn take_rest<R: Wait>(
     rt: &R,
-    shared: &Shared,
+    shared: &Shared<'_>,
     seat: &mut Seat<Book>,
     rest: Option<Leaf>,
 ) -> Result<Option<Leaf>, AllocError>
@@ -249,7 +249,7 @@ fn take_rest<R: Wait>(
 // What others offer is seen outside the lock.
 fn look_for<R: Wait>(
     rt: &R,
-    shared: &Shared,
+    shared: &Shared<'_>,
     seat: &mut Seat<Book>,
     lane: &mut Lane,
     pass: &mut Pass,
@@ -288,7 +288,7 @@ fn look_for<R: Wait>(
 /// The rest of a path of which the other half was closed comes first, if there is one and it is open.
 pub(crate) fn find<R: Wait>(
     rt: &R,
-    shared: &Shared,
+    shared: &Shared<'_>,
     seat: &mut Seat<Book>,
     lane: &mut Lane,
     pass: &mut Pass,

@@ -54,7 +54,7 @@ pub(crate) enum Pause {
 }
 
 // Whether answers may wait for others: all are asked for.
-fn may_wait(shared: &Shared) -> bool
+fn may_wait(shared: &Shared<'_>) -> bool
     ensures { IsTrue result → shared.now.mode ≡ mode.Enum }
 {
     shared.models == 0 && matches!(shared.mode, Mode::Enum)
@@ -78,7 +78,7 @@ fn keep<P: Propagator>(
 // answers that it has. A conflict is met again by the step after they were delivered.
 fn turn<R: Wait, P: Propagator>(
     rt: &R,
-    shared: &Shared,
+    shared: &Shared<'_>,
     engine: &mut Engine<'_, P>,
     found: &mut Vec<Listing>,
 ) -> Result<Option<Pause>, AllocError>
@@ -117,7 +117,7 @@ fn is_due<P: Propagator>(engine: &Engine<'_, P>, found: &Vec<Listing>) -> bool {
 // Gathers the answers that the next steps find.
 fn gather<R: Wait, P: Propagator>(
     rt: &R,
-    shared: &Shared,
+    shared: &Shared<'_>,
     engine: &mut Engine<'_, P>,
     found: &mut Vec<Listing>,
 ) -> Result<Pause, AllocError>
@@ -142,7 +142,7 @@ fn gather<R: Wait, P: Propagator>(
 // Delivers the answers that were gathered, in one turn.
 fn list_all<R: Wait>(
     rt: &R,
-    shared: &Shared,
+    shared: &Shared<'_>,
     seat: &mut Seat<Book>,
     found: Vec<Listing>,
 ) -> Result<(), Stop>
@@ -161,7 +161,7 @@ fn list_all<R: Wait>(
 // Delivers an answer that the search has found with those that it finds next.
 fn answers<R: Wait, P: Propagator>(
     rt: &R,
-    shared: &Shared,
+    shared: &Shared<'_>,
     worker: &mut Worker,
     engine: &mut Engine<'_, P>,
     leaf: Leaf,
@@ -198,7 +198,7 @@ fn answers<R: Wait, P: Propagator>(
 /// steps first, and delivers what these find with it.
 pub(crate) fn answer<R: Wait, P: Propagator>(
     rt: &R,
-    shared: &Shared,
+    shared: &Shared<'_>,
     worker: &mut Worker,
     engine: &mut Engine<'_, P>,
     leaf: Leaf,

@@ -22,7 +22,7 @@ use crate::writing::note;
 use asp_book::book::Book;
 use asp_book::desk;
 use asp_counts::counts::Counts;
-use asp_counts::watch::Watch;
+use asp_counts::watch::{Best, Watch};
 use asp_path::tree::Leaf;
 use asp_propagate::propagator::Propagator;
 use asp_recorder::recorder::Recorder;
@@ -59,7 +59,7 @@ pub(crate) enum Course {
 // Closes a path of which nothing is left to be found, by this nogood.
 fn close<R: Wait>(
     rt: &R,
-    shared: &Shared,
+    shared: &Shared<'_>,
     seat: &mut Seat<Book>,
     leaf: Leaf,
     nogood: &Nogood,
@@ -80,7 +80,7 @@ fn close<R: Wait>(
 /// One step of the search, which is counted and written down.
 pub(crate) fn step<R: Wait, P: Propagator>(
     rt: &R,
-    shared: &Shared,
+    shared: &Shared<'_>,
     search: &mut Search<'_, P>,
     fuel: &mut Fuel,
     did: &mut Counts,
@@ -93,14 +93,14 @@ pub(crate) fn step<R: Wait, P: Propagator>(
 {
     let step = search.step(fuel)?;
     did.count(&step, search.implied() as u64, search.extra() as u64);
-    note(rt, shared, search, recorder)?;
+    note(rt, shared, search, &step, recorder)?;
     Ok(step)
 }
 
 // A step of the search, and what it asks for.
 fn advance<R: Wait, P: Propagator>(
     rt: &R,
-    shared: &Shared,
+    shared: &Shared<'_>,
     worker: &mut Worker,
     engine: &mut Engine<'_, P>,
     leaf: Leaf,
@@ -147,11 +147,19 @@ fn advance<R: Wait, P: Propagator>(
     }
 }
 
+// What the best answer costs that this search knows of, if there is one.
+fn best<'a, P: Propagator>(search: &'a Search<'_, P>) -> Option<Best<'a>> {
+    match search.bound() {
+        None => None,
+        Some(cost) => Some(Best { cost, set: None }),
+    }
+}
+
 // Where it is time, tells what this worker did, and the watch what all did, with the cost of the best answer that this one
 // knows of.
 fn tell<R: Wait, P: Propagator, W: Watch>(
     rt: &R,
-    shared: &Shared,
+    shared: &Shared<'_>,
     number: u32,
     engine: &Engine<'_, P>,
     watch: &mut W,
@@ -162,13 +170,13 @@ fn tell<R: Wait, P: Propagator, W: Watch>(
         return;
     }
     let sum = shared.tallies.tell(rt, number, &engine.did);
-    watch.tell(&sum, engine.search.bound());
+    watch.tell(&sum, best(&engine.search));
 }
 
 // Steps until the path is closed or left.
 fn search_path<R: Wait, P: Propagator, H: Halt, W: Watch>(
     rt: &R,
-    shared: &Shared,
+    shared: &Shared<'_>,
     halt: &H,
     worker: &mut Worker,
     engine: &mut Engine<'_, P>,
@@ -210,7 +218,7 @@ fn search_path<R: Wait, P: Propagator, H: Halt, W: Watch>(
 // Begins a path, if answers are wanted still, and searches it.
 fn try_path<R: Wait, P: Propagator, H: Halt, W: Watch>(
     rt: &R,
-    shared: &Shared,
+    shared: &Shared<'_>,
     halt: &H,
     worker: &mut Worker,
     engine: &mut Engine<'_, P>,
@@ -240,7 +248,7 @@ fn try_path<R: Wait, P: Propagator, H: Halt, W: Watch>(
 /// Searches a path that the worker holds. Where it isn't closed then, the worker holds the path in `leaf`.
 pub(crate) fn path<R: Wait, P: Propagator, H: Halt, W: Watch>(
     rt: &R,
-    shared: &Shared,
+    shared: &Shared<'_>,
     halt: &H,
     worker: &mut Worker,
     engine: &mut Engine<'_, P>,

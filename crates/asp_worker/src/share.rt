@@ -41,7 +41,7 @@ const STEPS: u64 = 2000;
 // Begins the search of a path that the worker holds.
 fn enter<R: Wait, P: Propagator>(
     rt: &R,
-    shared: &Shared,
+    shared: &Shared<'_>,
     seat: &mut Seat<Book>,
     search: &mut Search<'_, P>,
     leaf: Leaf,
@@ -62,7 +62,7 @@ fn enter<R: Wait, P: Propagator>(
 /// Begins the search of a path that the worker holds, with what others have found.
 pub(crate) fn begin<R: Wait, P: Propagator>(
     rt: &R,
-    shared: &Shared,
+    shared: &Shared<'_>,
     worker: &mut Worker,
     engine: &mut Engine<'_, P>,
     leaf: Leaf,
@@ -104,7 +104,7 @@ fn put(lane: &mut Lane, rest: &mut Option<Leaf>, half: Leaf, other: Other) {
 // Splits the path on a literal, and puts the half that hasn't it where it belongs.
 fn divide<R: Wait>(
     rt: &R,
-    shared: &Shared,
+    shared: &Shared<'_>,
     worker: &mut Worker,
     rest: &mut Option<Leaf>,
     leaf: Leaf,
@@ -135,7 +135,7 @@ fn divide<R: Wait>(
 // The path that the worker then has is in `leaf`, also after want of memory.
 fn split_on<R: Wait, P: Propagator>(
     rt: &R,
-    shared: &Shared,
+    shared: &Shared<'_>,
     worker: &mut Worker,
     engine: &mut Engine<'_, P>,
     leaf: &mut Leaf,
@@ -167,7 +167,7 @@ fn split_on<R: Wait, P: Propagator>(
 // The path that the worker then has is in `leaf`, also after want of memory.
 fn offer_half<R: Wait, P: Propagator>(
     rt: &R,
-    shared: &Shared,
+    shared: &Shared<'_>,
     worker: &mut Worker,
     engine: &mut Engine<'_, P>,
     leaf: &mut Leaf,
@@ -199,7 +199,7 @@ fn offer_half<R: Wait, P: Propagator>(
 // The path that the worker then has is in `leaf`, also after want of memory.
 fn shed<R: Wait, P: Propagator>(
     rt: &R,
-    shared: &Shared,
+    shared: &Shared<'_>,
     worker: &mut Worker,
     engine: &mut Engine<'_, P>,
     leaf: &mut Leaf,
@@ -220,7 +220,7 @@ fn shed<R: Wait, P: Propagator>(
 }
 
 /// Whether as many answers as asked for were delivered.
-pub(crate) fn is_enough<R: Wait>(rt: &R, shared: &Shared, worker: &mut Worker) -> bool
+pub(crate) fn is_enough<R: Wait>(rt: &R, shared: &Shared<'_>, worker: &mut Worker) -> bool
     requires ready { IsReady shared.now worker.old }
     ensures keeps { Keeps worker.old worker.new }
     ensures ready { IsReady shared.now worker.new }
@@ -246,7 +246,7 @@ fn is_ripe<P: Propagator>(engine: &Engine<'_, P>) -> bool {
 // The path that the worker then has is in `leaf`, also after an error.
 fn offer<R: Wait, P: Propagator>(
     rt: &R,
-    shared: &Shared,
+    shared: &Shared<'_>,
     worker: &mut Worker,
     engine: &mut Engine<'_, P>,
     leaf: &mut Leaf,
@@ -280,7 +280,7 @@ fn offer<R: Wait, P: Propagator>(
 /// The path that the worker then has is in `leaf`, also after an error.
 pub(crate) fn share<R: Wait, P: Propagator>(
     rt: &R,
-    shared: &Shared,
+    shared: &Shared<'_>,
     worker: &mut Worker,
     engine: &mut Engine<'_, P>,
     leaf: &mut Leaf,

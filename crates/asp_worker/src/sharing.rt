@@ -14,7 +14,7 @@ ghost use Rattle.asp_book.specs.Calls.{seen_board};
 ghost use Rattle.asp_search.specs.Beside.{count_unshown, left_to_show, Leaves};
 ghost use Rattle.asp_search_laws.specs.Searching.{Searching};
 ghost use Rattle.asp_slots.specs.Shelves.{program_of, seen_count, listed, IsAt, ReadsOn};
-ghost use Rattle.asp_crew_laws.specs.Proofs.{is_opt};
+ghost use Rattle.asp_crew_laws.specs.Runs.{is_opt};
 ghost use Rattle.asp_worker.specs.Seats.{IsReady, Keeps, IsSettled, Idles, Leases, WasEmpty};
 ghost use Rattle.asp_worker.specs.Sharing.{is_fewer, is_smaller, lowered, ImportsAll, ImportsNew, Remembers, RemembersAll, TakesBest, TakesKnown, TakesOver};
 ghost use Rattle.asp_worker.specs.Working.{GoesOn, Finds, IsStop};
@@ -22,6 +22,7 @@ ghost use Rattle.asp_worker.specs.Working.{GoesOn, Finds, IsStop};
 use crate::engine::Engine;
 use crate::stop::Stop;
 use crate::worker::{Shared, Worker};
+use crate::writing::best_turn;
 use asp_book::book::Book;
 use asp_book::desk;
 use asp_model::cost::Cost;
@@ -76,7 +77,7 @@ fn import_all<P: Propagator>(search: &mut Search<'_, P>, entries: &Shown) -> Res
 // Imports what is new in the log.
 fn import_new<R: Wait, P: Propagator>(
     rt: &R,
-    shared: &Shared,
+    shared: &Shared<'_>,
     pages: &mut ShelfSeat,
     search: &mut Search<'_, P>,
     read: &mut u32,
@@ -128,7 +129,7 @@ fn take_known<P: Propagator>(search: &mut Search<'_, P>, known: Known) -> Result
 // Takes over the cost of the best answer, if one is sought, and the answers delivered where consequences are.
 fn take_best<R: Wait, P: Propagator>(
     rt: &R,
-    shared: &Shared,
+    shared: &Shared<'_>,
     seat: &mut Seat<Book>,
     search: &mut Search<'_, P>,
 ) -> Result<(), AllocError>
@@ -157,7 +158,7 @@ fn take_best<R: Wait, P: Propagator>(
 /// over, and isn't looked at again. After want of memory it may be that no path is entered.
 pub(crate) fn refresh<R: Wait, P: Propagator>(
     rt: &R,
-    shared: &Shared,
+    shared: &Shared<'_>,
     worker: &mut Worker,
     engine: &mut Engine<'_, P>,
 ) -> Result<(), AllocError>
@@ -186,7 +187,7 @@ pub(crate) fn refresh<R: Wait, P: Propagator>(
 /// Tells the others what the last step learnt, if that is of use to them and there is room and memory for it.
 pub(crate) fn export<R: Wait, P: Propagator>(
     rt: &R,
-    shared: &Shared,
+    shared: &Shared<'_>,
     pages: &mut ShelfSeat,
     search: &Search<'_, P>,
 )
@@ -218,7 +219,7 @@ pub(crate) fn row_of<P: Propagator>(
 // Delivers an answer that an enumeration has found, unless as many as asked for were delivered before.
 fn list<R: Wait, P: Propagator>(
     rt: &R,
-    shared: &Shared,
+    shared: &Shared<'_>,
     seat: &mut Seat<Book>,
     engine: &mut Engine<'_, P>,
     set: Interp,
@@ -241,7 +242,7 @@ fn list<R: Wait, P: Propagator>(
 // Tells of an answer that the search has found where consequences are sought, unless as many as asked for were delivered before.
 fn deliver<R: Wait, P: Propagator>(
     rt: &R,
-    shared: &Shared,
+    shared: &Shared<'_>,
     seat: &mut Seat<Book>,
     engine: &mut Engine<'_, P>,
     set: Interp,
@@ -263,7 +264,7 @@ fn deliver<R: Wait, P: Propagator>(
 // Makes an answer that the search has found the best one, or takes over the cost of one that is no dearer.
 fn improve<R: Wait, P: Propagator>(
     rt: &R,
-    shared: &Shared,
+    shared: &Shared<'_>,
     seat: &mut Seat<Book>,
     engine: &mut Engine<'_, P>,
     set: Interp,
@@ -277,6 +278,7 @@ fn improve<R: Wait, P: Propagator>(
     ensures ok { OnOk result (GoesOn mode.Opt (view seat.new) engine.new.search engine.new.fuel × (engine.new.search.cube ≡ engine.old.search.cube)) }
     ensures err { OnErr result (engine.new.search.program ≡ engine.old.search.program) }
 {
+    let _turn = best_turn(rt, shared, &engine.search, &set)?;
     match desk::improve(rt, &shared.book, seat, set)? {
         None => Ok(()),
         Some(best) => lower_bound(&mut engine.search, best),
@@ -286,7 +288,7 @@ fn improve<R: Wait, P: Propagator>(
 /// Records an answer that the search has found, unless there are as many as asked for.
 pub(crate) fn record<R: Wait, P: Propagator>(
     rt: &R,
-    shared: &Shared,
+    shared: &Shared<'_>,
     seat: &mut Seat<Book>,
     engine: &mut Engine<'_, P>,
     set: Interp,
@@ -313,7 +315,7 @@ pub(crate) fn record<R: Wait, P: Propagator>(
 /// Leases units. False where none was left.
 pub(crate) fn lease<R: Wait, P: Propagator>(
     rt: &R,
-    shared: &Shared,
+    shared: &Shared<'_>,
     seat: &mut Seat<Book>,
     engine: &mut Engine<'_, P>,
 ) -> Result<bool, AllocError>

@@ -18,6 +18,7 @@ use asp_book::desk;
 use asp_counts::counts::Counts;
 use asp_counts::watch::Watch;
 use asp_path::tree::Leaf;
+use asp_proof::proof::Sought;
 use asp_propagate::propagator::Propagator;
 use asp_recorder::recorder::Recorder;
 use asp_vars::compiled::Compiled;
@@ -28,7 +29,7 @@ use std::sync::Wait;
 // Searches a path, and opens it again where it isn't closed.
 fn try_path<R: Wait, P: Propagator, H: Halt, W: Watch>(
     rt: &R,
-    shared: &Shared,
+    shared: &Shared<'_>,
     halt: &H,
     worker: &mut Worker,
     engine: &mut Engine<'_, P>,
@@ -67,7 +68,7 @@ fn try_path<R: Wait, P: Propagator, H: Halt, W: Watch>(
 // Searches a path, and then others that it takes. Says whether it ended for want of memory.
 fn search_paths<R: Wait, P: Propagator, G: Gate, H: Halt, W: Watch>(
     rt: &R,
-    shared: &Shared,
+    shared: &Shared<'_>,
     gate: &G,
     halt: &H,
     worker: &mut Worker,
@@ -119,7 +120,7 @@ fn search_paths<R: Wait, P: Propagator, G: Gate, H: Halt, W: Watch>(
 // is given back.
 fn search_from<R: Wait, G: Gate, H: Halt, W: Watch>(
     rt: &R,
-    shared: &Shared,
+    shared: &Shared<'_>,
     compiled: &Compiled,
     gate: &G,
     halt: &H,
@@ -141,7 +142,7 @@ fn search_from<R: Wait, G: Gate, H: Halt, W: Watch>(
     ensures idle { OnErr result (IsIdle (view worker.new.seat)) }
     ensures heard { W.IsAfter watch.old watch.new }
 {
-    let recorder = Recorder::new(shared.alloc);
+    let recorder = Recorder::new(shared.alloc, Sought::All);
     match start(shared, compiled, &recorder) {
         Err(error) => {
             desk::release(rt, &shared.book, &mut worker.seat, first);
@@ -159,7 +160,7 @@ fn search_from<R: Wait, G: Gate, H: Halt, W: Watch>(
 // a path: a worker that never has one takes no memory for a search. Without memory for one the worker has nothing.
 fn searched<R: Wait, G: Gate, H: Halt, W: Watch>(
     rt: &R,
-    shared: &Shared,
+    shared: &Shared<'_>,
     compiled: &Compiled,
     gate: &G,
     halt: &H,
@@ -197,7 +198,7 @@ fn searched<R: Wait, G: Gate, H: Halt, W: Watch>(
 #[inline(never)]
 pub fn work<R: Wait, G: Gate, H: Halt, W: Watch>(
     rt: &R,
-    shared: &Shared,
+    shared: &Shared<'_>,
     compiled: &Compiled,
     gate: &G,
     halt: &H,

@@ -10,7 +10,7 @@ use std::alloc::Global;
 
 /// What all workers share.
 #[derive(Drop)]
-pub struct Shared {
+pub struct Shared<'a> {
     /// Where each worker's search takes its memory.
     pub alloc: Global,
     /// What is sought.
@@ -27,10 +27,8 @@ pub struct Shared {
     pub pool: Pool,
     /// What each worker did.
     pub tallies: Tallies,
-    /// Whether the proof of a finished run is wanted.
-    pub proof: bool,
-    /// The lines of the proof, if one is wanted.
-    pub scroll: Scroll,
+    /// Where the lines of the run's proof go, if one is wanted.
+    pub scroll: Option<&'a Scroll>,
 }
 
 /// What a worker brings to its work, and has again when it has ended. Its search lives in its thread alone.

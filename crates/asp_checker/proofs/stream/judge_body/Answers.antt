@@ -1,28 +1,31 @@
+use Rattle.std.proofs.Common.{List, [], ◌++◌, sym, subst, ◌∙◌}
 use Rattle.std.proofs.lemmas.Result.{err_from_is_err_and}
+use Rattle.asp_proof.specs.Walk.{front_of, proof_of}
 use Rattle.asp_proof.proofs.StreamLaws.{comes_back}
+use Rattle.asp_model.specs.Sets.{Atoms}
+use Rattle.asp_checker.specs.Streams.{AreLinesOf}
+use Rattle.asp_checker.proofs.StreamLaws.{no_memory}
 use Rattle.asp_checker.proofs.stream.judge_body.Goals as goal
 
-pub returns-in_err-fault-clause-says : goal.returns-in_err-fault-clause-says
-returns-in_err-fault-clause-says g c =
+pub returns-in_err-assumptions-clause-says : goal.returns-in_err-assumptions-clause-says
+returns-in_err-assumptions-clause-says g c =
     let p = err_from_is_err_and c.from_residual.result c.from_residual.ensures.1 in
-    rw (p.1, p.2) c.in_err-fault.ensures.says
+    rw (p.1, p.2) (no_memory c.args.compiled.now (g.S.Source.left c.args.source.now) (front_of (proof_of c.args.sought [] []) ++ c.args.reader.now.behind))
 
-pub returns-in-Some-clause-says : goal.returns-in-Some-clause-says
-returns-in-Some-clause-says g c = rw (c.len.ensures, c.judge_answers.new.answers.ok.0) (rw c.in-Some.is at c.in_ok-fault.ensures.says)
+pub returns-in_err-known-clause-says : goal.returns-in_err-known-clause-says
+returns-in_err-known-clause-says g c =
+    let p = err_from_is_err_and c.from_residual-in_err-known.result c.from_residual-in_err-known.ensures.1 in
+    rw (p.1, p.2) (no_memory c.args.compiled.now (g.S.Source.left c.args.source.now) (front_of (proof_of c.args.sought [] []) ++ c.args.reader.now.behind))
 
-pub judge_lines-requires-clause-right : goal.judge_lines-requires-clause-right
-judge_lines-requires-clause-right g c = let h = rw c.in-None.is at c.in_ok-fault.ensures.says in rw c.as_slice-listed.ensures.value h.listed.right
-
-pub judge_lines-requires-clause-begun : goal.judge_lines-requires-clause-begun
-judge_lines-requires-clause-begun g c = let h = rw c.in-None.is at c.in_ok-fault.ensures.says in rw c.as_slice-listed.ensures.value h.listed.begun
-
-pub judge_lines-requires-clause-unbroken : goal.judge_lines-requires-clause-unbroken
-judge_lines-requires-clause-unbroken g c = let h = rw c.in-None.is at c.in_ok-fault.ensures.says in h.unbroken
-
-pub judge_lines-requires-clause-no_answer : goal.judge_lines-requires-clause-no_answer
-judge_lines-requires-clause-no_answer g c = let h = rw c.in-None.is at c.in_ok-fault.ensures.says in h.no_answer
+pub judge_lines-judged-requires-clause-ready : goal.judge_lines-judged-requires-clause-ready
+judge_lines-judged-requires-clause-ready g c = c.in_ok-known.ensures.ready c.args.sought
 
 pub returns-clause-says : goal.returns-clause-says
 returns-clause-says g c =
-    let h = rw c.in-None.is at c.in_ok-fault.ensures.says in
-    comes_back (g.S.Source.left c.args.source.now) (g.S.Source.left c.judge_answers.new.source) _ _ _ h.listed.moved (rw c.as_slice-listed.ensures.value at c.judge_lines.ensures.says)
+    let p = c.args.compiled.now in
+    let t = c.judge_lines-judged.new.tally in
+    let h = rw c.in-None.is at c.in_ok-why.ensures.says in
+    comes_back (g.S.Source.left c.args.source.now) (g.S.Source.left c.judge_lines-judged.new.source) _ _ _ h.moved
+    (c.judge_list.ensures.says h.entries
+    (subst (λ (found : List Atoms). AreLinesOf p c.args.sought h.entries t.count t.whole found c.judge_lines-judged.new.reader)
+    (sym (c.as_slice-found.ensures.value ∙ c.into_found-found.ensures)) h.lines))

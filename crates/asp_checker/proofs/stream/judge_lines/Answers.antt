@@ -1,58 +1,75 @@
-use Rattle.std.proofs.Common.{List, [], ◌++◌, sym, subst, refl, ◌∙◌}
-use Rattle.std.specs.List.{AllByRecursion}
+use Rattle.std.proofs.Common.{◌+◌, [], ◌++◌, refl, ap, ◌∙◌, sym}
 use Rattle.std.proofs.lemmas.Result.{err_from_is_err_and}
-use Rattle.asp_model.specs.Sets.{Atoms}
-use Rattle.asp_vars.proofs.VarLaws.{completion_vars}
 use Rattle.asp_proof.specs.Walk.{front_of, proof_of}
-use Rattle.asp_proof.specs.Reading.{held}
-use Rattle.asp_checker.specs.Lines.{AreOf, avoided}
-use Rattle.asp_checker.specs.Blocks.{known_with}
-use Rattle.asp_checker.specs.Chasing.{IsRoot}
-use Rattle.asp_checker.proofs.JudgeLaws.{known_from}
-use Rattle.asp_checker.proofs.StreamLaws.{no_memory}
+use Rattle.asp_checker.proofs.StreamLaws.{step_failed, so_far_first, so_far_at, so_far_next, so_far_wrong, so_far_broken, all_read, no_memory, no_fault}
 use Rattle.asp_checker.proofs.stream.judge_lines.Goals as goal
 
-pub first_root-requires-clause-of : goal.first_root-requires-clause-of
-first_root-requires-clause-of g c = subst (AllByRecursion (AreOf c.args.compiled.now)) (sym (c.as_slice-first.ensures.value ∙ c.in_ok-kept.ensures)) (completion_vars c.args.compiled.now)
+pub lines-init : goal.lines-init
+lines-init g c = record {
+  ready = c.requires.ready;
+  so_far = so_far_first c.args.compiled.now c.args.sought c.args.known.now c.args.tally.now (g.S.Source.left c.args.source.now) c.args.reader.now.behind
+      c.requires.first c.requires.count c.requires.whole;
+  count = c.requires.count;
+  quiet = refl;
+}
 
-pub judge_each-judged-requires-clause-kept : goal.judge_each-judged-requires-clause-kept
-judge_each-judged-requires-clause-kept g c = subst (AllByRecursion (AreOf c.args.compiled.now)) (sym c.in_ok-kept.ensures) (completion_vars c.args.compiled.now)
-
-pub judge_each-judged-requires-clause-assumed : goal.judge_each-judged-requires-clause-assumed
-judge_each-judged-requires-clause-assumed g c = c.as_slice-assumed.ensures.value ∙ c.in_ok-assumptions.ensures
-
-pub judge_each-judged-requires-clause-root : goal.judge_each-judged-requires-clause-root
-judge_each-judged-requires-clause-root g c =
-    let p = c.args.compiled.now in
-    subst (λ (Ss : List Atoms). IsRoot p (known_with p Ss c.in_ok-kept.kept.items c.in_ok-bound.bound) c.in_ok-values.values) c.avoided-listed.ensures
-    (rw c.as_slice-first.ensures.value at c.in_ok-values.ensures)
-
-pub judge_each-judged-requires-clause-known : goal.judge_each-judged-requires-clause-known
-judge_each-judged-requires-clause-known g c =
-    known_from c.args.compiled.now (proof_of c.args.sought c.args.answers.now []) c.args.answers.now (avoided c.args.sought c.args.answers.now) c.in_ok-kept.kept.items
-    c.in_ok-bound.bound refl refl c.in_ok-kept.ensures c.in_ok-bound.ensures.cost
-
-pub returns-in_err-kept-clause-says : goal.returns-in_err-kept-clause-says
-returns-in_err-kept-clause-says g c =
+pub returns-in_err-next-clause-says : goal.returns-in_err-next-clause-says
+returns-in_err-next-clause-says g c =
     let p = err_from_is_err_and c.from_residual.result c.from_residual.ensures.1 in
-    rw (p.1, p.2) (no_memory c.args.compiled.now (g.S.Source.left c.args.source.now) (front_of (proof_of c.args.sought c.args.answers.now []) ++ held c.args.reader.now))
+    let so_far = c.lines.invariant.so_far in
+    rw (p.1, p.2)
+    (step_failed c.args.compiled.now (g.S.Source.left c.args.source.now) (g.S.Source.left c.lines.source)
+    (g.S.Source.left c.next_line.new.source) _ (front_of (proof_of c.args.sought so_far.entries [])) c.lines.reader
+    c.next_line.new.reader c.in_err-next.field-0.0 so_far.moved c.in_err-next.ensures.next)
 
-pub returns-in_err-bound-clause-says : goal.returns-in_err-bound-clause-says
-returns-in_err-bound-clause-says g c =
-    let p = err_from_is_err_and c.from_residual-in_err-bound.result c.from_residual-in_err-bound.ensures.1 in
-    rw (p.1, p.2) (no_memory c.args.compiled.now (g.S.Source.left c.args.source.now) (front_of (proof_of c.args.sought c.args.answers.now []) ++ held c.args.reader.now))
+pub returns-then-not-next-clause-says : goal.returns-then-not-next-clause-says
+returns-then-not-next-clause-says g c =
+    rw c.refused.ensures
+    (so_far_broken c.args.compiled.now c.args.sought c.lines.known c.lines.tally (g.S.Source.left c.args.source.now) (g.S.Source.left c.lines.source)
+    (g.S.Source.left c.next_line.new.source) _ c.lines.reader c.next_line.new.reader c.lines.invariant.so_far
+    (rw c.if-not-next.true at c.in_ok-next.ensures.next))
 
-pub returns-in_err-assumptions-clause-says : goal.returns-in_err-assumptions-clause-says
-returns-in_err-assumptions-clause-says g c =
-    let p = err_from_is_err_and c.from_residual-in_err-assumptions.result c.from_residual-in_err-assumptions.ensures.1 in
-    rw (p.1, p.2) (no_memory c.args.compiled.now (g.S.Source.left c.args.source.now) (front_of (proof_of c.args.sought c.args.answers.now []) ++ held c.args.reader.now))
+pub returns-in_err-came_to-clause-says : goal.returns-in_err-came_to-clause-says
+returns-in_err-came_to-clause-says g c =
+    let p = err_from_is_err_and c.from_residual-in_err-came_to.result c.from_residual-in_err-came_to.ensures.1 in
+    rw (p.1, p.2) (no_memory c.args.compiled.now (g.S.Source.left c.args.source.now) (front_of (proof_of c.args.sought [] []) ++ c.args.reader.now.behind))
 
-pub returns-in_err-watches-clause-says : goal.returns-in_err-watches-clause-says
-returns-in_err-watches-clause-says g c =
-    let p = err_from_is_err_and c.from_residual-in_err-watches.result c.from_residual-in_err-watches.ensures.1 in
-    rw (p.1, p.2) (no_memory c.args.compiled.now (g.S.Source.left c.args.source.now) (front_of (proof_of c.args.sought c.args.answers.now []) ++ held c.args.reader.now))
+pub returns-in-Wrong-clause-says : goal.returns-in-Wrong-clause-says
+returns-in-Wrong-clause-says g c =
+    let n = rw c.if-not-next.false at c.in_ok-next.ensures.next in
+    let h = rw (c.in-Wrong.is, c.line.ensures) at c.in_ok-came_to.ensures in
+    let at =
+    so_far_at c.args.compiled.now c.args.sought c.lines.known c.lines.tally (g.S.Source.left c.args.source.now) (g.S.Source.left c.lines.source)
+    (g.S.Source.left c.next_line.new.source) _ c.lines.reader c.next_line.new.reader c.lines.invariant.so_far n in
+    so_far_wrong c.args.compiled.now c.args.sought c.lines.known c.lines.tally (g.S.Source.left c.args.source.now)
+    (g.S.Source.left c.next_line.new.source) _ c.next_line.new.reader h.0 c.in-Wrong.why at n.0 h.1 h.2
 
-pub returns-in_err-values-clause-says : goal.returns-in_err-values-clause-says
-returns-in_err-values-clause-says g c =
-    let p = err_from_is_err_and c.from_residual-in_err-values.result c.from_residual-in_err-values.ensures.1 in
-    rw (p.1, p.2) (no_memory c.args.compiled.now (g.S.Source.left c.args.source.now) (front_of (proof_of c.args.sought c.args.answers.now []) ++ held c.args.reader.now))
+pub returns-in-Other-clause-says : goal.returns-in-Other-clause-says
+returns-in-Other-clause-says g c =
+    let n = rw c.if-not-next.false at c.in_ok-next.ensures.next in
+    let h = rw (c.in-Other.is, c.line.ensures) at c.in_ok-came_to.ensures in
+    let at =
+    so_far_at c.args.compiled.now c.args.sought c.lines.known c.lines.tally (g.S.Source.left c.args.source.now) (g.S.Source.left c.lines.source)
+    (g.S.Source.left c.next_line.new.source) _ c.lines.reader c.next_line.new.reader c.lines.invariant.so_far n in
+    all_read c.args.compiled.now c.args.sought c.lines.known c.read_line.new.known c.lines.tally (g.S.Source.left c.args.source.now)
+    (g.S.Source.left c.next_line.new.source) _ c.next_line.new.reader at n.0 h.0 h.1
+
+pub lines-preserved : goal.lines-preserved
+lines-preserved g c =
+    let n = rw c.if-not-next.false at c.in_ok-next.ensures.next in
+    let h = rw (c.in-Right.is, c.line.ensures) at c.in_ok-came_to.ensures in
+    let gathered = h.2 in
+    let at =
+    so_far_at c.args.compiled.now c.args.sought c.lines.known c.lines.tally (g.S.Source.left c.args.source.now) (g.S.Source.left c.lines.source)
+    (g.S.Source.left c.next_line.new.source) _ c.lines.reader c.next_line.new.reader c.lines.invariant.so_far n in
+    record {
+      ready = gathered.ready;
+      so_far = so_far_next c.args.compiled.now c.args.sought c.lines.known c.read_line.new.known c.lines.tally _ c.in-Right.closing
+          (g.S.Source.left c.args.source.now) (g.S.Source.left c.next_line.new.source) _ c.next_line.new.reader h.0 at n.0 h.1 gathered
+          (ap (λ i. i + 1) (sym c.lines.invariant.count)) c.either-tally.ensures;
+      count = refl;
+      quiet = c.in_ok-next.ensures.quiet (no_fault c.in_ok-next.next _) ∙ c.lines.invariant.quiet;
+    }
+
+pub returns-clause-says : goal.returns-clause-says
+returns-clause-says g c = no_memory c.args.compiled.now (g.S.Source.left c.args.source.now) (front_of (proof_of c.args.sought [] []) ++ c.args.reader.now.behind)

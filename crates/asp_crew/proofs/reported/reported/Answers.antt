@@ -28,9 +28,6 @@ returns-in-Ok-clause-log c = ap (λ (r : Report). r.log) c.with_core.ensures ∙
 pub returns-in-Ok-clause-short : goal.returns-in-Ok-clause-short
 returns-in-Ok-clause-short c = ap (λ (r : Report). r.short) c.with_core.ensures ∙ c.told-report.ensures.short
 
-pub returns-in-Ok-clause-proof : goal.returns-in-Ok-clause-proof
-returns-in-Ok-clause-proof c = ap (λ (r : Report). r.proof) c.with_core.ensures ∙ c.told-report.ensures.proof
-
 pub returns-in-Ok-clause-core : goal.returns-in-Ok-clause-core
 returns-in-Ok-clause-core c =
     told-core c.args.compiled.now c.args.ask.mode (board c.args.book) c.told-report.result c.with_core.result c.in-Ok.core c.with_core.ensures

@@ -33,3 +33,6 @@ returns-in_err-bound-clause-heard g c = g.met.W.Watch.begins c.args.watch.now
 
 pub returns-in_err-book-clause-heard : goal.returns-in_err-book-clause-heard
 returns-in_err-book-clause-heard g c = g.met.W.Watch.begins c.args.watch.now
+
+pub returns-in_err-begin_second-clause-heard : goal.returns-in_err-begin_second-clause-heard
+returns-in_err-begin_second-clause-heard g c = g.met.W.Watch.begins c.args.watch.now

@@ -1,6 +1,6 @@
-use Rattle.asp_proof.specs.Texts.{loop_fields, learned_fields, literals_fields, line_text}
-use Rattle.asp_proof.specs.Grammar.{IsLoop, IsLearned, IsNogood, IsLine}
-use Rattle.asp_proof.proofs.LineLaws.{line_from, no_loop_line, no_learned_line, no_cube_line, no_line}
+use Rattle.asp_proof.specs.Texts.{atoms_fields, loop_fields, learned_fields, literals_fields, line_text}
+use Rattle.asp_proof.specs.Grammar.{IsSet, IsLoop, IsLearned, IsNogood, IsLine}
+use Rattle.asp_proof.proofs.LineLaws.{line_from, no_loop_line, no_learned_line, no_cube_line, no_found_line, no_line}
 use Rattle.asp_proof.proofs.lines.line.Goals as goal
 
 pub returns-in-Some : goal.returns-in-Some
@@ -14,5 +14,9 @@ pub returns-in-Some-after-2 : goal.returns-in-Some-after-2
 returns-in-Some-after-2 c = line_from c.cube_line.result IsNogood literals_fields IsLine line_text 99 c.in-Some-after-2.fields.now c.args.line.now
     c.in-Some-after-2.ensures (no_cube_line c.in-Some-after-2.fields.now) c.cube_line.ensures
 
+pub returns-in-Some-after-3 : goal.returns-in-Some-after-3
+returns-in-Some-after-3 c = line_from c.found_line.result IsSet atoms_fields IsLine line_text 102 c.in-Some-after-3.fields.now c.args.line.now
+    c.in-Some-after-3.ensures (no_found_line c.in-Some-after-3.fields.now) c.found_line.ensures
+
 pub returns : goal.returns
-returns c = no_line c.args.line.now c.in_default.ensures c.in_default-after.ensures c.in_default-after-2.ensures
+returns c = no_line c.args.line.now c.in_default.ensures c.in_default-after.ensures c.in_default-after-2.ensures c.in_default-after-3.ensures

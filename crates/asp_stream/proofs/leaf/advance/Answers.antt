@@ -1,5 +1,5 @@
 use Rattle.asp_model.specs.declared.results.Mode.TheVariants.{Enum}
-use Rattle.asp_crew.proofs.StepLaws.{is-answer, may-step}
+use Rattle.asp_crew.proofs.StepLaws.{answer-may, is-answer, may-step}
 use Rattle.asp_stream.proofs.CourseLaws.{goes-answered, goes-closed, goes-decided, goes-learnt, goes-restarted, goes-unpaid}
 use Rattle.asp_stream.proofs.leaf.advance.Goals as goal
 
@@ -22,6 +22,8 @@ returns-in-Restarted-clause-goes g c =
 pub deliver-requires : goal.deliver-requires
 deliver-requires g c = record {
   answer = is-answer _ _ Enum c.args.stream.now.ledger c.args.search.now c.step.new.search c.args.fuel.now c.step.new.fuel c.requires.underway _ c.in_ok-step.ensures.ok
+      c.in-Answer.set c.in-Answer.is;
+  listed = answer-may _ _ Enum c.args.stream.now.ledger c.args.search.now c.step.new.search c.args.fuel.now c.step.new.fuel c.requires.underway _ c.in_ok-step.ensures.ok
       c.in-Answer.set c.in-Answer.is;
   program = c.requires.program;
   atoms = c.requires.atoms;

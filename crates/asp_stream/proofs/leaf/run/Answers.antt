@@ -8,7 +8,7 @@ use Rattle.asp_stream.specs.Leaves.{GoesOn}
 use Rattle.asp_stream.specs.Streams.{IsCrowded}
 use Rattle.asp_stream.specs.declared.leaf.Course.{Course}
 use Rattle.asp_stream.proofs.CourseLaws.{along-same, along-step, ends-closed, ends-crowded, ends-unpaid, ends-unwanted, knows-now}
-use Rattle.asp_stream.proofs.PartLaws.{front-same, leaves-same, program-same, stream-atoms, stream-front}
+use Rattle.asp_stream.proofs.PartLaws.{front-then, leaves-same, program-same, stream-atoms, stream-front}
 use Rattle.asp_stream.proofs.leaf.run.Goals as goal
 
 pub steps-init : goal.steps-init
@@ -17,7 +17,7 @@ steps-init g c = record {
   compiled = refl;
   parts = refl;
   stream = c.requires.stream;
-  front = stream-front c.args.stream.now _ _ _ c.lawful.ensures.task c.lawful.ensures.journal c.requires.program c.requires.stream;
+  front = stream-front c.args.stream.now _ _ _ _ c.lawful.ensures.task c.lawful.ensures.journal c.requires.program c.requires.stream;
   after = g.met.R.Reader.begins c.args.reader.now;
   heard = g.met.W.Watch.begins c.args.watch.now;
 }
@@ -26,13 +26,13 @@ pub advance-requires : goal.advance-requires
 advance-requires g c = record {
   underway = c.steps.invariant.along.underway;
   program = c.steps.invariant.stream.program;
-  atoms = stream-atoms c.steps.stream _ _ c.steps.invariant.stream;
+  atoms = stream-atoms c.steps.stream _ _ _ c.steps.invariant.stream;
 }
 
 pub look-requires : goal.look-requires
 look-requires g c = record {
   stream =
-      leaves-same c.steps.stream c.advance.new.stream _ c.args.leaf c.advance.ensures.same.1 (c.in_ok-course.ensures.stream _ _ c.steps.invariant.stream);
+      leaves-same c.steps.stream c.advance.new.stream _ _ c.args.leaf c.advance.ensures.same.1 (c.in_ok-course.ensures.stream _ _ _ c.steps.invariant.stream);
   program = program-same c.args.stream.now c.advance.new.stream _ (c.advance.ensures.same.0 ∙ c.steps.invariant.compiled) c.steps.invariant.front.program;
   knows =
       knows-now c.args.stream.now.ledger c.advance.new.stream.ledger c.args.leaf c.args.search.now c.advance.new.search c.advance.new.fuel
@@ -49,7 +49,7 @@ steps-preserved g c = record {
   compiled = c.look.ensures.keeps.compiled ∙ c.advance.ensures.same.0 ∙ c.steps.invariant.compiled;
   parts = c.look.ensures.keeps.parts ∙ c.advance.ensures.same.1 ∙ c.steps.invariant.parts;
   stream = c.in_ok-look.ensures.stream;
-  front = front-same c.args.stream.now c.advance.new.stream _ _ (c.advance.ensures.same.0 ∙ c.steps.invariant.compiled) c.look.ensures.front;
+  front = front-then c.args.stream.now c.advance.new.stream _ _ _ _ _ (c.advance.ensures.same.0 ∙ c.steps.invariant.compiled) c.steps.invariant.front.all_are c.look.ensures.front;
   after = g.met.R.Reader.goes_on c.args.reader.now c.steps.reader c.look.new.reader c.steps.invariant.after c.look.ensures.after;
   heard = g.met.W.Watch.goes_on c.args.watch.now c.steps.watch c.tell.new.self c.steps.invariant.heard c.tell.ensures;
 }
@@ -119,7 +119,7 @@ pub returns-in-Closed-clause-unwanted : goal.returns-in-Closed-clause-unwanted
 returns-in-Closed-clause-unwanted g c = λ e. absurd (let f : ⊥ = cc in f)
 
 pub returns-in-Closed-clause-stream : goal.returns-in-Closed-clause-stream
-returns-in-Closed-clause-stream g c = leaves-same c.steps.stream c.advance.new.stream _ c.args.leaf c.advance.ensures.same.1 (c.in_ok-course.ensures.stream _ _ c.steps.invariant.stream)
+returns-in-Closed-clause-stream g c = leaves-same c.steps.stream c.advance.new.stream _ _ c.args.leaf c.advance.ensures.same.1 (c.in_ok-course.ensures.stream _ _ _ c.steps.invariant.stream)
 
 pub returns-in-Unpaid-clause-same : goal.returns-in-Unpaid-clause-same
 returns-in-Unpaid-clause-same g c = (c.advance.ensures.same.0 ∙ c.steps.invariant.compiled, c.advance.ensures.same.1 ∙ c.steps.invariant.parts)
@@ -137,7 +137,7 @@ pub returns-in-Unpaid-clause-unwanted : goal.returns-in-Unpaid-clause-unwanted
 returns-in-Unpaid-clause-unwanted g c = λ e. absurd (let f : ⊥ = cc in f)
 
 pub returns-in-Unpaid-clause-stream : goal.returns-in-Unpaid-clause-stream
-returns-in-Unpaid-clause-stream g c = leaves-same c.steps.stream c.advance.new.stream _ c.args.leaf c.advance.ensures.same.1 (c.in_ok-course.ensures.stream _ _ c.steps.invariant.stream)
+returns-in-Unpaid-clause-stream g c = leaves-same c.steps.stream c.advance.new.stream _ _ c.args.leaf c.advance.ensures.same.1 (c.in_ok-course.ensures.stream _ _ _ c.steps.invariant.stream)
 
 pub returns-in_err-look-clause-same : goal.returns-in_err-look-clause-same
 returns-in_err-look-clause-same g c = (
@@ -147,7 +147,8 @@ returns-in_err-look-clause-same g c = (
 )
 
 pub returns-in_err-look-clause-front : goal.returns-in_err-look-clause-front
-returns-in_err-look-clause-front g c = front-same c.args.stream.now c.advance.new.stream _ _ (c.advance.ensures.same.0 ∙ c.steps.invariant.compiled) c.look.ensures.front
+returns-in_err-look-clause-front g c = front-then c.args.stream.now c.advance.new.stream _ _ _ _ _ (c.advance.ensures.same.0
+    ∙ c.steps.invariant.compiled) c.steps.invariant.front.all_are c.look.ensures.front
 
 pub returns-in_err-look-clause-after : goal.returns-in_err-look-clause-after
 returns-in_err-look-clause-after g c = g.met.R.Reader.goes_on c.args.reader.now c.steps.reader c.look.new.reader c.steps.invariant.after c.look.ensures.after
@@ -163,7 +164,8 @@ returns-in-Crowded-clause-same g c = (
 )
 
 pub returns-in-Crowded-clause-front : goal.returns-in-Crowded-clause-front
-returns-in-Crowded-clause-front g c = front-same c.args.stream.now c.advance.new.stream _ _ (c.advance.ensures.same.0 ∙ c.steps.invariant.compiled) c.look.ensures.front
+returns-in-Crowded-clause-front g c = front-then c.args.stream.now c.advance.new.stream _ _ _ _ _ (c.advance.ensures.same.0
+    ∙ c.steps.invariant.compiled) c.steps.invariant.front.all_are c.look.ensures.front
 
 pub returns-in-Crowded-clause-after : goal.returns-in-Crowded-clause-after
 returns-in-Crowded-clause-after g c = g.met.R.Reader.goes_on c.args.reader.now c.steps.reader c.look.new.reader c.steps.invariant.after c.look.ensures.after
@@ -179,7 +181,8 @@ returns-in-Unwanted-clause-same g c = (
 )
 
 pub returns-in-Unwanted-clause-front : goal.returns-in-Unwanted-clause-front
-returns-in-Unwanted-clause-front g c = front-same c.args.stream.now c.advance.new.stream _ _ (c.advance.ensures.same.0 ∙ c.steps.invariant.compiled) c.look.ensures.front
+returns-in-Unwanted-clause-front g c = front-then c.args.stream.now c.advance.new.stream _ _ _ _ _ (c.advance.ensures.same.0
+    ∙ c.steps.invariant.compiled) c.steps.invariant.front.all_are c.look.ensures.front
 
 pub returns-in-Unwanted-clause-after : goal.returns-in-Unwanted-clause-after
 returns-in-Unwanted-clause-after g c = g.met.R.Reader.goes_on c.args.reader.now c.steps.reader c.look.new.reader c.steps.invariant.after c.look.ensures.after

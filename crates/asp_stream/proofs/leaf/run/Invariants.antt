@@ -10,8 +10,8 @@ invariant-steps g l = record {
   along : IsAlong Enum l.initial.stream.ledger l.stream.ledger l.initial.search l.search l.fuel;
   compiled : l.stream.compiled ≡ l.initial.stream.compiled;
   parts : l.stream.parts ≡ l.initial.stream.parts;
-  stream : IsStreamOf l.stream (g.R.Reader.heard l.reader) (l.leaf ∷ leaves_of l.stream.parts.items);
-  front : IsFrontOf l.initial.stream.compiled.now (g.R.Reader.program l.reader) (g.R.Reader.heard l.reader);
+  stream : IsStreamOf l.stream (g.R.Reader.all l.reader) (g.R.Reader.heard l.reader) (l.leaf ∷ leaves_of l.stream.parts.items);
+  front : IsFrontOf l.initial.stream.compiled.now (g.R.Reader.all l.initial.reader) (g.R.Reader.program l.reader) (g.R.Reader.all l.reader) (g.R.Reader.heard l.reader);
   after : g.R.Reader.IsAfter l.initial.reader l.reader;
   heard : g.W.Watch.IsAfter l.initial.watch l.watch;
 }

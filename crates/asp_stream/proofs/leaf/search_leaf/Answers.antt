@@ -13,7 +13,7 @@ use Rattle.asp_stream.proofs.leaf.search_leaf.Goals as goal
 
 -- ---- the path is entered
 pub returns-in_err-cube-clause-front : goal.returns-in_err-cube-clause-front
-returns-in_err-cube-clause-front g c = stream-front c.args.stream.now _ _ _ c.lawful.ensures.task c.lawful.ensures.journal c.requires.program c.requires.stream
+returns-in_err-cube-clause-front g c = stream-front c.args.stream.now _ _ _ _ c.lawful.ensures.task c.lawful.ensures.journal c.requires.program c.requires.stream
 
 pub returns-in_err-cube-clause-after : goal.returns-in_err-cube-clause-after
 returns-in_err-cube-clause-after g c = g.met.R.Reader.begins c.args.reader.now
@@ -22,7 +22,7 @@ pub returns-in_err-cube-clause-heard : goal.returns-in_err-cube-clause-heard
 returns-in_err-cube-clause-heard g c = g.met.W.Watch.begins c.args.watch.now
 
 pub returns-in_err-enter-clause-front : goal.returns-in_err-enter-clause-front
-returns-in_err-enter-clause-front g c = stream-front c.args.stream.now _ _ _ c.lawful.ensures.task c.lawful.ensures.journal c.requires.program c.requires.stream
+returns-in_err-enter-clause-front g c = stream-front c.args.stream.now _ _ _ _ c.lawful.ensures.task c.lawful.ensures.journal c.requires.program c.requires.stream
 
 pub returns-in_err-enter-clause-after : goal.returns-in_err-enter-clause-after
 returns-in_err-enter-clause-after g c = g.met.R.Reader.begins c.args.reader.now
@@ -64,7 +64,7 @@ returns-in-Closed-clause-less g c = λ none.
 
 pub returns-in-Closed-clause-stream : goal.returns-in-Closed-clause-stream
 returns-in-Closed-clause-stream g c =
-    stream-closed c.run.new.stream c.close.new.self _ c.args.leaf c.in-Closed.nogood.lits _ c.in_ok-nogood.ensures.stream
+    stream-closed c.run.new.stream c.close.new.self _ _ c.args.leaf c.in-Closed.nogood.lits _ c.in_ok-nogood.ensures.stream
     (close-guard c.args.stream.now.ledger c.run.new.stream.ledger c.args.leaf c.enter.new.self c.run.new.search c.run.new.fuel c.as_slice.result.now c.requires.held
     (c.as_slice.ensures.value ∙ c.in_ok-cube.ensures.value) (cube-entered c.args.search.now c.enter.new.self c.as_slice.result.now c.in_ok-enter.ensures.ok) c.in-Closed.nogood
     (subst (λ (o : Left). EndsLeaf c.args.stream.now.ledger c.run.new.stream.ledger c.args.leaf c.enter.new.self c.run.new.search c.run.new.fuel o) c.in-Closed.is
@@ -104,7 +104,7 @@ returns-in-Crowded-clause-less g c = λ none.
     c.in-Crowded.lit ends.over.0 ends.over.1 c.in_ok-divide-in-Crowded.ensures.ledger) c.in_ok-divide-in-Crowded.ensures.parts
 
 pub returns-in-Crowded-clause-stream : goal.returns-in-Crowded-clause-stream
-returns-in-Crowded-clause-stream g c = c.in_ok-divide-in-Crowded.ensures.stream _ c.in_ok-nogood.ensures.stream
+returns-in-Crowded-clause-stream g c = c.in_ok-divide-in-Crowded.ensures.stream _ _ c.in_ok-nogood.ensures.stream
 
 -- ---- no unit is left, or no more is wanted
 pub release-requires : goal.release-requires
@@ -124,7 +124,7 @@ returns-in-Unpaid-clause-leaves g c =
 
 pub returns-in-Unpaid-clause-stream : goal.returns-in-Unpaid-clause-stream
 returns-in-Unpaid-clause-stream g c =
-    stream-opened c.run.new.stream c.release.new.self _ c.args.leaf _ c.in_ok-nogood.ensures.stream
+    stream-opened c.run.new.stream c.release.new.self _ _ c.args.leaf _ c.in_ok-nogood.ensures.stream
     (still-held c.args.stream.now.ledger c.run.new.stream.ledger c.args.leaf c.enter.new.self c.run.new.search c.run.new.fuel c.as_slice.result.now c.requires.held
     (c.as_slice.ensures.value ∙ c.in_ok-cube.ensures.value) (cube-entered c.args.search.now c.enter.new.self c.as_slice.result.now c.in_ok-enter.ensures.ok) (left.Unpaid
     c.in-Unpaid.conflict)
@@ -147,7 +147,7 @@ returns-clause-leaves g c =
 
 pub returns-clause-stream : goal.returns-clause-stream
 returns-clause-stream g c =
-    stream-opened c.run.new.stream c.release-in-Unwanted.new.self _ c.args.leaf _ c.in_ok-nogood.ensures.stream
+    stream-opened c.run.new.stream c.release-in-Unwanted.new.self _ _ c.args.leaf _ c.in_ok-nogood.ensures.stream
     (still-held c.args.stream.now.ledger c.run.new.stream.ledger c.args.leaf c.enter.new.self c.run.new.search c.run.new.fuel c.as_slice.result.now c.requires.held
     (c.as_slice.ensures.value ∙ c.in_ok-cube.ensures.value) (cube-entered c.args.search.now c.enter.new.self c.as_slice.result.now c.in_ok-enter.ensures.ok) left.Unwanted
     (subst (λ (o : Left). EndsLeaf c.args.stream.now.ledger c.run.new.stream.ledger c.args.leaf c.enter.new.self c.run.new.search c.run.new.fuel o) c.in-Unwanted.is

@@ -9,7 +9,7 @@ use Rattle.asp_crew.proofs.FinishLaws.{IsTaken, free-now, held-taken}
 use Rattle.asp_stream.specs.Leaves.{LeavesHeld, LeavesPart}
 use Rattle.asp_stream.specs.declared.told.End.TheVariants as end
 use Rattle.asp_stream.proofs.LeafLaws.{after-unwanted, held-left, left-self, only-same, taken-is}
-use Rattle.asp_stream.proofs.PartLaws.{front-same, less-taken, less-untaken, part-row, part-taken, program-same, same-count, stream-front, stream-opened, stream-taken, stream-untaken, untaken}
+use Rattle.asp_stream.proofs.PartLaws.{front-then, less-taken, less-untaken, part-row, part-taken, program-same, same-count, stream-front, stream-opened, stream-taken, stream-untaken, untaken}
 use Rattle.asp_stream.proofs.leaf.work_off.Goals as goal
 
 -- ---- the leaf is taken
@@ -17,7 +17,7 @@ pub take-requires : goal.take-requires
 take-requires g c = free-now (board c.args.stream.now.ledger) c.requires.alone
 
 pub returns-in_err-taken-clause-front : goal.returns-in_err-taken-clause-front
-returns-in_err-taken-clause-front g c = stream-front c.args.stream.now _ _ _ c.lawful.ensures.task c.lawful.ensures.journal c.requires.program c.requires.stream
+returns-in_err-taken-clause-front g c = stream-front c.args.stream.now _ _ _ _ c.lawful.ensures.task c.lawful.ensures.journal c.requires.program c.requires.stream
 
 pub returns-in_err-taken-clause-after : goal.returns-in_err-taken-clause-after
 returns-in_err-taken-clause-after g c = g.met.R.Reader.begins c.args.reader.now
@@ -38,11 +38,11 @@ returns-then-not-taken-clause-less g c = λ none. less-untaken c.args.stream.now
 
 pub returns-then-not-taken-clause-stream : goal.returns-then-not-taken-clause-stream
 returns-then-not-taken-clause-stream g c =
-    stream-untaken c.args.stream.now c.take.new.self _ c.args.part.leaf _ c.requires.stream c.requires.alone (sym c.in_ok-taken.ensures.open_leaf ∙ c.if-not-taken.true)
+    stream-untaken c.args.stream.now c.take.new.self _ _ c.args.part.leaf _ c.requires.stream c.requires.alone (sym c.in_ok-taken.ensures.open_leaf ∙ c.if-not-taken.true)
     (untaken c.args.stream.now.ledger c.take.new.self c.args.part.leaf _ c.in_ok-taken.ensures.journal c.if-not-taken.true)
 
 pub returns-then-not-taken-clause-front : goal.returns-then-not-taken-clause-front
-returns-then-not-taken-clause-front g c = stream-front c.args.stream.now _ _ _ c.lawful.ensures.task c.lawful.ensures.journal c.requires.program c.requires.stream
+returns-then-not-taken-clause-front g c = stream-front c.args.stream.now _ _ _ _ c.lawful.ensures.task c.lawful.ensures.journal c.requires.program c.requires.stream
 
 pub returns-then-not-taken-clause-after : goal.returns-then-not-taken-clause-after
 returns-then-not-taken-clause-after g c = g.met.R.Reader.begins c.args.reader.now
@@ -53,12 +53,12 @@ returns-then-not-taken-clause-heard g c = g.met.W.Watch.begins c.args.watch.now
 -- ---- what is told before it is searched
 pub tell-requires : goal.tell-requires
 tell-requires g c = record {
-  stream = stream-taken c.args.stream.now c.take.new.self _ c.args.part.leaf _ c.requires.stream c.requires.alone (sym c.in_ok-taken.ensures.open_leaf ∙ c.if-not-taken.false)
+  stream = stream-taken c.args.stream.now c.take.new.self _ _ c.args.part.leaf _ c.requires.stream c.requires.alone (sym c.in_ok-taken.ensures.open_leaf ∙ c.if-not-taken.false)
       (c.in_ok-taken.ensures.journal ∙ ap (λ r. with_events c.args.stream.now.ledger (taken_this 0 c.args.part.leaf r)) c.if-not-taken.false);
   program = c.requires.program;
-  low = (part-taken c.args.stream.now c.take.new.self _ c.args.part _ c.requires.stream c.requires.alone (sym c.in_ok-taken.ensures.open_leaf ∙ c.if-not-taken.false)
+  low = (part-taken c.args.stream.now c.take.new.self _ _ c.args.part _ c.requires.stream c.requires.alone (sym c.in_ok-taken.ensures.open_leaf ∙ c.if-not-taken.false)
       (c.in_ok-taken.ensures.journal ∙ ap (λ r. with_events c.args.stream.now.ledger (taken_this 0 c.args.part.leaf r)) c.if-not-taken.false) c.requires.part).low;
-  row = part-row c.args.stream.now _ _ (board c.args.stream.now.ledger) c.args.part c.requires.stream refl c.requires.part;
+  row = part-row c.args.stream.now _ _ _ (board c.args.stream.now.ledger) c.args.part c.requires.stream refl c.requires.part;
 }
 
 -- ---- no more is wanted
@@ -85,7 +85,7 @@ returns-then-not-wanted-clause-leaves g c =
 
 pub returns-then-not-wanted-clause-stream : goal.returns-then-not-wanted-clause-stream
 returns-then-not-wanted-clause-stream g c =
-    stream-opened c.tell.new.stream c.release.new.self _ c.args.part.leaf _ c.in_ok-wanted.ensures.stream
+    stream-opened c.tell.new.stream c.release.new.self _ _ c.args.part.leaf _ c.in_ok-wanted.ensures.stream
     (ap (λ (z : Booked). status_of (board z).nodes c.args.part.leaf) c.tell.ensures.keeps.ledger ∙ held-taken Enum c.args.stream.now.ledger c.take.new.self c.args.part.leaf
     c.args.search.now c.args.fuel.now
     (taken-is c.args.stream.now.ledger c.take.new.self c.args.part.leaf c.args.search.now c.args.fuel.now c.requires.ready c.requires.alone (sym
@@ -140,7 +140,7 @@ returns-clause-less g c =
     c.tell.ensures.keeps.ledger (same-count c.args.stream.now c.tell.new.stream c.tell.ensures.keeps.parts) (less none)) c.search_leaf.ensures.less
 
 pub returns-clause-front : goal.returns-clause-front
-returns-clause-front g c = front-same c.args.stream.now c.tell.new.stream _ _ c.tell.ensures.keeps.compiled c.search_leaf.ensures.front
+returns-clause-front g c = front-then c.args.stream.now c.tell.new.stream _ _ _ _ _ c.tell.ensures.keeps.compiled c.tell.ensures.front.all_are c.search_leaf.ensures.front
 
 pub returns-clause-after : goal.returns-clause-after
 returns-clause-after g c = g.met.R.Reader.goes_on c.args.reader.now c.tell.new.reader c.search_leaf.new.reader c.tell.ensures.after c.search_leaf.ensures.after

@@ -7,8 +7,8 @@ abbrev pub invariant-parts : goal.invariant-parts
 invariant-parts g l = record {
   left : LeavesPart l.initial.stream.ledger l.stream.ledger l.search l.fuel None;
   compiled : l.stream.compiled ≡ l.initial.stream.compiled;
-  stream : IsStreamOf l.stream (g.R.Reader.heard l.reader) (leaves_of l.stream.parts.items);
-  front : IsFrontOf l.initial.stream.compiled.now (g.R.Reader.program l.reader) (g.R.Reader.heard l.reader);
+  stream : IsStreamOf l.stream (g.R.Reader.all l.reader) (g.R.Reader.heard l.reader) (leaves_of l.stream.parts.items);
+  front : IsFrontOf l.initial.stream.compiled.now (g.R.Reader.all l.initial.reader) (g.R.Reader.program l.reader) (g.R.Reader.all l.reader) (g.R.Reader.heard l.reader);
   after : g.R.Reader.IsAfter l.initial.reader l.reader;
   heard : g.W.Watch.IsAfter l.initial.watch l.watch;
 }

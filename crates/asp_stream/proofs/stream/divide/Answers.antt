@@ -51,7 +51,7 @@ returns-clause-parts g c =
     halves-more c.in-Some.leaves c.in_ok-first.first c.in_ok-second.second c.args.stream.now.parts.items c.push_halves.new.stream.parts.items c.in_ok-push_halves-in-Some.ensures.parts
 
 pub returns-clause-stream : goal.returns-clause-stream
-returns-clause-stream g c = λ heard is.
+returns-clause-stream g c = λ all heard is.
     let s = c.args.stream.now in
     let v = s.ledger in
     let parts = c.push_halves.new.stream.parts.items in
@@ -62,9 +62,9 @@ returns-clause-stream g c = λ heard is.
     c.in_ok-release-in-Some.ensures.ok in
     let second =
     subst (λ (more : List Literal). IsSure c.args.search.now more c.in_ok-second.second.set) (c.as_slice.ensures ∙ ap (λ (l : Literal). l ∷ []) c.complement.ensures) c.in_ok-second.ensures.low in
-    subst (λ (t : Stream). IsStream t.compiled.now t.ledger t.heard heard t.backlog t.parts.items (leaves_of t.parts.items)) (sym c.push_halves.ensures.same)
-    (subst (λ (w : Booked). IsStream s.compiled.now w s.heard heard s.backlog parts (leaves_of parts)) (sym now)
-    (stream-divided s.compiled.now v c.args.leaf c.args.lit c.in_ok-first.first c.in_ok-second.second heard s.backlog s.parts.items parts is
+    subst (λ (t : Stream). IsStream t.compiled.now t.ledger t.heard all heard t.backlog t.parts.items (leaves_of t.parts.items)) (sym c.push_halves.ensures.same)
+    (subst (λ (w : Booked). IsStream s.compiled.now w s.heard all heard s.backlog parts (leaves_of parts)) (sym now)
+    (stream-divided s.compiled.now v c.args.leaf c.args.lit c.in_ok-first.first c.in_ok-second.second all heard s.backlog s.parts.items parts is
     (c.requires.held, c.requires.room, subst (λ (t : Task). IsVar (var_count t.program) c.args.lit.var) (sym (board-task v)) c.requires.open.0, c.requires.open.1)
     (sure-low v c.args.search.now c.args.leaf c.lawful.ensures.task c.requires.knows c.in_ok-first.first.set c.in_ok-first.ensures.row.among.rising c.in_ok-first.ensures.low)
     (sure-second v c.args.search.now c.args.leaf c.lawful.ensures.task c.requires.knows c.args.lit c.in_ok-second.second.set c.in_ok-second.ensures.row.among.rising second)

@@ -11,8 +11,9 @@ use Rattle.asp_stream.proofs.stream.look.Goals as goal
 pub returns-then-not-is_due-clause-front : goal.returns-then-not-is_due-clause-front
 returns-then-not-is_due-clause-front g c =
     let s = c.args.stream.now in
-    front-of s.compiled.now (g.R.Reader.program c.args.reader.now) s.ledger (g.R.Reader.heard c.args.reader.now) s.backlog s.parts.items (c.args.leaf ∷ leaves_of s.parts.items)
-    c.lawful.ensures.task c.lawful.ensures.journal c.requires.program c.requires.stream
+    front-of s.compiled.now (g.R.Reader.program c.args.reader.now) s.ledger (g.R.Reader.all c.args.reader.now) (g.R.Reader.all c.args.reader.now)
+    (g.R.Reader.heard c.args.reader.now) s.backlog s.parts.items (c.args.leaf ∷ leaves_of s.parts.items)
+    c.lawful.ensures.task c.lawful.ensures.journal c.requires.program refl c.requires.stream
 
 pub low-requires : goal.low-requires
 low-requires g c = c.requires.knows.program ∙ c.requires.stream.program
@@ -20,8 +21,9 @@ low-requires g c = c.requires.knows.program ∙ c.requires.stream.program
 pub returns-in_err-low-clause-front : goal.returns-in_err-low-clause-front
 returns-in_err-low-clause-front g c =
     let s = c.args.stream.now in
-    front-of s.compiled.now (g.R.Reader.program c.args.reader.now) s.ledger (g.R.Reader.heard c.args.reader.now) s.backlog s.parts.items (c.args.leaf ∷ leaves_of s.parts.items)
-    c.lawful.ensures.task c.lawful.ensures.journal c.requires.program c.requires.stream
+    front-of s.compiled.now (g.R.Reader.program c.args.reader.now) s.ledger (g.R.Reader.all c.args.reader.now) (g.R.Reader.all c.args.reader.now)
+    (g.R.Reader.heard c.args.reader.now) s.backlog s.parts.items (c.args.leaf ∷ leaves_of s.parts.items)
+    c.lawful.ensures.task c.lawful.ensures.journal c.requires.program refl c.requires.stream
 
 pub tell-requires-clause-low : goal.tell-requires-clause-low
 tell-requires-clause-low g c =

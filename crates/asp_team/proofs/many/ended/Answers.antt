@@ -35,25 +35,25 @@ reported-requires-clause-task g c =
     (c.in-Ok.ensures.finishes.task
     ∙ book-task c.args.compiled.now c.args.plan.ask c.args.plan.budget c.dismissed-book.result.0 (view c.args.lead.seat) (view c.args.lead.seat) c.dismissed-book.ensures.task refl c.requires.about)
 
-pub returns-in-Ok-reported-clause-report : goal.returns-in-Ok-reported-clause-report
-returns-in-Ok-reported-clause-report g c =
-    report-is c.args.compiled.now c.args.plan.ask c.args.plan.budget c.work_off.new.book.task c.in-Ok-reported.report
+pub returns-in_ok-report-in-Ok-clause-report : goal.returns-in_ok-report-in-Ok-clause-report
+returns-in_ok-report-in-Ok-clause-report g c =
+    report-is c.args.compiled.now c.args.plan.ask c.args.plan.budget c.work_off.new.book.task c.in_ok-report-in-Ok.report
     (c.in-Ok.ensures.finishes.task
     ∙ book-task c.args.compiled.now c.args.plan.ask c.args.plan.budget c.dismissed-book.result.0 (view c.args.lead.seat) (view c.args.lead.seat) c.dismissed-book.ensures.task refl c.requires.about)
-    c.in-Ok-reported.ensures.report
+    c.in_ok-report-in-Ok.ensures.report
 
-pub returns-in-Ok-reported-clause-shared : goal.returns-in-Ok-reported-clause-shared
-returns-in-Ok-reported-clause-shared g c = λ never begun left.
+pub returns-in_ok-report-in-Ok-clause-shared : goal.returns-in_ok-report-in-Ok-clause-shared
+returns-in_ok-report-in-Ok-clause-shared g c = λ never begun left.
     let b = c.dismissed-book.result.0 in let w = c.work_off.new.book in
     let e = book-task c.args.compiled.now c.args.plan.ask c.args.plan.budget b (view c.args.lead.seat) (view c.args.lead.seat) c.dismissed-book.ensures.task refl c.requires.about in
     let crew = c.dismissed-book.ensures.crew never begun left in
     let adds = c.in-Ok.ensures.finishes.adds in
-    report-shared c.args.compiled.now c.args.plan.ask c.args.plan.budget c.in-Ok-reported.report
-    (report-is c.args.compiled.now c.args.plan.ask c.args.plan.budget w.task c.in-Ok-reported.report (c.in-Ok.ensures.finishes.task ∙ e)
-    c.in-Ok-reported.ensures.report) c.in-Ok-reported.ensures.second
+    report-shared c.args.compiled.now c.args.plan.ask c.args.plan.budget c.in_ok-report-in-Ok.report
+    (report-is c.args.compiled.now c.args.plan.ask c.args.plan.budget w.task c.in_ok-report-in-Ok.report (c.in-Ok.ensures.finishes.task ∙ e)
+    c.in_ok-report-in-Ok.ensures.report) c.in_ok-report-in-Ok.ensures.second
     (view c.args.lead.seat).splits c.args.lead.short never begun crew.0 adds.more c.requires.some
     (subst (λ (t : Task). IsCrewGone t (view c.args.lead.seat).splits c.args.lead.short never begun crew.0) e crew.2)
-    (c.in-Ok-reported.ensures.journal ∙ adds.journal ∙ ap (λ (l : List Event). l ++ adds.more) crew.1) adds.main c.in-Ok-reported.ensures.short
+    (c.in_ok-report-in-Ok.ensures.journal ∙ adds.journal ∙ ap (λ (l : List Event). l ++ adds.more) crew.1) adds.main c.in_ok-report-in-Ok.ensures.short
 
 pub reported-requires-clause-of : goal.reported-requires-clause-of
 reported-requires-clause-of g c =

@@ -1,8 +1,8 @@
 use Rattle.asp_top.proofs.WriteLaws.{writes_exit, writes_flushed}
 use Rattle.asp_top.proofs.deliver.write_report.Goals as goal
 
-pub returns-in_err-write_text-clause-writes : goal.returns-in_err-write_text-clause-writes
-returns-in_err-write_text-clause-writes g c = writes_exit _ _ _ _ _ _ _ _ c.in_err-write_text.ensures c.from_residual.ensures.1
+pub returns-in_err-write_results-clause-writes : goal.returns-in_err-write_results-clause-writes
+returns-in_err-write_results-clause-writes g c = writes_exit _ _ _ _ _ _ _ _ c.in_err-write_results.ensures c.from_residual.ensures.1
 
 pub returns-clause-writes : goal.returns-clause-writes
-returns-clause-writes g c = writes_flushed _ _ _ _ _ _ _ _ _ c.in_ok-write_text.ensures c.flush.ensures.bytes c.flush.ensures.cause c.flush.ensures.quiet
+returns-clause-writes g c = writes_flushed _ _ _ _ _ _ _ _ _ c.in_ok-write_results.ensures c.flush.ensures.bytes c.flush.ensures.cause c.flush.ensures.quiet

@@ -9,7 +9,8 @@ pub returns-in_err-put_items : goal.returns-in_err-put_items
 returns-in_err-put_items g c =
     let items = flat_map item_text (told_items c.args.counts.now) in
     let best = best_text (option_copied c.args.best) in
-    puts_same _ _ _ _ _ (puts_fails _ _ _ _ _ items (best ++ end_of c.args.counts.now.query) (rw c.told_items-items.ensures at c.in_err-put_items.ensures) c.from_residual.ensures.1) (sym (append_assoc items best (end_of c.args.counts.now.query)))
+    puts_same _ _ _ _ _ (puts_fails _ _ _ _ _ items (best ++ end_of c.args.counts.now.query)
+    (rw c.told_items-items.ensures at c.in_err-put_items.ensures) c.from_residual.ensures.1) (sym (append_assoc items best (end_of c.args.counts.now.query)))
 
 pub returns-in_err-put_best : goal.returns-in_err-put_best
 returns-in_err-put_best g c =

@@ -10,7 +10,7 @@ reports_nothing p most h h' w w' o (inl m) = ap (λ (x : Outcome). x.report) m.0
 reports_nothing p most h h' w w' o (inr d) = d.2.none
 
 pub returns-in-None-clause-does : goal.returns-in-None-clause-does
-returns-in-None-clause-does g c = λ p is. does-solve c.args.options.now p _ _ _ _ _ c.in-None.is (c.solve_or_stream.ensures.solves p is)
+returns-in-None-clause-does g c = λ p is. does-solve c.args.options.now p _ _ _ _ _ c.in-None.is (c.solve_or_prove.ensures.solves p is)
 
 pub returns-in-Some-clause-does : goal.returns-in-Some-clause-does
 returns-in-Some-clause-does g c = λ p is. does-divide c.args.options.now p c.args.prepared.now c.in-Some.most _ _ _ _ _ c.in-Some.is is c.divide.ensures.divides

@@ -1,11 +1,11 @@
-use Rattle.asp_top.proofs.RunLaws.{nothing-closed, nothing-to-send, runs-ready}
+use Rattle.asp_top.proofs.RunLaws.{nothing-closed, nothing-to-send, runs-crew}
 use Rattle.asp_top.proofs.StreamLaws.{at-once}
 use Rattle.asp_top.proofs.TellLaws.{heard_nothing, heard_of}
 use Rattle.asp_top.proofs.runs.outcome_by_crew.Goals as goal
 
 pub returns-in-Ok-clause-runs : goal.returns-in-Ok-clause-runs
-returns-in-Ok-clause-runs g c = runs-ready c.args.options.now _ _ _ _ _ _ _ _ c.in-Ok.ensures.0 _ c.requires.whole c.in-Ok.ensures.1 c.in-Ok.ensures.2
-    (at-once c.args.options.now c.in-Ok.ensures.0 c.requires.at_once) (c.solve_by_crew-done.ensures.solves c.in-Ok.ensures.0 c.in-Ok.ensures.3)
+returns-in-Ok-clause-runs g c = runs-crew c.args.options.now _ _ _ _ _ _ _ _ c.in-Ok.ensures.0 _ c.requires.whole c.in-Ok.ensures.1 c.in-Ok.ensures.2
+    (at-once c.args.options.now c.in-Ok.ensures.0 c.requires.at_once) (c.announced_by_crew-done.ensures.solves c.in-Ok.ensures.0 c.in-Ok.ensures.3)
 
 pub returns-in-Err-clause-runs : goal.returns-in-Err-clause-runs
 returns-in-Err-clause-runs g c = rw c.failed.ensures (c.in-Err.ensures _ _)
@@ -20,5 +20,5 @@ pub returns-in-Err-clause-closed : goal.returns-in-Err-clause-closed
 returns-in-Err-clause-closed g c = nothing-closed c.args.options.now _ _ _ _ _ c.failed.result _ c.in-Err.ensures c.failed.ensures
 
 pub returns-in-Ok-clause-heard : goal.returns-in-Ok-clause-heard
-returns-in-Ok-clause-heard g c = heard_of c.args.options.now _ _ _ _ _ _ _ _ c.in-Ok.ensures.0 c.in-Ok.prepared _ _ _ _ c.in-Ok.ensures.1 c.in-Ok.ensures.3
-    (rw c.weigh.ensures at c.solve_by_crew-done.ensures.heard).4
+returns-in-Ok-clause-heard g c = heard_of c.args.options.now _ _ _ _ _ _ _ _ c.in-Ok.ensures.0 c.in-Ok.prepared _ _ _ _ c.in-Ok.ensures.1 c.in-Ok.ensures.2 c.in-Ok.ensures.3
+    (rw c.weigh.ensures at c.announced_by_crew-done.ensures.told)

@@ -5,7 +5,6 @@ use Rattle.asp_model.specs.declared.results.Ask.{Ask}
 use Rattle.asp_model.specs.Models.{atoms_of}
 use Rattle.asp_vars.specs.Numbering.{bodies_of}
 use Rattle.asp_counts.specs.Telling.{AreNumbered}
-use Rattle.asp_crew_laws.specs.Proofs.{HasProof}
 use Rattle.asp_crew_laws.specs.Reports.{IsReport}
 use Rattle.asp_top.proofs.RunLaws.{paid-of}
 use Rattle.asp_top.proofs.DoneLaws.{counted-by, from-ok, solves-by}
@@ -19,8 +18,7 @@ returns-in-Ok-clause-solves g c = λ p is.
     let q = c.program-program.result.now in
     let report = from-ok (IsReport x.compiled c.ask_of-ask.result given.budget) _ c.in-Ok.report c.in-Ok.is c.solved_by_crew-solved.ensures.report in
     solves-by given p x q c.in-Ok.report c.layout_of.result _ _ _ _ _ is c.program-program.ensures.program c.layout_of.ensures
-    (subst (λ (ask : Ask). IsReport x.compiled ask given.budget c.in-Ok.report) c.ask_of-ask.ensures report)
-    (from-ok (HasProof given.proof) _ c.in-Ok.report c.in-Ok.is c.solved_by_crew-solved.ensures.proof) c.conclude.ensures.concludes
+    (subst (λ (ask : Ask). IsReport x.compiled ask given.budget c.in-Ok.report) c.ask_of-ask.ensures report) c.conclude.ensures.concludes
 
 pub returns-in-Ok-clause-counted : goal.returns-in-Ok-clause-counted
 returns-in-Ok-clause-counted g c = counted-by _ c.layout_of.result c.program-program.result.now c.args.prepared.now.aside c.in-Ok.report _ _ _ _ _ _ c.conclude.ensures.concludes (record {

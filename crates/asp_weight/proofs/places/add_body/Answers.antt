@@ -16,4 +16,5 @@ push-requires c =
     )
 
 pub returns : goal.returns
-returns c = on_ok_weaker c.push.result (λ e. own_more c.args.body c.args.shape.now.var c.add_row.new.places c.push.new.self (put_row c.args.body (bare c.args.places.now) c.args.row.now) 4294967295 e c.in_ok-add_row.ensures) c.push.ensures
+returns c = on_ok_weaker c.push.result (λ e. own_more c.args.body c.args.shape.now.var c.add_row.new.places c.push.new.self
+    (put_row c.args.body (bare c.args.places.now) c.args.row.now) 4294967295 e c.in_ok-add_row.ensures) c.push.ensures

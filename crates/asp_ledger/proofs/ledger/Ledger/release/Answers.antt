@@ -6,5 +6,5 @@ use Rattle.asp_ledger.proofs.ledger.Ledger.release.Goals as goal
 pub invariant_of-self-2 : goal.invariant_of-self-2
 invariant_of-self-2 c =
     let i : Inside = c.self.inside in
-    ledger-released i (record i { tree = c.release.new.self; journal = c.push.new.self }) c.args.self.now c.self.view_is c.self.invariant refl refl c.args.leaf
+    ledger-released i (record i { tree = c.release.new.self; journal = c.push.new.self }) c.args.self.now c.self.view_is c.self.invariant refl refl refl c.args.leaf
     c.requires c.release.ensures _ c.in_ok-push.ensures.items c.of.ensures

@@ -14,8 +14,8 @@ add-requires c =
     (answer-among c.args.self.now.ledger.task c.args.set.now c.requires.answer)
 
 pub returns-clause-told : goal.returns-clause-told
-returns-clause-told c = λ heard leaves is.
-    subst (λ (q : Pending). IsStream c.args.self.now.compiled.now c.deliver.new.self c.args.self.now.heard heard q c.args.self.now.parts.items leaves)
+returns-clause-told c = λ all heard leaves is.
+    subst (λ (q : Pending). IsStream c.args.self.now.compiled.now c.deliver.new.self c.args.self.now.heard all heard q c.args.self.now.parts.items leaves)
     (sym c.in_ok-add.ensures.ok)
-    (stream-delivered c.args.self.now.compiled.now c.args.self.now.ledger c.deliver.new.self c.args.set.now heard c.args.self.now.backlog c.args.self.now.parts.items leaves
-    c.lawful.ensures.task c.lawful.ensures.journal (deliver-guard c.args.self.now.ledger c.args.set.now c.lawful.ensures.task c.requires.answer) c.in_ok-deliver.ensures.ok is)
+    (stream-delivered c.args.self.now.compiled.now c.args.self.now.ledger c.deliver.new.self c.args.set.now all heard c.args.self.now.backlog c.args.self.now.parts.items leaves
+    c.lawful.ensures.task c.lawful.ensures.journal (deliver-guard c.args.self.now.ledger c.args.set.now c.lawful.ensures.task c.requires.answer c.requires.listed) c.in_ok-deliver.ensures.ok is)

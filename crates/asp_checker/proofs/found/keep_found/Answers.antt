@@ -1,0 +1,15 @@
+use Rattle.std.proofs.Common.{[], ◌∷◌, ◌++◌, sym, ap, ◌∙◌}
+use Rattle.asp_checker.specs.Lines.{avoided}
+use Rattle.asp_checker.proofs.TightLaws.{root_as, root_found}
+use Rattle.asp_checker.proofs.found.keep_found.Goals as goal
+
+pub learn_bound-requires-clause-root : goal.learn_bound-requires-clause-root
+learn_bound-requires-clause-root c =
+    let p = c.args.compiled.now in
+    let h = c.args.known.now in
+    let ready = c.requires.ready in
+    let o = c.args.sought in
+    root_as p (avoided o (h.found.items ++ c.args.set ∷ [])) c.avoided-listed.result.now h.rows.kept.items c.as_slice-rows.result.now c.tighten.new.bound h.values
+    (sym (c.avoided-listed.ensures ∙ ap (avoided o) (c.as_slice.ensures.value ∙ c.in_ok-push.ensures.items))) (sym c.as_slice-rows.ensures.value)
+    (root_found p o h.found.items c.args.set h.rows.kept.items h.bound c.tighten.new.bound h.values c.requires.may ready.bound
+    (rw c.as_slice-before.ensures.value at c.in_ok-tighten.ensures.cost) ready.root)

@@ -1,0 +1,10 @@
+use Rattle.std.proofs.Common.{codes}
+use Rattle.asp_proof.specs.Texts.{atoms_fields}
+use Rattle.asp_buffer.proofs.OutLaws.{puts_then, puts_fails}
+use Rattle.asp_proof.proofs.write.put_found.Goals as goal
+
+pub returns-in_err-put : goal.returns-in_err-put
+returns-in_err-put g c = puts_fails _ _ _ _ _ (codes "f") (atoms_fields c.args.change.now) c.in_err-put.ensures c.from_residual.ensures.1
+
+pub returns : goal.returns
+returns g c = puts_then _ _ _ _ _ (codes "f") (atoms_fields c.args.change.now) c.in_ok-put.ensures (rw c.as_slice.ensures.value at c.put_atoms.ensures)

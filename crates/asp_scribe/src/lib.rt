@@ -1,0 +1,5 @@
+//! The text of a run's proof, written while the run goes on.
+#![tactic(auto)]
+
+pub mod ending;
+pub mod scribe;
