@@ -12,4 +12,4 @@ mod write;
 
 pub use error::ProofError;
 pub use reader::LineReader;
-pub use write::{put_head, put_lines, put_list, write_proof};
+pub use write::{put_field, put_head, put_lines, put_list, write_proof};

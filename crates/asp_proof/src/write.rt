@@ -16,8 +16,8 @@ use asp_model::interp::Interp;
 use asp_model::program::Atom;
 use itoa::Integer;
 
-// Puts out a blank and the number.
-fn put_field<K: Sink, I: Integer>(
+/// Puts out a field: a blank and the number.
+pub fn put_field<K: Sink, I: Integer>(
     sink: &mut K,
     waiting: &mut Waiting,
     number: I,

@@ -16,7 +16,7 @@ pub struct Bit {
 }
 
 /// The bit of the atom at a place, of so many atoms.
-pub(crate) fn bit_at(count: usize, place: usize) -> Bit
+pub fn bit_at(count: usize, place: usize) -> Bit
     requires { place < count }
     ensures { IsBitAt count place result }
 {

@@ -1,1 +1,2 @@
 pub mod ScribeLaws
+pub mod ListLaws

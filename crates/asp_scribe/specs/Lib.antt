@@ -1,2 +1,3 @@
 pub mod Proofs
 pub mod Scribes
+pub mod Lists

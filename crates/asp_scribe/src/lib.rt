@@ -2,4 +2,5 @@
 #![tactic(auto)]
 
 pub mod ending;
+mod list;
 pub mod scribe;

@@ -4,18 +4,23 @@
 //! failed. It hears of each step, and puts out then what lines have come. So they needn't be kept.
 ghost use Rattle.std.specs.Prelude.{◌≡◌, [], OnOk, true};
 ghost use Rattle.asp_buffer.specs.Out.{Out, out};
+ghost use Rattle.asp_model.specs.Texts.{recorded};
 ghost use Rattle.asp_proof.specs.declared.proof.Sought.{Sought};
 ghost use Rattle.asp_proof.specs.Texts.{line_text, lines, list_text};
+ghost use Rattle.asp_scribe.specs.Proofs.{is_part};
 ghost use Rattle.asp_scribe.specs.Scribes.{Goes, IsBegun, IsEnded};
 
+use crate::ending::is_part;
+use crate::list::put_recorded;
 use asp_buffer::{Waiting, flush};
 use asp_counts::counts::Counts;
 use asp_counts::watch::{Best, Watch};
 use asp_io::{Failed, Sink};
-use asp_model::interp::Interp;
+use asp_model::results::Results;
 use asp_proof::proof::{Line, Sought};
-use asp_proof::{put_head, put_lines, put_list};
+use asp_proof::{put_head, put_lines};
 use asp_recorder::tape::Tape;
+use asp_rows::sets::Sets;
 
 /// Who writes the lines of a proof, as they come, to a sink.
 #[derive(Drop)]
@@ -53,18 +58,17 @@ fn put_end<K: Sink>(
     sink: &mut K,
     waiting: &mut Waiting,
     state: Result<(), Failed>,
-    answers: &[Interp],
-    part: bool,
+    results: &Results<Sets>,
 ) -> Result<(), Failed>
     ensures goes { Goes state (out (K.held sink.old) (K.faults sink.old) waiting.old)
-        (out (K.held sink.new) (K.faults sink.new) waiting.new) result (list_text answers.now part) }
+        (out (K.held sink.new) (K.faults sink.new) waiting.new) result (list_text (recorded results.now.mode results.now) (is_part results.now.end)) }
     ensures empty { OnOk result (waiting.new ≡ []) }
     ensures sent { OnOk result (K.is_sent sink.new ≡ true) }
 {
     match state {
         Err(Failed) => Err(Failed),
         Ok(()) => {
-            put_list(sink, waiting, answers, part)?;
+            put_recorded(sink, waiting, results, is_part(results.end))?;
             flush(sink, waiting)?;
             sink.flush()
         }
@@ -111,16 +115,17 @@ impl<'a, K: Sink, T: Tape, W: Watch> Scribe<'a, K, T, W> {
         }
     }
 
-    /// Puts out the lines that are left, the answers and the last line, and flushes the sink.
-    pub fn end(&mut self, answers: &[Interp], part: bool) -> Result<(), Failed>
+    /// Puts out the lines that are left, the answers that the results record and the last line, and flushes the sink. The
+    /// answers are put out from their rows, and it takes no memory.
+    pub fn end(&mut self, results: &Results<Sets>) -> Result<(), Failed>
         ensures same { (self.new.sink.ghost_name ≡ self.old.sink.ghost_name) × (self.new.waiting.ghost_name ≡ self.old.waiting.ghost_name)
             × (self.new.watch.ghost_name ≡ self.old.watch.ghost_name) × (self.new.watch.now ≡ self.old.watch.now) }
         ensures ended { (s : Sought) (start : Out) → IsBegun s start (out (K.held self.old.sink.now) (K.faults self.old.sink.now) self.old.waiting.now) self.old.state
-            → IsEnded s start (out (K.held self.new.sink.now) (K.faults self.new.sink.now) self.new.waiting.now) answers.now part result }
+            → IsEnded s start (out (K.held self.new.sink.now) (K.faults self.new.sink.now) self.new.waiting.now) (recorded results.now.mode results.now) (is_part results.now.end) result }
         ensures sent { OnOk result (K.is_sent self.new.sink.now ≡ true) }
     {
         self.write_on();
-        put_end(self.sink, self.waiting, self.state, answers, part)
+        put_end(self.sink, self.waiting, self.state, results)
     }
 }
 

@@ -8,6 +8,8 @@ use Rattle.asp_buffer.specs.Out.{Out, Passes, Puts}
 use Rattle.asp_buffer.proofs.OutLaws.{front-more, printed}
 use Rattle.asp_model.specs.declared.program.Program.{Program}
 use Rattle.asp_model.specs.declared.results.Ask.{Ask}
+use Rattle.asp_model.specs.declared.results.Mode.{Mode}
+use Rattle.asp_model.specs.declared.results.Mode.TheVariants.{Consequences, Enum, Opt}
 use Rattle.asp_model.specs.Sets.{Atoms}
 use Rattle.asp_model.specs.Texts.{recorded}
 use Rattle.asp_cli.specs.declared.Options.{Options}
@@ -18,7 +20,7 @@ use Rattle.asp_prepare.specs.declared.prepared.Prepared.{Prepared}
 use Rattle.asp_prepare.specs.Meaning.{has_model}
 use Rattle.asp_prepare.specs.Naming.{ask_of, prepared_of, searched, set_aside}
 use Rattle.asp_prepare.specs.Told.{told_with}
-use Rattle.asp_prepare.proofs.ToldLaws.{same-ask}
+use Rattle.asp_prepare.proofs.ToldLaws.{same-ask, told-model}
 use Rattle.asp_proof.specs.declared.proof.Sought.{Sought}
 use Rattle.asp_proof.specs.Texts.{head_text, line_text, lines, text_of}
 use Rattle.asp_scribe.specs.Proofs.{is_part, sought_of}
@@ -89,15 +91,24 @@ end-cut s start now answers part result e closed status final none x failed is =
     by : {P : Type 0} → OnErr result P → P
     by {P = P} h = subst (λ (x : Result (Unit {0}) Failed). OnErr x P) failed h
 
+-- what is told lists the same answers
+told-listed : (A : Aside) (mode : Mode) (r : Report) → recorded mode (told_with A r).results ≡ recorded mode r.results
+told-listed A Enum r = refl
+told-listed A Opt r = refl
+told-listed A (Consequences w) r = refl
+
 -- the report was told, and the answers are its own
-pub proof-ends : (ask : Ask) (A : Aside) (r told : Report) (listed : List Atoms) (part : Bool) (status : Status) (h h' : Option (List ℕ)) (w w' : ℕ) (o : Outcome) →
-    listed ≡ recorded r.results.mode r.results → part ≡ is_part r.results.end → status ≡ status_for r.results.end (has_model r.results) → told ≡ told_with A r → o.report ≡ Some told
-    → WritesProof (sought_of ask) listed part status h h' w w' o.status → EndsProof ask A r h h' w w' o
-proof-ends ask A r told listed part status h h' w w' o answers partly final same reports x =
+pub proof-ends : (ask : Ask) (A : Aside) (r told : Report) (h h' : Option (List ℕ)) (w w' : ℕ) (o : Outcome) → told ≡ told_with A r → o.report ≡ Some told
+    → WritesProof (sought_of ask) (recorded told.results.mode told.results) (is_part told.results.end) (status_for told.results.end (has_model told.results)) h h' w w' o.status
+    → EndsProof ask A r h h' w w' o
+proof-ends ask A r told h h' w w' o same reports x =
     let y : WritesProof (sought_of ask) (recorded r.results.mode r.results) (is_part r.results.end) (status_for r.results.end (has_model r.results)) h h' w w' o.status =
-    subst (λ (l : List Atoms). WritesProof (sought_of ask) l (is_part r.results.end) (status_for r.results.end (has_model r.results)) h h' w w' o.status) answers
-    (subst (λ (b : Bool). WritesProof (sought_of ask) listed b (status_for r.results.end (has_model r.results)) h h' w w' o.status) partly
-    (subst (λ (s : Status). WritesProof (sought_of ask) listed part s h h' w w' o.status) final x)) in
+    subst (λ (b : Bool). WritesProof (sought_of ask) (recorded r.results.mode r.results) (is_part r.results.end) (status_for r.results.end b) h h' w w' o.status) (told-model A r)
+    (subst (λ (l : List Atoms). WritesProof (sought_of ask) l (is_part r.results.end) (status_for r.results.end (has_model (told_with A r).results)) h h' w w' o.status)
+    (told-listed A r.results.mode r)
+    (subst
+    (λ (t : Report). WritesProof (sought_of ask) (recorded t.results.mode t.results) (is_part t.results.end) (status_for t.results.end (has_model t.results)) h h' w w' o.status)
+    same x)) in
     inr (record { reports = reports ∙ ap Some same; entries = y.entries; wrote = y.wrote })
 
 -- ---- a whole run

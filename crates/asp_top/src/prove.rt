@@ -5,6 +5,7 @@ ghost use Rattle.asp_cli.specs.Found.{IsApart};
 ghost use Rattle.asp_cli.specs.Values.{IsCrew};
 ghost use Rattle.asp_model.specs.declared.program.Program.{Program};
 ghost use Rattle.asp_model.specs.declared.results.Ask.{Ask};
+ghost use Rattle.asp_prepare.specs.Meaning.{has_model};
 ghost use Rattle.asp_prepare.specs.Naming.{prepared_of};
 ghost use Rattle.asp_proof.specs.declared.proof.Sought.{Sought};
 ghost use Rattle.asp_model.specs.Texts.{recorded};
@@ -17,7 +18,7 @@ use crate::counts::Tally;
 use crate::deliver::failed;
 use crate::loops::loops;
 use crate::search::{plan_of, solve_by_crew};
-use crate::solve::status_by;
+use crate::solve::status_for;
 use crate::status::{Outcome, Status};
 use crate::stream::solve_or_stream;
 use asp_buffer::Waiting;
@@ -28,21 +29,20 @@ use asp_crew::alone::solve_alone;
 use asp_crew::report::Report;
 use asp_equal::reduce::Aside;
 use asp_io::{Failed, Sink};
-use asp_model::interp::Interp;
-use asp_model::results::End;
+use asp_model::results::Results;
 use asp_prepare::asked::ask_of;
 use asp_prepare::prepared::Prepared;
-use asp_prepare::told::{has_model, told_with};
+use asp_prepare::told::told_with;
 use asp_recorder::recorder::Recorder;
 use asp_recorder::scroll::Scroll;
 use asp_recorder::tape::{CrewTape, Tape};
-use asp_scribe::ending::{is_part, recorded, sought_of};
+use asp_rows::sets::Sets;
+use asp_scribe::ending::sought_of;
 use asp_scribe::scribe::Scribe;
 use asp_team::gate::Gate;
 use asp_team::many;
 use asp_team::many::{Deeds, Record};
 use std::alloc::{AllocError, Global};
-use std::mem;
 use std::sync::Wait;
 use std::thread::Threads;
 
@@ -59,57 +59,27 @@ fn cut_short<K: Sink, T: Tape, W: Watch>(scribe: &Scribe<'_, K, T, W>) -> Outcom
     }
 }
 
-// Writes the answers of a run that ended so, and the last line.
+// Writes the answers of these results, and the last line.
 fn write_end<K: Sink, T: Tape, W: Watch>(
     scribe: &mut Scribe<'_, K, T, W>,
-    answers: &[Interp],
-    end: End,
-    model: bool,
+    results: &Results<Sets>,
 ) -> Status
     ensures same { (scribe.new.sink.ghost_name ≡ scribe.old.sink.ghost_name) × (scribe.new.waiting.ghost_name ≡ scribe.old.waiting.ghost_name)
         × (scribe.new.watch.ghost_name ≡ scribe.old.watch.ghost_name) × (scribe.new.watch.now ≡ scribe.old.watch.now) }
     ensures wrote { (s : Sought) (start : Out) → start.waiting ≡ [] → IsBegun s start (out (K.held scribe.old.sink.now) (K.faults scribe.old.sink.now) scribe.old.waiting.now) scribe.old.state
-        → WritesProof s answers.now (is_part end) (status_for end model) start.held (K.held scribe.new.sink.now) start.faults (K.faults scribe.new.sink.now) result }
+        → WritesProof s (recorded results.now.mode results.now) (is_part results.now.end)
+        (status_for results.now.end (has_model results.now)) start.held (K.held scribe.new.sink.now) start.faults (K.faults scribe.new.sink.now) result }
     ensures sent { IsSentOn result (K.is_sent scribe.new.sink.now) }
     ensures closed { TellsClosed result (K.is_closed scribe.new.sink.now) }
 {
-    match scribe.end(answers, is_part(end)) {
-        Ok(()) => status_by(end, model),
+    match scribe.end(results) {
+        Ok(()) => status_for(results),
         Err(Failed) => Status::WriteFault(scribe.sink.is_closed()),
     }
 }
 
-// Writes the end of the text, which lists these answers of the report, and tells the report with what was set aside.
-fn finish<K: Sink, T: Tape, W: Watch>(
-    alloc: Global,
-    scribe: &mut Scribe<'_, K, T, W>,
-    aside: &Aside,
-    report: Report,
-    answers: &[Interp],
-) -> Outcome
-    requires { answers.now ≡ recorded report.results.mode report.results }
-    ensures same { (scribe.new.sink.ghost_name ≡ scribe.old.sink.ghost_name) × (scribe.new.waiting.ghost_name ≡ scribe.old.waiting.ghost_name)
-        × (scribe.new.watch.ghost_name ≡ scribe.old.watch.ghost_name) × (scribe.new.watch.now ≡ scribe.old.watch.now) }
-    ensures ends { (ask : Ask) (start : Out) → start.waiting ≡ [] → IsBegun (sought_of ask) start (out (K.held scribe.old.sink.now) (K.faults scribe.old.sink.now) scribe.old.waiting.now) scribe.old.state
-        → EndsProof ask aside.now report start.held (K.held scribe.new.sink.now) start.faults (K.faults scribe.new.sink.now) result }
-    ensures sent { IsSentOn result.status (K.is_sent scribe.new.sink.now) }
-    ensures closed { TellsClosed result.status (K.is_closed scribe.new.sink.now) }
-{
-    let end = report.results.end;
-    let model = has_model(&report.results);
-    match told_with(alloc, aside, report) {
-        Ok(report) => {
-            let status = write_end(scribe, answers, end, model);
-            Outcome {
-                status,
-                report: Some(report),
-            }
-        }
-        Err(_) => cut_short(scribe),
-    }
-}
-
-// Writes the end of the text of this report's proof.
+// Tells the report with what was set aside, which changes no answer that is listed, and writes the end of the text of
+// its proof.
 fn deliver<K: Sink, T: Tape, W: Watch>(
     alloc: Global,
     scribe: &mut Scribe<'_, K, T, W>,
@@ -123,12 +93,15 @@ fn deliver<K: Sink, T: Tape, W: Watch>(
     ensures sent { IsSentOn result.status (K.is_sent scribe.new.sink.now) }
     ensures closed { TellsClosed result.status (K.is_closed scribe.new.sink.now) }
 {
-    match recorded(alloc, &report.results) {
-        Ok(answers) => finish(alloc, scribe, aside, report, answers.as_slice()),
-        Err(_) => {
-            mem::drop(report);
-            cut_short(scribe)
+    match told_with(alloc, aside, report) {
+        Ok(report) => {
+            let status = write_end(scribe, &report.results);
+            Outcome {
+                status,
+                report: Some(report),
+            }
         }
+        Err(_) => cut_short(scribe),
     }
 }
 
