@@ -21,6 +21,8 @@ pub struct Uses {
     // the nogoods that propagators gave in the step, and how many they had given before
     given: Vec<NogoodId>,
     given_before: usize,
+    // the nogood that was imported last
+    imported: Option<NogoodId>,
 }
 
 impl Uses {
@@ -32,6 +34,7 @@ impl Uses {
             numbers: Vec::new(alloc),
             given: Vec::new(alloc),
             given_before: 0,
+            imported: None,
         }
     }
 
@@ -110,6 +113,11 @@ impl Uses {
         }
     }
 
+    /// Notes the number of a nogood that is imported.
+    pub(crate) fn note_imported(&mut self, id: NogoodId) {
+        self.imported = Some(id);
+    }
+
     /// The nogoods by which the step found something.
     pub(crate) fn numbers(&self) -> &[NogoodId] {
         self.numbers.as_slice()
@@ -118,5 +126,10 @@ impl Uses {
     /// The nogoods that propagators gave in the step.
     pub(crate) fn given(&self) -> &[NogoodId] {
         self.given.as_slice()
+    }
+
+    /// The nogood that was imported last.
+    pub(crate) fn imported(&self) -> Option<NogoodId> {
+        self.imported
     }
 }

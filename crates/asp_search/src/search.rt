@@ -398,7 +398,8 @@ impl<'a, P: Propagator> Search<'a, P> {
     {
         let _mode = self.mode;
         let copy = nogood.copy()?;
-        self.state.keep(copy, Kind::Learnt, u32::MAX)?;
+        let id = self.state.keep(copy, Kind::Learnt, u32::MAX)?;
+        self.uses.note_imported(id);
         Ok(())
     }
 
@@ -464,6 +465,11 @@ impl<'a, P: Propagator> Search<'a, P> {
     /// The numbers of the nogoods that propagators gave in the last step, in that order, if that is noted. No clause says it.
     pub fn given(&self) -> &[NogoodId] {
         self.uses.given()
+    }
+
+    /// The number of the nogood that was imported last. No clause says it.
+    pub fn imported_number(&self) -> Option<NogoodId> {
+        self.uses.imported()
     }
 
     /// The number of the nogood that the last step learnt, or by which it blocks an answer.
