@@ -1,19 +1,18 @@
 -- What an outlet hears and writes.
-use Rattle.std.specs.Prelude.{◌≡◌, ℕ, ◌+◌, ◌≤◌, Bool, true, false, List, ◌++◌, length, Option, None, Result, OnOk, OnErr, codes, decimal, ℤ}
+use Rattle.std.specs.Prelude.{◌≡◌, ℕ, ◌+◌, ◌≤◌, Bool, true, false, List, ◌++◌, length, Option, None, Result, OnOk, OnErr, ℤ}
 use Rattle.std.specs.Io.KnownBytes.{Appends}
 use Rattle.asp_io.specs.Causes.{Rose, AppendsFront}
 use Rattle.asp_model.specs.declared.program.Program.{Program}
 use Rattle.asp_model.specs.declared.results.End.{End}
-use Rattle.asp_model.specs.declared.results.Mode.{Mode}
 use Rattle.asp_model.specs.declared.results.Mode.TheVariants.{Enum, Opt}
 use Rattle.asp_model.specs.Costs.{optima}
 use Rattle.asp_model.specs.Found.{Found}
 use Rattle.asp_model.specs.Models.{answers, atoms_of}
 use Rattle.asp_model.specs.Sets.{Atoms}
-use Rattle.asp_model.specs.Texts.{answers_from, cost_line, count_mark, ended_line, verdict}
+use Rattle.asp_model.specs.Texts.{answers_from, cost_line}
 use Rattle.asp_print.specs.declared.in_parts.PartPrinter.{PartPrinter}
 use Rattle.asp_print.specs.Named.{printed_text}
-use Rattle.asp_print.specs.Parts.{IsPrinterOf, closing}
+use Rattle.asp_print.specs.Parts.{IsPrinterOf, closing, closing_of}
 
 -- a program, those of its answers that are to be heard, and those that were
 pub record Heard : Type 0 where
@@ -48,10 +47,6 @@ abbrev pub whole_text : Program → End → List Atoms → List ℕ
 whole_text p end sets = printed_text p (found end sets) false false
 
 -- ---- optima, all of one cost
--- the word line and the count line of results that list so many answers
-abbrev pub closing_of : Mode → End → ℕ → List ℕ
-closing_of mode end count = ended_line (verdict end mode count) ++ ended_line (codes "Models: " ++ decimal count ++ count_mark end)
-
 -- the lines after the last of so many optima
 abbrev pub optima_closing : End → List ℤ → ℕ → List ℕ
 optima_closing end cost count = cost_line cost ++ closing_of Opt end count

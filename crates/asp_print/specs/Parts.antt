@@ -3,6 +3,7 @@ use Rattle.std.specs.Prelude.{ℕ, List, ◌++◌, codes, decimal}
 use Rattle.std.specs.Option.{IfSome}
 use Rattle.asp_model.specs.declared.program.Program.{Program}
 use Rattle.asp_model.specs.declared.results.End.{End}
+use Rattle.asp_model.specs.declared.results.Mode.{Mode}
 use Rattle.asp_model.specs.declared.results.Mode.TheVariants.{Enum}
 use Rattle.asp_model.specs.Sets.{Atoms}
 use Rattle.asp_model.specs.Texts.{count_mark, ended_line, verdict}
@@ -13,6 +14,10 @@ use Rattle.asp_print.specs.Rows.{IsTableBy}
 abbrev pub IsPrinterOf : Program → Atoms → PartPrinter → Type 0
 IsPrinterOf p atoms printer = IfSome printer.table (IsTableBy 32 atoms p.outputs)
 
--- the lines after the last of so many answers
+-- the word line and the count line of results that list so many answers
+abbrev pub closing_of : Mode → End → ℕ → List ℕ
+closing_of mode end count = ended_line (verdict end mode count) ++ ended_line (codes "Models: " ++ decimal count ++ count_mark end)
+
+-- the lines after the last of so many answers of an enumeration
 abbrev pub closing : End → ℕ → List ℕ
-closing end count = ended_line (verdict end Enum count) ++ ended_line (codes "Models: " ++ decimal count ++ count_mark end)
+closing end count = closing_of Enum end count

@@ -3,9 +3,8 @@ ghost use Rattle.std.specs.Prelude.{◌≡◌, ◌+◌, ◌^◌, ◌<◌, ◌≤
 ghost use Rattle.std.specs.Io.KnownBytes.{Appends};
 ghost use Rattle.asp_io.specs.Causes.{Rose, AppendsFront};
 ghost use Rattle.asp_model.specs.Texts.{answers_from, ended_line, verdict};
-ghost use Rattle.asp_model.specs.declared.results.Mode.TheVariants.{Enum};
 ghost use Rattle.asp_buffer.specs.Out.{Puts, out};
-ghost use Rattle.asp_print.specs.Parts.{IsPrinterOf, closing};
+ghost use Rattle.asp_print.specs.Parts.{IsPrinterOf, closing, closing_of};
 
 use crate::answers::put_each;
 use crate::outputs::OutputTable;
@@ -58,28 +57,30 @@ fn put_word<K: Sink>(
     sink: &mut K,
     waiting: &mut Waiting,
     end: End,
+    mode: Mode,
     count: usize,
 ) -> Result<(), Failed>
     ensures { Puts (out (K.held sink.old) (K.faults sink.old) waiting.old)
         (out (K.held sink.new) (K.faults sink.new) waiting.new) result
-        (ended_line (verdict end Enum count)) }
+        (ended_line (verdict end mode count)) }
 {
-    put(sink, waiting, verdict(end, Mode::Enum, count))?;
+    put(sink, waiting, verdict(end, mode, count))?;
     put(sink, waiting, b"\n")
 }
 
-// Puts out the word line and the count line.
-fn put_end<K: Sink>(
+/// Puts out the word line and the count line of results that list so many answers.
+pub fn put_end<K: Sink>(
     sink: &mut K,
     waiting: &mut Waiting,
     end: End,
+    mode: Mode,
     count: usize,
 ) -> Result<(), Failed>
     ensures { Puts (out (K.held sink.old) (K.faults sink.old) waiting.old)
         (out (K.held sink.new) (K.faults sink.new) waiting.new) result
-        (closing end count) }
+        (closing_of mode end count) }
 {
-    put_word(sink, waiting, end, count)?;
+    put_word(sink, waiting, end, mode, count)?;
     put_models(sink, waiting, end, count)
 }
 
@@ -127,6 +128,6 @@ pub fn print_closing<K: Sink>(sink: &mut K, end: End, count: usize) -> Result<()
     ensures quiet { OnOk result (K.faults sink.new ≡ K.faults sink.old) }
 {
     let mut waiting = Waiting::new();
-    put_end(sink, &mut waiting, end, count)?;
+    put_end(sink, &mut waiting, end, Mode::Enum, count)?;
     flush(sink, &mut waiting)
 }

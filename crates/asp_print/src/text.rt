@@ -75,7 +75,8 @@ pub fn put_sums<K: Sink>(sink: &mut K, waiting: &mut Waiting, sums: &[i64]) -> R
     Ok(())
 }
 
-fn put_cost<K: Sink>(sink: &mut K, waiting: &mut Waiting, cost: &Cost) -> Result<(), Failed>
+/// Puts out the cost line.
+pub fn put_cost<K: Sink>(sink: &mut K, waiting: &mut Waiting, cost: &Cost) -> Result<(), Failed>
     ensures { Puts (out (K.held sink.old) (K.faults sink.old) waiting.old)
         (out (K.held sink.new) (K.faults sink.new) waiting.new) result (cost_line cost.now) }
 {

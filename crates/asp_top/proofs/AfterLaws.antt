@@ -13,7 +13,8 @@ use Rattle.asp_model.specs.Found.{Found}
 use Rattle.asp_model.specs.Sets.{Atoms}
 use Rattle.asp_model.specs.Texts.{answers_from, cost_line}
 use Rattle.asp_print.specs.Named.{printed_text}
-use Rattle.asp_outlet.specs.Outlets.{closing_of, list_of, optima_text}
+use Rattle.asp_print.specs.Parts.{closing_of}
+use Rattle.asp_outlet.specs.Outlets.{list_of, optima_text}
 use Rattle.asp_crew_laws.specs.declared.report.Report.{Report}
 use Rattle.asp_crew_laws.specs.Reports.{IsReport, Says as SaysReport, joined}
 use Rattle.asp_crew_laws.specs.Runs.{IsBest, asks}

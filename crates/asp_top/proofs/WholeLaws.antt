@@ -41,7 +41,7 @@ use Rattle.asp_model.specs.Texts.{shown}
 use Rattle.asp_prepare.specs.Meaning.{has_model_in, is_some_of, mode_by, mode_of}
 use Rattle.asp_prepare.specs.Naming.{HasNumbers, asked, is_json, is_named, is_settled, set_aside}
 use Rattle.asp_prepare.specs.Told.{found_with, report_text, report_with, text_in, with_known, without_names}
-use Rattle.asp_outlet.specs.Outlets.{closing_of}
+use Rattle.asp_print.specs.Parts.{closing_of}
 use Rattle.asp_top.specs.Notes.{is_list}
 use Rattle.asp_top.specs.Runs.{Around, HasText, IsCostOf, IsGiven, IsSentOn, IsWritten, Means, Runs, first_text, is_brief, layout_of, run_ask, streams, whole_list}
 use Rattle.asp_top.proofs.ListingLaws.{IsListing, is-listing, streams-by}

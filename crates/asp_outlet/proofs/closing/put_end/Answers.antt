@@ -1,8 +1,0 @@
-use Rattle.asp_buffer.proofs.OutLaws.{puts_then, puts_fails}
-use Rattle.asp_outlet.proofs.closing.put_end.Goals as goal
-
-pub returns-in_err-put_word : goal.returns-in_err-put_word
-returns-in_err-put_word g c = puts_fails _ _ _ _ _ _ _ c.in_err-put_word.ensures c.from_residual.ensures.1
-
-pub returns : goal.returns
-returns g c = puts_then _ _ _ _ _ _ _ c.in_ok-put_word.ensures c.put_count.ensures
