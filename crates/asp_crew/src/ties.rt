@@ -144,8 +144,9 @@ fn second<W: Watch>(
     }
 }
 
-// The report of both searches.
-fn joined(first: Report, ties: Report) -> Report
+/// The report of two searches: of a first one, which found what the optima cost, and of one for all optima, whose units were
+/// those that the first left.
+pub fn joined(first: Report, ties: Report) -> Report
     requires program { ties.paid.program ≡ first.paid.program }
     requires units { ties.paid.left + ties.spent ≡ first.paid.left }
     requires spent { first.paid.burnt ≡ first.spent }

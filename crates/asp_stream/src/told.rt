@@ -4,6 +4,7 @@ ghost use Rattle.asp_crew_laws.specs.Reports.{joined};
 ghost use Rattle.asp_stream.specs.Endings.{report_of};
 
 use asp_core::entry::Entry;
+use asp_crew::ties::joined;
 use asp_crew_laws::report::Report;
 use asp_model::results::{End as ResultEnd, Mode, Results};
 use asp_model::seq::Seq;
@@ -82,49 +83,5 @@ pub fn into_joined(first: Report, told: Told) -> Report
     requires spent { first.paid.burnt ≡ first.spent }
     ensures { result ≡ joined first (report_of [] told) }
 {
-    let Report {
-        results,
-        journal,
-        second: _,
-        spent,
-        leaves: _,
-        log,
-        short,
-        unpaid: _,
-        mut paid,
-        core: _,
-    } = first;
-    let Report {
-        results: found,
-        journal: second,
-        second: _,
-        spent: more,
-        leaves,
-        log: _,
-        short: _,
-        unpaid,
-        paid: rest,
-        core: _,
-    } = into_report(told);
-    let left = paid.left();
-    let _given = paid.part(left);
-    paid.merge(rest);
-    Report {
-        results: Results {
-            mode: results.mode,
-            end: found.end,
-            answers: found.answers,
-            best: results.best,
-            known: results.known,
-        },
-        journal,
-        second: Some(second),
-        spent: spent + more,
-        leaves,
-        log,
-        short,
-        unpaid,
-        paid,
-        core: None,
-    }
+    joined(first, into_report(told))
 }
