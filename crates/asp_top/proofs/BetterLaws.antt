@@ -14,7 +14,7 @@ use Rattle.asp_model.specs.Texts.{answers_from}
 use Rattle.asp_model.proofs.ModelLaws.{answers-are, stable-subset}
 use Rattle.asp_rows.specs.Bits.{IsAmong}
 use Rattle.asp_vars.proofs.NumberingLaws.{int_eq_same, same_lists}
-use Rattle.asp_top.specs.Notes.{Writes}
+use Rattle.asp_faults.specs.Writing.{Writes}
 
 -- a stable set in which the assumptions hold is an answer
 pub is-priced : (p : Program) (S : Atoms) (c : List ℤ) → is_stable p S ≡ true → all_hold S p.assumptions ≡ true → c ≡ cost p S → IsPriced p (S, c)

@@ -5,7 +5,6 @@ pub mod EndLaws
 pub mod RunLaws
 pub mod DoneLaws
 pub mod WholeLaws
-pub mod WriteLaws
 pub mod BetterLaws
 pub mod ShownLaws
 pub mod TellLaws

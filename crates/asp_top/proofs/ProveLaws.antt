@@ -36,7 +36,7 @@ use Rattle.asp_model.specs.Models.{atoms_of}
 use Rattle.asp_vars.specs.Numbering.{bodies_of}
 use Rattle.asp_top.specs.Meaning.{status_for}
 use Rattle.asp_top.specs.Runs.{EndsProof, EndsProofBy, IsCounted, IsProofStopped, Proves, TellsFaults, WritesProof}
-use Rattle.asp_top.proofs.WriteLaws.{front-all}
+use Rattle.asp_faults.proofs.WriteLaws.{front-all}
 
 -- what was passed on of some bytes is a front of them
 passes-front : (a b : Out) (bytes : List ℕ) → a.waiting ≡ [] → Passes a b bytes → AppendsFront a.held b.held bytes

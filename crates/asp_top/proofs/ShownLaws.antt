@@ -18,7 +18,7 @@ use Rattle.asp_settle.proofs.StableLaws.{contains-map}
 use Rattle.asp_unfold.specs.Unfolded.{unfolded}
 use Rattle.asp_unfold.proofs.SameLaws.{same-answers as same-unfolded, same-cost}
 use Rattle.asp_top.specs.Progress.{AreBest, Entry, Shown, Told, line_of, scope, shown_text}
-use Rattle.asp_top.specs.Notes.{Writes}
+use Rattle.asp_faults.specs.Writing.{Writes}
 use Rattle.asp_top.specs.Telling.{Chain, Line, Point, Step, Tells}
 
 -- ---- one set

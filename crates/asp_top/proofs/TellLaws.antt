@@ -13,13 +13,13 @@ use Rattle.asp_prepare.specs.declared.prepared.Prepared.{Prepared}
 use Rattle.asp_equal.specs.Reduced.{restored}
 use Rattle.asp_prepare.specs.Naming.{HasNumbers, asked, prepared_of, searched, set_aside}
 use Rattle.asp_prepare.proofs.AskedLaws.{asked-sound}
-use Rattle.asp_top.specs.Notes.{IsNoted, Writes}
+use Rattle.asp_faults.specs.Writing.{IsNoted, Writes}
 use Rattle.asp_top.specs.Held.{IsMuch, held_text, row_in}
 use Rattle.asp_top.specs.Progress.{Adds, AreBest, Entry, IsDue, IsMore, IsPartOf, IsTold, Part, Rises, Scope, Told, Warns, entry_text, nothing, part_text, scope, shown_of, told_text}
 use Rattle.asp_top.specs.Runs.{Around, Hears, IsReady, around}
 use Rattle.asp_top.specs.Telling.{Chain, EndsWith, IsNext, Line, Point, Tells, as_told, nothing_told, point}
 use Rattle.asp_top.proofs.ShownLaws.{searched-whole, told-whole}
-use Rattle.asp_top.proofs.WriteLaws.{writes_same, writes_then}
+use Rattle.asp_faults.proofs.WriteLaws.{writes_same, writes_then}
 
 abbrev State : Type 0
 State = Result (Unit {0}) Failed

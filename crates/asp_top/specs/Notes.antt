@@ -1,8 +1,6 @@
 -- What the notes say of a run.
-use Rattle.std.specs.Prelude.{◌≡◌, ℕ, ◌≤◌, Bool, true, false, not, ◌&&◌, ◌||◌, ◌==◌, is_some, if◌then◌else◌, List, [], ◌++◌, codes, decimal, Option, None, Some, Result, OnOk, OnErr}
+use Rattle.std.specs.Prelude.{ℕ, Bool, true, false, not, ◌&&◌, ◌||◌, ◌==◌, is_some, if◌then◌else◌, List, [], ◌++◌, codes, decimal, Option, None, Some}
 use Rattle.std.specs.List.{flat_map}
-use Rattle.std.specs.Io.KnownBytes.{Appends}
-use Rattle.asp_io.specs.Causes.{Rose, AppendsFront}
 use Rattle.asp_cli.specs.declared.Options.{Options}
 use Rattle.asp_cli.specs.Values.{is_row}
 use Rattle.asp_crew_laws.specs.declared.report.Report.{Report}
@@ -163,17 +161,3 @@ later_notes given t o = idle_of given o.report ++ counts_if given.stats t o
 -- what the notes get of an outcome
 abbrev pub notes_of : Options → Tally → Outcome → List ℕ
 notes_of given t o = note_of o.status ++ later_notes given t o
-
--- a call wrote all of the bytes, or failed with a front of them out, and exactly then a fault was counted
-pub record Writes {T E : Type 0} (held held' : Option (List ℕ)) (faults faults' : ℕ) (result : Result T E) (bytes : List ℕ) : Type 0 where
-  pub all : OnOk result (Appends held held' bytes)
-  pub front : OnErr result (AppendsFront held held' bytes)
-  pub later : faults ≤ faults'
-  pub cause : OnErr result (Rose faults faults')
-  pub quiet : OnOk result (faults' ≡ faults)
-
--- a front of the text was written, and all of it where no fault was counted
-pub record IsNoted (held held' : Option (List ℕ)) (faults faults' : ℕ) (text : List ℕ) : Type 0 where
-  pub front : AppendsFront held held' text
-  pub whole : ¬ Rose faults faults' → Appends held held' text
-  pub later : faults ≤ faults'

@@ -16,7 +16,7 @@ use Rattle.asp_rows.specs.Listed.{Listed}
 use Rattle.asp_cli.specs.declared.Options.{Options}
 use Rattle.asp_top.specs.Counts.{item_text, part_items, search_items, told_items}
 use Rattle.asp_top.specs.Held.{IsMuch, held_text}
-use Rattle.asp_top.specs.Notes.{IsNoted}
+use Rattle.asp_faults.specs.Writing.{IsNoted}
 
 -- what the best answer costs that is told
 abbrev pub cost_in : Option Best → Option (List ℤ)

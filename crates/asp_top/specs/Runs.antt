@@ -56,7 +56,8 @@ use Rattle.asp_proof.specs.declared.proof.Line.{Line}
 use Rattle.asp_proof.specs.declared.proof.Sought.{Sought}
 use Rattle.asp_proof.specs.Texts.{head_text, line_text, lines, text_of}
 use Rattle.asp_scribe.specs.Proofs.{proof_of, sought_of}
-use Rattle.asp_top.specs.Notes.{IsNoted, is_answered, is_optimum, is_streamed, is_written, note_of, notes_of}
+use Rattle.asp_top.specs.Notes.{is_answered, is_optimum, is_streamed, is_written, note_of, notes_of}
+use Rattle.asp_faults.specs.Writing.{IsNoted}
 use Rattle.asp_top.specs.Parting.{AreParts, Divides}
 use Rattle.asp_top.specs.Held.{row_of}
 use Rattle.asp_top.specs.Progress.{IsTold, scope, tells_parts}

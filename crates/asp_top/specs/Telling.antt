@@ -4,7 +4,7 @@ use Rattle.std.proofs.Common.{inl, inr, refl, sym, subst}
 use Rattle.asp_io.specs.declared.traits.Failed.{Failed}
 use Rattle.asp_counts.specs.declared.counts.Counts.{Counts}
 use Rattle.asp_model.specs.declared.program.Program.{Program}
-use Rattle.asp_top.specs.Notes.{IsNoted, Writes}
+use Rattle.asp_faults.specs.Writing.{IsNoted, Writes}
 use Rattle.asp_top.specs.Progress.{AreBest, Entry, Shown, IsDue, Scope, scope, IsMore, IsPartOf, entry_text}
 
 -- the notes, whether they failed, the counts of the last line and at the end of the last query, and whether it was told that answers are held

@@ -5,7 +5,7 @@ ghost use Rattle.asp_crew_laws.specs.Reports.{IsPriced};
 ghost use Rattle.asp_model.specs.Models.{atoms_of, is_stable};
 ghost use Rattle.asp_model.specs.Texts.{answers_from};
 ghost use Rattle.asp_rows.specs.Bits.{IsAmong};
-ghost use Rattle.asp_top.specs.Notes.{Writes};
+ghost use Rattle.asp_faults.specs.Writing.{Writes};
 ghost use Rattle.asp_top.specs.Progress.{AreBest, IsNumber, IsRowOfBest, cost_in, shown_of, told_text};
 
 use crate::progress::write_line;

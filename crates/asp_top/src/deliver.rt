@@ -2,7 +2,7 @@
 ghost use Rattle.std.specs.Prelude.{◌≡◌, None, OnOk, true};
 ghost use Rattle.asp_json.specs.Json.{json_text};
 ghost use Rattle.asp_print.specs.Named.{printed_text};
-ghost use Rattle.asp_top.specs.Notes.{Writes};
+ghost use Rattle.asp_faults.specs.Writing.{Writes};
 ghost use Rattle.asp_prepare.specs.Told.{report_text, text_in};
 ghost use Rattle.asp_top.specs.Runs.{Delivers, IsSentOn, TellsClosed, TellsFaults};
 

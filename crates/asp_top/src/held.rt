@@ -3,7 +3,7 @@ ghost use Rattle.std.specs.Prelude.{◌≡◌, ◌*◌, ◌^◌, ◌≤◌, IsTr
 ghost use Rattle.asp_buffer.specs.Out.{Puts, out};
 ghost use Rattle.asp_model.specs.Models.{atoms_of};
 ghost use Rattle.asp_top.specs.Held.{IsMuch, held_text, holds, row_bytes, row_in};
-ghost use Rattle.asp_top.specs.Notes.{Writes};
+ghost use Rattle.asp_faults.specs.Writing.{Writes};
 
 use crate::notes::{is_list, lists_lines};
 use asp_buffer::{Waiting, flush, put, put_number};

@@ -2,7 +2,8 @@
 ghost use Rattle.std.specs.Prelude.{◌≡◌, ◌++◌, codes, decimal};
 ghost use Rattle.asp_buffer.specs.Out.{Puts, out};
 ghost use Rattle.asp_top.specs.Counts.{loop_items, program_items, report_items, search_items};
-ghost use Rattle.asp_top.specs.Notes.{IsNoted, Writes, asked_text, counts_if, counts_of, crew_text, idle_of, idle_text, is_answered, is_idle_crew, is_idle_limit, is_idle_request, is_idle_row, is_idle_stream, is_list, is_optimum, is_streamed, items_text, later_notes, limit_text, lists_lines, loops_text, note_of, notes_of, optima_text, program_text, row_text, sought_text, stats_of, stream_text, threads_text, worker_text, workers_text};
+ghost use Rattle.asp_top.specs.Notes.{asked_text, counts_if, counts_of, crew_text, idle_of, idle_text, is_answered, is_idle_crew, is_idle_limit, is_idle_request, is_idle_row, is_idle_stream, is_list, is_optimum, is_streamed, items_text, later_notes, limit_text, lists_lines, loops_text, note_of, notes_of, optima_text, program_text, row_text, sought_text, stats_of, stream_text, threads_text, worker_text, workers_text};
+ghost use Rattle.asp_faults.specs.Writing.{IsNoted, Writes};
 
 use crate::counts::{
     Tally, loop_items, program_items, put_items, report_items, search_items, worker_items,
@@ -14,27 +15,11 @@ use asp_cli::{Form, Options};
 use asp_counts::counts::Counts;
 use asp_counts::tallies::WorkerCounts;
 use asp_crew::report::Report;
-use asp_faults::write_fault;
-use asp_io::{Failed, Sink, write_all};
+use asp_faults::{write, write_both, write_fault};
+use asp_io::{Failed, Sink};
 use asp_model::results::Mode;
 use asp_read::fault::Fault;
 use itoa::Buffer;
-
-/// Writes all of the bytes.
-pub fn write<N: Sink>(notes: &mut N, bytes: &[u8]) -> Result<(), Failed>
-    ensures { Writes (N.held notes.old) (N.held notes.new) (N.faults notes.old) (N.faults notes.new) result bytes.now }
-{
-    write_all(notes, bytes)
-}
-
-/// Writes all of the one, and then of the other.
-pub fn write_both<N: Sink>(notes: &mut N, first: &[u8], second: &[u8]) -> Result<(), Failed>
-    ensures { Writes (N.held notes.old) (N.held notes.new) (N.faults notes.old) (N.faults notes.new)
-        result (first.now ++ second.now) }
-{
-    write(notes, first)?;
-    write(notes, second)
-}
 
 fn write_line<N: Sink>(notes: &mut N, line: u32) -> Result<(), Failed>
     ensures { Writes (N.held notes.old) (N.held notes.new) (N.faults notes.old) (N.faults notes.new)

@@ -1,13 +1,13 @@
 //! The parts of a program are written in place of its results.
 ghost use Rattle.std.specs.Prelude.{◌≡◌, ◌<◌, IfOk, OnOk, Some, true};
 ghost use Rattle.asp_cli.specs.Values.{IsPartCount};
-ghost use Rattle.asp_top.specs.Notes.{Writes};
+ghost use Rattle.asp_faults.specs.Writing.{Writes};
 ghost use Rattle.asp_top.specs.Parting.{Divides, Hands, IsPartsText};
 ghost use Rattle.asp_top.specs.Runs.{IsSentOn, TellsClosed, TellsFaults};
 
 use crate::deliver::failed;
-use crate::notes::write;
 use crate::status::{Outcome, Status};
+use asp_faults::write;
 use asp_io::{Failed, Sink};
 use asp_make::emit_parts;
 use asp_propagators::propagators::Propagators;

@@ -5,7 +5,8 @@ ghost use Rattle.std.specs.Prelude.{Option};
 ghost use Rattle.asp_model.specs.declared.program.Program.{Program};
 ghost use Rattle.asp_buffer.specs.Out.{Puts, out};
 ghost use Rattle.asp_top.specs.Held.{IsMuch, row_in};
-ghost use Rattle.asp_top.specs.Notes.{Writes, notes_of};
+ghost use Rattle.asp_top.specs.Notes.{notes_of};
+ghost use Rattle.asp_faults.specs.Writing.{Writes};
 ghost use Rattle.asp_top.specs.Progress.{IsMore, best_text, cost_in, end_of, line_of, nothing, part_text, query_text, scope, tells_parts};
 ghost use Rattle.asp_top.specs.Telling.{EndsWith, Tells, point};
 

@@ -3,26 +3,12 @@ ghost use Rattle.std.specs.Prelude.{◌++◌, codes};
 ghost use Rattle.asp_cli.specs.Given.{fault_seen};
 ghost use Rattle.asp_cli.specs.Hints.{nearest};
 ghost use Rattle.asp_cli.specs.Names.{takes_of, text_of};
-ghost use Rattle.asp_top.specs.Notes.{IsNoted, Writes};
+ghost use Rattle.asp_faults.specs.Writing.{IsNoted, Writes};
 ghost use Rattle.asp_top.specs.Usage.{advice_text, hint_text, misuse_note, misuse_text, near_text, usage_text};
 
-use crate::notes::{write, write_both};
 use asp_cli::{Name, WordFault, counterpart, nearest, usage};
+use asp_faults::{write, write_both, write_three};
 use asp_io::{Failed, Sink};
-
-/// Writes all of the first, of the second, and then of the third.
-pub fn write_three<N: Sink>(
-    notes: &mut N,
-    first: &[u8],
-    second: &[u8],
-    third: &[u8],
-) -> Result<(), Failed>
-    ensures { Writes (N.held notes.old) (N.held notes.new) (N.faults notes.old) (N.faults notes.new)
-        result (first.now ++ second.now ++ third.now) }
-{
-    write_both(notes, first, second)?;
-    write(notes, third)
-}
 
 fn write_takes<N: Sink>(notes: &mut N, name: Name) -> Result<(), Failed>
     ensures { Writes (N.held notes.old) (N.held notes.new) (N.faults notes.old) (N.faults notes.new)

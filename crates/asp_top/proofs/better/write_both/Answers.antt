@@ -2,7 +2,7 @@ use Rattle.std.specs.Prelude.{None}
 use Rattle.std.specs.Option.{option_copied}
 use Rattle.asp_model.specs.Texts.{answers_from}
 use Rattle.asp_top.specs.Progress.{line_of}
-use Rattle.asp_top.proofs.WriteLaws.{writes_fails, writes_then}
+use Rattle.asp_faults.proofs.WriteLaws.{writes_fails, writes_then}
 use Rattle.asp_top.proofs.better.write_both.Goals as goal
 
 pub returns-in_err-write_line : goal.returns-in_err-write_line

@@ -1,4 +1,4 @@
-use Rattle.asp_top.proofs.WriteLaws.{noted}
+use Rattle.asp_faults.proofs.WriteLaws.{noted}
 use Rattle.asp_top.proofs.notes.note.Goals as goal
 
 pub returns : goal.returns

@@ -1,5 +1,5 @@
 use Rattle.asp_top.specs.Notes.{sought_text, threads_text}
-use Rattle.asp_top.proofs.WriteLaws.{writes_then, writes_fails}
+use Rattle.asp_faults.proofs.WriteLaws.{writes_then, writes_fails}
 use Rattle.asp_top.proofs.notes.write_idle.Goals as goal
 
 pub returns-in_err-write_sought : goal.returns-in_err-write_sought

@@ -1,5 +1,5 @@
 use Rattle.asp_top.specs.Notes.{counts_if, idle_of}
-use Rattle.asp_top.proofs.WriteLaws.{writes_then, writes_fails}
+use Rattle.asp_faults.proofs.WriteLaws.{writes_then, writes_fails}
 use Rattle.asp_top.proofs.notes.write_later.Goals as goal
 
 pub returns-in_err-write_idle_of : goal.returns-in_err-write_idle_of

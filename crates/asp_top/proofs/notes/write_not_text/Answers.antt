@@ -1,6 +1,6 @@
 use Rattle.std.proofs.Common.{codes}
 use Rattle.asp_top.specs.Usage.{usage_text}
-use Rattle.asp_top.proofs.WriteLaws.{writes_then, writes_fails}
+use Rattle.asp_faults.proofs.WriteLaws.{writes_then, writes_fails}
 use Rattle.asp_top.proofs.notes.write_not_text.Goals as goal
 
 pub returns-in_err-write : goal.returns-in_err-write

@@ -1,6 +1,6 @@
 use Rattle.std.proofs.Common.{[], ◌∷◌, ◌++◌, codes, decimal, append_assoc, sym}
 use Rattle.asp_faults.specs.Faults.{fault_text}
-use Rattle.asp_top.proofs.WriteLaws.{writes_as, writes_then, writes_fails, writes_same}
+use Rattle.asp_faults.proofs.WriteLaws.{writes_then, writes_fails, writes_same}
 use Rattle.asp_top.proofs.notes.write_refused.Goals as goal
 
 pub returns-in_err-write_line : goal.returns-in_err-write_line
@@ -11,8 +11,8 @@ returns-in_err-write_line g c =
 
 pub returns-in_err-write_fault : goal.returns-in_err-write_fault
 returns-in_err-write_fault g c = writes_fails _ _ _ _ _ _ _ (codes "aspenum: line " ++ decimal c.args.line ++ fault_text c.args.fault) (10 ∷ [])
-    (writes_then _ _ _ _ _ _ _ _ _ _ c.in_ok-write_line.ensures (writes_as c.in_err-write_fault.ensures)) c.from_residual-in_err-write_fault.ensures.1
+    (writes_then _ _ _ _ _ _ _ _ _ _ c.in_ok-write_line.ensures c.in_err-write_fault.ensures) c.from_residual-in_err-write_fault.ensures.1
 
 pub returns : goal.returns
 returns g c = writes_then _ _ _ _ _ _ _ _ (codes "aspenum: line " ++ decimal c.args.line ++ fault_text c.args.fault) (10 ∷ [])
-    (writes_then _ _ _ _ _ _ _ _ _ _ c.in_ok-write_line.ensures (writes_as c.in_ok-write_fault.ensures)) c.write.ensures
+    (writes_then _ _ _ _ _ _ _ _ _ _ c.in_ok-write_line.ensures c.in_ok-write_fault.ensures) c.write.ensures

@@ -1,5 +1,5 @@
 use Rattle.asp_top.specs.Notes.{asked_text, stream_text}
-use Rattle.asp_top.proofs.WriteLaws.{writes_then, writes_fails}
+use Rattle.asp_faults.proofs.WriteLaws.{writes_then, writes_fails}
 use Rattle.asp_top.proofs.notes.write_sought.Goals as goal
 
 pub returns-in_err-write_asked : goal.returns-in_err-write_asked

@@ -1,4 +1,4 @@
-use Rattle.asp_top.proofs.WriteLaws.{writes_exit, writes_flushed}
+use Rattle.asp_faults.proofs.WriteLaws.{writes_exit, writes_flushed}
 use Rattle.asp_top.proofs.parts.write_text.Goals as goal
 
 pub returns-in_err-write-clause-writes : goal.returns-in_err-write-clause-writes

@@ -1,4 +1,4 @@
-use Rattle.asp_top.proofs.WriteLaws.{writes_exit, writes_flushed}
+use Rattle.asp_faults.proofs.WriteLaws.{writes_exit, writes_flushed}
 use Rattle.asp_top.proofs.runs.write_help.Goals as goal
 
 pub returns-in_err-write_page-clause-writes : goal.returns-in_err-write_page-clause-writes

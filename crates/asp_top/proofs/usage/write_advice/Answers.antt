@@ -1,6 +1,6 @@
 use Rattle.std.proofs.Common.{codes}
 use Rattle.asp_top.specs.Usage.{hint_text}
-use Rattle.asp_top.proofs.WriteLaws.{writes_then, writes_fails}
+use Rattle.asp_faults.proofs.WriteLaws.{writes_then, writes_fails}
 use Rattle.asp_top.proofs.usage.write_advice.Goals as goal
 
 pub returns-in_err-write_hint : goal.returns-in_err-write_hint

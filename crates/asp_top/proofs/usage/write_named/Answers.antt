@@ -1,7 +1,7 @@
 use Rattle.std.proofs.Common.{codes}
 use Rattle.asp_cli.specs.Given.{fault_seen}
 use Rattle.asp_top.specs.Usage.{misuse_text}
-use Rattle.asp_top.proofs.WriteLaws.{writes_then, writes_fails}
+use Rattle.asp_faults.proofs.WriteLaws.{writes_then, writes_fails}
 use Rattle.asp_top.proofs.usage.write_named.Goals as goal
 
 pub returns-in_err-write : goal.returns-in_err-write

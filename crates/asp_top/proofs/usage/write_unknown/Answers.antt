@@ -1,6 +1,6 @@
 use Rattle.std.proofs.Common.{◌++◌, codes}
 use Rattle.asp_top.specs.Usage.{advice_text}
-use Rattle.asp_top.proofs.WriteLaws.{writes_then, writes_fails}
+use Rattle.asp_faults.proofs.WriteLaws.{writes_then, writes_fails}
 use Rattle.asp_top.proofs.usage.write_unknown.Goals as goal
 
 pub returns-in_err-write_both : goal.returns-in_err-write_both

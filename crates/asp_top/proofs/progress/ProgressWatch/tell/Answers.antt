@@ -4,7 +4,7 @@ use Rattle.std.specs.Option.{option_copied}
 use Rattle.asp_top.specs.Progress.{Told, line_of, scope}
 use Rattle.asp_top.specs.Telling.{as_told, more_told}
 use Rattle.asp_top.proofs.TellLaws.{one_told}
-use Rattle.asp_top.proofs.WriteLaws.{writes_same}
+use Rattle.asp_faults.proofs.WriteLaws.{writes_same}
 use Rattle.asp_top.proofs.progress.ProgressWatch.tell.Goals as goal
 
 pub returns : goal.returns
