@@ -24,9 +24,9 @@ invariant_of-self-2 g c =
     useful_for i.compiled.now i.state i.mode (answers_known i.known.items i.seen) n c.self.invariant.0.program
     (subst (λ (x : Searching). IsUseful x.program (used x) x.bound n) (sym c.self.view_is) (of_use s.program (used s) s.mode s.bound n c.requires.useful c.requires.good)) in (
       search_added i.compiled.now i.mode i.state c.keep.new.self i.learner i.checker (used_in i.compiled.now i.mode i.known.items i.seen)
-          i.blocking.items i.bound i.last i.last c.in_ok-id.field-0 m kind.Learnt (ap (λ (x : SearchView). x.program) e)
+          i.blocking.items i.bound i.last i.last c.in_ok-id.id m kind.Learnt (ap (λ (x : SearchView). x.program) e)
           (ap (λ (x : SearchView). x.bound) e) a (subst (IsUseful i.state.program (used_in i.compiled.now i.mode i.known.items i.seen) i.state.bound) (sym c.in_ok-copy.ensures) useful)
-          (added_last i.state.slots c.keep.new.self.slots c.in_ok-id.field-0 m kind.Learnt i.last a c.self.invariant.0.last_stands) c.self.invariant.0,
+          (added_last i.state.slots c.keep.new.self.slots c.in_ok-id.id m kind.Learnt i.last a c.self.invariant.0.last_stands) c.self.invariant.0,
       c.self.invariant.1,
     )
 
@@ -37,6 +37,6 @@ returns-clause-ok g c =
     let new : Searching = view_of i.mode u i.pace (answers_known i.known.items i.seen) i.last in
     subst (λ (x : Searching). Imports x new c.args.nogood.now) c.self.view_is (record {
       same = ap (λ (x : SearchView). view_of i.mode x i.pace (answers_known i.known.items i.seen) i.last) c.in_ok-id.ensures.same;
-      id = c.in_ok-id.field-0;
-      added = subst (λ (n : Nogood). IsAddedAt i.state.slots u.slots c.in_ok-id.field-0 n kind.Learnt) c.in_ok-copy.ensures c.in_ok-id.ensures.ok;
+      id = c.in_ok-id.id;
+      added = subst (λ (n : Nogood). IsAddedAt i.state.slots u.slots c.in_ok-id.id n kind.Learnt) c.in_ok-copy.ensures c.in_ok-id.ensures.ok;
     })
