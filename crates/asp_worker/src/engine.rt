@@ -50,6 +50,9 @@ pub(crate) fn start<'a>(
     propagators.record(recorder);
     let mut search = Search::new(shared.alloc, compiled, shared.mode, propagators)?;
     search.keep_route();
+    if recorder.is_some() {
+        search.note();
+    }
     Ok(Engine {
         search,
         fuel: Fuel::of(compiled, 0),
