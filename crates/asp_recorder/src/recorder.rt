@@ -50,7 +50,9 @@ fn numbers(alloc: Global, lits: &[Lit]) -> Result<Seq<i32>, AllocError>
 pub(crate) fn code(nogood: &[Lit]) -> u64 {
     let mut code: u64 = 0;
     for lit in nogood {
-        let mut mixed = (lit.code() as u64).wrapping_add(1).wrapping_mul(0x9E37_79B9_7F4A_7C15);
+        let mut mixed = (lit.code() as u64)
+            .wrapping_add(1)
+            .wrapping_mul(0x9E37_79B9_7F4A_7C15);
         mixed ^= mixed >> 32;
         code = code.wrapping_add(mixed.wrapping_mul(0xD6E8_FEB8_6659_FD93));
     }
