@@ -5,4 +5,5 @@ mod finds;
 mod places;
 pub mod recorder;
 pub mod scroll;
+mod state;
 pub mod tape;

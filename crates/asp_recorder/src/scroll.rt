@@ -2,15 +2,19 @@
 //!
 //! Each worker has a recorder of its own, and hands over what it wrote before anybody can learn of it. So the lines stand
 //! in an order in which each follows from those before it, whoever wrote them. Sets that are found are told to the scroll itself, which
-//! alone knows the one before.
+//! alone knows the one before. It also knows how many places there are, and where the nogoods that were told to others have their
+//! lines: so lines name those of other workers, and no line takes the place of one that others may rest on.
 ghost use Rattle.std.specs.Prelude.{◌≡◌, [], OnErr, OnOk};
 
 use crate::finds::Finds;
-use crate::recorder::Recorder;
+use crate::recorder::{Recorder, code};
+use crate::state::State;
 use asp_model::cost::Cost;
 use asp_model::interp::Interp;
 use asp_proof::proof::{Line, Sought};
+use asp_vars::lit::Lit;
 use std::alloc::{AllocError, Global};
+use std::collections::HashMap;
 use std::mem;
 use std::sync::{Mutex, MutexGuard, Wait};
 
@@ -23,6 +27,10 @@ struct Page {
     finds: Finds,
     // whether no line is wanted any more
     refused: bool,
+    // how many places there are
+    places: u32,
+    // by its literals' code, the place of a nogood that was told to others
+    told: HashMap<u64, u32>,
 }
 
 /// A turn at the scroll. As long as somebody has it, nobody else hands lines over.
@@ -65,6 +73,36 @@ impl Page {
         }
         self.finds.find(alloc, &mut self.lines, set, cost)
     }
+
+    // Takes over the lines that a recorder got in this turn.
+    fn take_over(&mut self, state: &mut State) -> Result<(), AllocError> {
+        self.append(&mut state.lines)?;
+        self.places = state.places.count();
+        Ok(())
+    }
+
+    // Seeks the lines of the nogoods that a recorder's search imported, which are known by their places then.
+    fn find_imported(&self, state: &mut State) -> Result<(), AllocError> {
+        for _ in 0..state.imported.len() {
+            let Some(imported) = state.imported.pop() else {
+                return Ok(());
+            };
+            if let Some(place) = self.told.get(&imported.code) {
+                state.places.borrow_place(imported.number, *place)?;
+            }
+        }
+        Ok(())
+    }
+}
+
+impl Turn<'_> {
+    /// Takes over the lines that a recorder got in this turn. When out of memory the recorder keeps them.
+    pub fn take_over(&mut self, recorder: &Recorder) -> Result<(), AllocError> {
+        let mut lent = recorder.lend()?;
+        let state = &mut *lent;
+        let page = &mut *self.guard;
+        page.take_over(state)
+    }
 }
 
 impl Scroll {
@@ -77,33 +115,53 @@ impl Scroll {
                 lines: Vec::new(alloc),
                 finds: Finds::new(sought),
                 refused: false,
+                places: 0,
+                told: HashMap::new(alloc),
             }),
         }
     }
 
-    /// Takes over the lines that a recorder got since it was here last. When out of memory the recorder keeps them.
-    pub fn take_over<R: Wait>(&self, rt: &R, recorder: &Recorder) -> Result<(), AllocError> {
-        match recorder.take_lines() {
-            None => Ok(()),
-            Some(mut lines) => {
-                let added = self.append(rt, &mut lines);
-                recorder.put(lines);
-                added
-            }
-        }
+    /// A turn in which a recorder gets lines: their places come behind all that there are.
+    pub fn turn<R: Wait>(&self, rt: &R, recorder: &Recorder) -> Result<Turn<'_>, AllocError> {
+        let mut lent = recorder.lend()?;
+        let state = &mut *lent;
+        let guard = self.page.lock(rt);
+        let page = &*guard;
+        state.places.set_count(page.places);
+        Ok(Turn { guard })
     }
 
-    // Moves the lines to the end, or drops them where nothing has a line any more. When out of memory they stay where they are.
-    fn append<R: Wait>(&self, rt: &R, lines: &mut Vec<Line>) -> Result<(), AllocError>
-        ensures moved { OnOk result (lines.new.items ≡ []) }
-        ensures kept { OnErr result (lines.new.items ≡ lines.old.items) }
-    {
-        if lines.is_empty() {
+    /// Others are told the nogood with this number, whose line was taken over: its place is taken by no other line, and they find it
+    /// by the literals. After want of memory it may be that they don't.
+    pub fn tell<R: Wait>(
+        &self,
+        rt: &R,
+        recorder: &Recorder,
+        number: usize,
+        nogood: &[Lit],
+    ) -> Result<(), AllocError> {
+        let mut lent = recorder.lend()?;
+        let state = &mut *lent;
+        let place = state.places.share(number);
+        if place > 0 {
+            let code = code(nogood);
+            let mut guard = self.page.lock(rt);
+            let page = &mut *guard;
+            page.told.insert(code, place)?;
+        }
+        Ok(())
+    }
+
+    /// Seeks the lines of the nogoods that a recorder's search imported. Those that aren't found are named by no line.
+    pub fn find_imported<R: Wait>(&self, rt: &R, recorder: &Recorder) -> Result<(), AllocError> {
+        let mut lent = recorder.lend()?;
+        let state = &mut *lent;
+        if state.imported.is_empty() {
             return Ok(());
         }
-        let mut guard = self.page.lock(rt);
-        let page = &mut *guard;
-        page.append(lines)
+        let guard = self.page.lock(rt);
+        let page = &*guard;
+        page.find_imported(state)
     }
 
     /// A set that will be listed, and what it costs where one that none betters is sought. It is told before anybody can learn of it;
@@ -137,18 +195,12 @@ impl Scroll {
         page.refused = true;
     }
 
-    // The sets that have a line, which are gone then.
-    fn take_finds<R: Wait>(&self, rt: &R) -> Finds {
-        let mut guard = self.page.lock(rt);
-        let page = &mut *guard;
-        mem::replace(&mut page.finds, Finds::new(self.sought))
-    }
-
     /// Hands the lines to a recorder that has none, and gets those that follow. No worker writes any more.
     pub fn hand_over<R: Wait>(&self, rt: &R, recorder: &Recorder) {
-        if let Some(lines) = self.take(rt) {
-            recorder.put(lines);
-        }
-        recorder.put_finds(self.take_finds(rt));
+        let mut guard = self.page.lock(rt);
+        let page = &mut *guard;
+        let lines = mem::replace(&mut page.lines, Vec::new(self.alloc));
+        let finds = mem::replace(&mut page.finds, Finds::new(self.sought));
+        recorder.go_on(lines, finds, page.places);
     }
 }

@@ -35,6 +35,15 @@ pub(crate) struct Engine<'a, P: Propagator> {
     pub(crate) recorder: Option<&'a Recorder>,
 }
 
+// From now on it is noted by which nogoods each step finds what it keeps, if a proof is wanted.
+fn note_uses<P: Propagator>(search: &mut Search<'_, P>, recorder: Option<&Recorder>)
+    ensures { search.new ≡ search.old }
+{
+    if recorder.is_some() {
+        search.note();
+    }
+}
+
 /// A search that knows no answer, without a unit. The recorder gets what it finds, if a proof is wanted.
 pub(crate) fn start<'a>(
     shared: &Shared<'_>,
@@ -50,6 +59,7 @@ pub(crate) fn start<'a>(
     propagators.record(recorder);
     let mut search = Search::new(shared.alloc, compiled, shared.mode, propagators)?;
     search.keep_route();
+    note_uses(&mut search, recorder);
     Ok(Engine {
         search,
         fuel: Fuel::of(compiled, 0),

@@ -127,7 +127,13 @@ fn advance<R: Wait, P: Propagator>(
     )? {
         Step::Decided => Ok(Course::Open),
         Step::Learnt => {
-            export(rt, shared, &mut worker.pages, &engine.search);
+            export(
+                rt,
+                shared,
+                &mut worker.pages,
+                &engine.search,
+                engine.recorder,
+            );
             Ok(Course::Open)
         }
         Step::Restarted => {

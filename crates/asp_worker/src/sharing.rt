@@ -22,13 +22,14 @@ ghost use Rattle.asp_worker.specs.Working.{GoesOn, Finds, IsStop};
 use crate::engine::Engine;
 use crate::stop::Stop;
 use crate::worker::{Shared, Worker};
-use crate::writing::best_turn;
+use crate::writing::{best_turn, find_imported, note_import, tell};
 use asp_book::book::Book;
 use asp_book::desk;
 use asp_model::cost::Cost;
 use asp_model::interp::Interp;
 use asp_model::results::Mode;
 use asp_propagate::propagator::Propagator;
+use asp_recorder::recorder::Recorder;
 use asp_rows::row::Row;
 use asp_search::search::{Search, count_unshown};
 use asp_slots::{ShelfSeat, Shown};
@@ -62,14 +63,19 @@ fn lower_bound<P: Propagator>(search: &mut Search<'_, P>, cost: Cost) -> Result<
 }
 
 // Imports those entries of the log that count for the search.
-fn import_all<P: Propagator>(search: &mut Search<'_, P>, entries: &Shown) -> Result<(), AllocError>
+fn import_all<P: Propagator>(
+    search: &mut Search<'_, P>,
+    recorder: Option<&Recorder>,
+    entries: &Shown,
+) -> Result<(), AllocError>
     requires few { length (listed entries.now) < 2 ^ 32 }
     requires good { All (IsEntry search.old.program) (listed entries.now) }
     ensures ok { OnOk result (ImportsAll (listed entries.now) search.old search.new) }
     ensures err { OnErr result (Remembers search.old search.new) }
 {
     for i in 0..entries.len() {
-        let _used = search.import(entries.entry(i))?;
+        let used = search.import(entries.entry(i))?;
+        note_import(search, recorder, entries.entry(i), used);
     }
     Ok(())
 }
@@ -80,6 +86,7 @@ fn import_new<R: Wait, P: Propagator>(
     shared: &Shared<'_>,
     pages: &mut ShelfSeat,
     search: &mut Search<'_, P>,
+    recorder: Option<&Recorder>,
     read: &mut u32,
 ) -> Result<(), AllocError>
     requires at { IsAt shared.now.log pages.old }
@@ -95,7 +102,8 @@ fn import_new<R: Wait, P: Propagator>(
         return Ok(());
     }
     let entries = shared.log.read(rt, shared.alloc, pages, *read)?;
-    import_all(search, &entries)?;
+    import_all(search, recorder, &entries)?;
+    find_imported(rt, shared, recorder);
     *read += entries.len();
     Ok(())
 }
@@ -180,6 +188,7 @@ pub(crate) fn refresh<R: Wait, P: Propagator>(
         shared,
         &mut worker.pages,
         &mut engine.search,
+        engine.recorder,
         &mut engine.read,
     )
 }
@@ -190,6 +199,7 @@ pub(crate) fn export<R: Wait, P: Propagator>(
     shared: &Shared<'_>,
     pages: &mut ShelfSeat,
     search: &Search<'_, P>,
+    recorder: Option<&Recorder>,
 )
     requires at { IsAt shared.now.log pages.old }
     requires program { program_of shared.now.log ≡ search.now.program }
@@ -199,7 +209,9 @@ pub(crate) fn export<R: Wait, P: Propagator>(
         return;
     }
     if let Ok(Some(nogood)) = search.export() {
-        let _told = shared.log.append(rt, pages, nogood);
+        if tell(rt, shared, search, recorder, &nogood) {
+            let _told = shared.log.append(rt, pages, nogood);
+        }
     }
 }
 

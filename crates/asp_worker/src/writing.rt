@@ -7,6 +7,7 @@ use asp_recorder::recorder::Recorder;
 use asp_recorder::scroll::{Scroll, Turn};
 use asp_search::search::Search;
 use asp_search_laws::step::Step;
+use asp_vars::nogood::Nogood;
 use std::alloc::AllocError;
 use std::sync::Wait;
 
@@ -26,18 +27,41 @@ fn note_answer<R: Wait>(
     }
 }
 
-// Writes down what the step found: the loops that were given on the way, and the nogood that the step kept.
+// Whether the step found something that has a line: a loop, a nogood that it kept, or one by which it closed the path.
+fn has_lines<P: Propagator>(search: &Search<'_, P>, step: &Step, recorder: &Recorder) -> bool {
+    search.kept().is_some() || matches!(step, Step::Closed(_)) || recorder.has_loop()
+}
+
+// Writes down the loops that were given on the way, the nogood that the step kept, and that by which it closed the path.
+fn note_lines<P: Propagator>(
+    search: &Search<'_, P>,
+    step: &Step,
+    recorder: &Recorder,
+) -> Result<(), AllocError> {
+    recorder.place_given(search.given())?;
+    if let Some(nogood) = search.kept() {
+        recorder.add_learned(search.kept_number(), nogood, search.uses())?;
+    }
+    if let Step::Closed(nogood) = step {
+        recorder.add_learned(None, nogood.lits.as_slice(), search.uses())?;
+    }
+    Ok(())
+}
+
+// Writes down what the step found, in one turn of the scroll if there are lines for it.
 fn note_step<R: Wait, P: Propagator>(
     rt: &R,
     scroll: &Scroll,
     search: &Search<'_, P>,
+    step: &Step,
     recorder: &Recorder,
 ) -> Result<(), AllocError> {
-    recorder.place_given([].as_slice())?;
-    if let Some(nogood) = search.kept() {
-        recorder.add_learned(None, nogood, [].as_slice())?;
+    if !has_lines(search, step, recorder) {
+        return recorder.place_given(search.given());
     }
-    scroll.take_over(rt, recorder)
+    let mut turn = scroll.turn(rt, recorder)?;
+    note_lines(search, step, recorder)?;
+    turn.take_over(recorder)
 }
 
 /// Writes down what the last step found, if a proof is wanted. No other worker has learnt of it before. In an optimisation an answer
@@ -52,7 +76,7 @@ pub(crate) fn note<R: Wait, P: Propagator>(
     match (shared.scroll, recorder) {
         (Some(scroll), Some(recorder)) => {
             note_answer(rt, scroll, shared.mode, step)?;
-            note_step(rt, scroll, search, recorder)
+            note_step(rt, scroll, search, step, recorder)
         }
         _ => Ok(()),
     }
@@ -72,5 +96,42 @@ pub(crate) fn best_turn<'a, R: Wait, P: Propagator>(
             let turn = scroll.found(rt, set, search.bound())?;
             Ok(Some(turn))
         }
+    }
+}
+
+/// Others are about to be told the nogood that the last step kept, of which this is a copy: their lines may name its line from then
+/// on. False where memory is wanting for that.
+pub(crate) fn tell<R: Wait, P: Propagator>(
+    rt: &R,
+    shared: &Shared<'_>,
+    search: &Search<'_, P>,
+    recorder: Option<&Recorder>,
+    nogood: &Nogood,
+) -> bool {
+    match (shared.scroll, recorder, search.kept_number()) {
+        (Some(scroll), Some(recorder), Some(number)) => scroll
+            .tell(rt, recorder, number, nogood.lits.as_slice())
+            .is_ok(),
+        _ => true,
+    }
+}
+
+/// The search has imported this nogood, if it was of use.
+pub(crate) fn note_import<P: Propagator>(
+    search: &Search<'_, P>,
+    recorder: Option<&Recorder>,
+    nogood: &Nogood,
+    used: bool,
+) {
+    match (recorder, search.imported_number()) {
+        (Some(recorder), Some(number)) if used => recorder.import(number, nogood.lits.as_slice()),
+        _ => {}
+    }
+}
+
+/// Seeks the lines of the nogoods that were imported, if a proof is wanted. Where memory is wanting for that, no line names them.
+pub(crate) fn find_imported<R: Wait>(rt: &R, shared: &Shared<'_>, recorder: Option<&Recorder>) {
+    if let (Some(scroll), Some(recorder)) = (shared.scroll, recorder) {
+        let _found = scroll.find_imported(rt, recorder);
     }
 }

@@ -34,13 +34,13 @@ loop-i-preserved g c =
     let lt : c.loop-i.i < length (listed c.args.entries.now) = omega (arith, c.loop-i-test.true, c.len-i-end.ensures) in
     subst (λ (l : List Nogood). ImportsAll l c.args.search.now c.import.new.self) (sym (take-next (listed c.args.entries.now) c.loop-i.i c.entry.result.now lt c.entry.ensures))
     (imports-push (take c.loop-i.i (listed c.args.entries.now)) c.entry.result.now c.args.search.now c.loop-i.search c.import.new.self c.loop-i.invariant
-    (imports-by c.loop-i.search c.import.new.self c.entry.result.now c.in_ok-_used._used c.in_ok-_used.ensures.counts c.in_ok-_used.ensures.ok))
+    (imports-by c.loop-i.search c.import.new.self c.entry.result.now c.in_ok-used.used c.in_ok-used.ensures.counts c.in_ok-used.ensures.ok))
 
-pub returns-in_err-_used-clause-err : goal.returns-in_err-_used-clause-err
-returns-in_err-_used-clause-err g c =
+pub returns-in_err-used-clause-err : goal.returns-in_err-used-clause-err
+returns-in_err-used-clause-err g c =
     always-err c.from_residual.result (Remembers c.args.search.now c.import.new.self)
     (forgotten-after (take c.loop-i.i (listed c.args.entries.now)) c.args.search.now c.loop-i.search c.import.new.self c.loop-i.invariant
-    (forgotten-leaves c.loop-i.search c.import.new.self c.in_err-_used.ensures.err))
+    (forgotten-leaves c.loop-i.search c.import.new.self c.in_err-used.ensures.err))
 
 pub returns-clause-ok : goal.returns-clause-ok
 returns-clause-ok g c =
