@@ -16,6 +16,7 @@ pub mod AssumeLaws
 pub mod BoundLaws
 pub mod FoundLaws
 pub mod JudgeLaws
+pub mod SetListLaws
 pub mod PromiseLaws
 pub mod StreamLaws
 pub mod RunLaws

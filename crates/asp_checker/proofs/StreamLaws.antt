@@ -2,6 +2,7 @@
 use Rattle.std.proofs.Common.{◌≡◌, ◌≢◌, ℕ, ◌+◌, Bool, true, false, ◌||◌, List, [], ◌∷◌, ◌++◌, codes, length, Option, None, Some, Result, Ok, Err, inl, inr, refl, sym, ap, subst, ◌∙◌, arith, append_assoc, append-nil}
 use Rattle.std.proofs.lemmas.List.{length_push}
 use Rattle.asp_model.specs.Sets.{Atoms}
+use Rattle.asp_model.specs.Models.{atoms_of}
 use Rattle.std.specs.Prelude.{Contains}
 use Rattle.std.specs.List.{list_any, AllByRecursion}
 use Rattle.std.proofs.lemmas.Bool.{false≢true}
@@ -197,8 +198,9 @@ so_far_broken p o h t first source now bytes old new s n =
     (broken p q new.line (t.count + 3) (begun_as _ _ q (omega arith) r.begun) r.confirmed (no_answers_yet p o) n.0 (omega (arith, r.counted))))
 
 pub all_read : (p : Program) (o : Sought) (h new : Propagator) (t : Tally) (first now : Option (List ℕ)) (bytes : List ℕ) (w : Window) →
-    AreSoFar p o h t first now bytes (held w) → IsUnbroken w.line → IsNone IsLine line_text w.line → new ≡ h → AreAllRead p o new t first now bytes w
-all_read p o h new t first now bytes w s u none e = rw e (record { entries = s.entries; lines = record { right = s.right; unbroken = u; no_line = none }; moved = s.moved })
+    h.found.atoms ≡ atoms_of p → AreSoFar p o h t first now bytes (held w) → IsUnbroken w.line → IsNone IsLine line_text w.line → new ≡ h →
+    AreAllRead p o new t first now bytes w
+all_read p o h new t first now bytes w atoms s u none e = rw e (record { atoms = atoms; entries = s.entries; lines = record { right = s.right; unbroken = u; no_line = none }; moved = s.moved })
 
 -- ---- answers
 pub listed_first : (p : Program) (o : Sought) (entries : List Line) (count : ℕ) (whole : Bool) (found : List Atoms) (source : Option (List ℕ)) (w : Window) →

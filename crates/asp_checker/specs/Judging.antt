@@ -137,15 +137,16 @@ HasFoundFault p o before S why.NotListed = ⊥
 -- ---- what is kept while lines are judged
 -- what was gathered
 abbrev pub gathered_by : Propagator → Gathered
-gathered_by h = gathered h.found.items h.rows
+gathered_by h = gathered h.found.sets h.rows
 
--- It is over the program's variables, and the values follow from what is known for good.
+-- It is over the program's variables and atoms, and the values follow from what is known for good.
 pub record IsReady (p : Program) (o : Sought) (h : Propagator) : Type 0 where
   pub kept : AllByRecursion (AreOf p) h.rows.kept.items
   pub placed : AllByRecursion (AreOf p) h.rows.placed.items
+  pub atoms : h.found.atoms ≡ atoms_of p
   pub levels : HasLevels p h.bound
-  pub bound : cost_of_bound h.bound ≡ bound_by p o h.found.items
-  pub root : IsRoot p (known_with p (avoided o h.found.items) h.rows.kept.items h.bound) h.values
+  pub bound : cost_of_bound h.bound ≡ bound_by p o h.found.sets
+  pub root : IsRoot p (known_with p (avoided o h.found.sets) h.rows.kept.items h.bound) h.values
 
 -- A line is right, and was gathered; whether it says that there is nothing else.
 pub record IsGatheredNow (p : Program) (o : Sought) (old new : Propagator) (l : Line) (closing : Bool) : Type 0 where

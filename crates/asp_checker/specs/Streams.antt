@@ -4,6 +4,7 @@ use Rattle.std.specs.List.{list_any, AllByRecursion}
 use Rattle.std.specs.declared.result.Result.TheVariants.{Ok, Err}
 use Rattle.std.specs.declared.option.Option.TheVariants.{None, Some}
 use Rattle.asp_model.specs.Sets.{Atoms}
+use Rattle.asp_model.specs.Models.{atoms_of}
 use Rattle.asp_model.specs.declared.program.Program.{Program}
 use Rattle.asp_model.specs.Sound.{IsSound}
 use Rattle.asp_proof.specs.declared.proof.Line.{Line}
@@ -127,7 +128,7 @@ pub record AreLinesBefore (p : Program) (o : Sought) (entries : List Line) (coun
 -- The lines so far are right, and what was read has this behind them.
 pub record AreSoFar (p : Program) (o : Sought) (h : Propagator) (t : Tally) (source now : Option (List ℕ)) (first behind : List ℕ) : Type 0 where
   pub entries : List Line
-  pub right : AreLinesBefore p o entries t.count t.whole h.found.items
+  pub right : AreLinesBefore p o entries t.count t.whole h.found.sets
   pub gathered : gathered_by h ≡ gathered_after (first_gathered p) entries
   pub moved : Moves source now first (front_of (proof_of o entries []) ++ behind)
 
@@ -139,8 +140,9 @@ pub record AreLinesOf (p : Program) (o : Sought) (entries : List Line) (count : 
 
 -- The same of what was read.
 pub record AreAllRead (p : Program) (o : Sought) (h : Propagator) (t : Tally) (source now : Option (List ℕ)) (first : List ℕ) (w : Window) : Type 0 where
+  pub atoms : h.found.atoms ≡ atoms_of p
   pub entries : List Line
-  pub lines : AreLinesOf p o entries t.count t.whole h.found.items w
+  pub lines : AreLinesOf p o entries t.count t.whole h.found.sets w
   pub moved : Moves source now first (front_of (proof_of o entries []) ++ held w)
 
 -- what judging the lines came to

@@ -1,5 +1,5 @@
 //! The nogoods of the sets found. They are kept as sets: each nogood has a literal for each atom.
-ghost use Rattle.std.specs.Prelude.{◌≡◌, ◌+◌, ◌++◌, length, map};
+ghost use Rattle.std.specs.Prelude.{◌≡◌, ◌+◌, ◌<◌, ◌++◌, [], length, map, slice_index_or};
 ghost use Rattle.std.specs.List.{AllByRecursion};
 ghost use Rattle.asp_vars.specs.Numbering.{var_count};
 ghost use Rattle.asp_checker.specs.Lines.{AreOf, nogood_of_answer};
@@ -7,26 +7,28 @@ ghost use Rattle.asp_checker.specs.Looks.{IsSeen, IsVisited};
 ghost use Rattle.asp_checker.specs.Sweeps.{IsSwept};
 
 use crate::nogoods::{Look, Visit, with};
+use crate::set_list::SetSlice;
 use crate::sweep::{later, sweep};
-use asp_member::merge::{skip, stands_at};
-use asp_model::interp::Interp;
 use asp_vars::assign::Assign;
 use asp_vars::compiled::Compiled;
 use asp_vars::lit::Lit;
 use asp_vars::nogood::Lits;
 
-/// What the nogood by which a set found differs from all others says under the values.
-pub(crate) fn look_at_answer(compiled: &Compiled, answer: &Interp, values: &Assign) -> Look
-    requires { length values.now ≡ var_count compiled.now + 1 }
-    ensures { IsSeen values.now (nogood_of_answer compiled.now answer.now) result }
+/// What the nogood by which a set found, at this place, differs from all others says under the values.
+pub(crate) fn look_at_answer(
+    compiled: &Compiled,
+    listed: &SetSlice<'_>,
+    place: usize,
+    values: &Assign,
+) -> Look
+    requires within { place < length listed.now }
+    requires size { length values.now ≡ var_count compiled.now + 1 }
+    ensures { IsSeen values.now (nogood_of_answer compiled.now (slice_index_or listed.now place [])) result }
 {
     let atoms = compiled.atoms().as_slice();
-    let set = answer.as_slice();
     let mut look = Look::Violated;
-    let mut place = 0;
     for at in 0..compiled.atom_count() {
-        place = skip(set, place, atoms[at]);
-        let truth = stands_at(set, place, atoms[at]);
+        let truth = listed.has(place, at, atoms[at]);
         look = with(look, Lit::new(at as u32 + 1, truth), values);
         if let Look::Fixpoint = look {
             return Look::Fixpoint;
@@ -35,12 +37,18 @@ pub(crate) fn look_at_answer(compiled: &Compiled, answer: &Interp, values: &Assi
     look
 }
 
-/// Looks at the nogood of a set found, and sets the value that it implies.
-fn visit_answer(compiled: &Compiled, answer: &Interp, values: &mut Assign) -> Visit
-    requires { length values.old ≡ var_count compiled.now + 1 }
-    ensures { IsVisited values.old values.new (nogood_of_answer compiled.now answer.now) result }
+// Looks at the nogood of the set found at a place, and sets the value that it implies.
+fn visit_answer(
+    compiled: &Compiled,
+    listed: &SetSlice<'_>,
+    place: usize,
+    values: &mut Assign,
+) -> Visit
+    requires within { place < length listed.now }
+    requires size { length values.old ≡ var_count compiled.now + 1 }
+    ensures { IsVisited values.old values.new (nogood_of_answer compiled.now (slice_index_or listed.now place [])) result }
 {
-    match look_at_answer(compiled, answer, values) {
+    match look_at_answer(compiled, listed, place, values) {
         Look::Fixpoint => Visit::Fixpoint,
         Look::Violated => Visit::Conflict,
         Look::Unit(lit) => {
@@ -51,13 +59,17 @@ fn visit_answer(compiled: &Compiled, answer: &Interp, values: &mut Assign) -> Vi
 }
 
 /// Looks at the nogood of each set found once, and sets the values that they imply, one after another.
-pub(crate) fn sweep_answers(compiled: &Compiled, listed: &[Interp], values: &mut Assign) -> Visit
+pub(crate) fn sweep_answers(
+    compiled: &Compiled,
+    listed: &SetSlice<'_>,
+    values: &mut Assign,
+) -> Visit
     requires { length values.old ≡ var_count compiled.now + 1 }
     ensures { IsSwept values.old values.new (map (nogood_of_answer compiled.now) listed.now) result }
 {
     let mut came_to = Visit::Fixpoint;
-    for answer in listed {
-        let visit = visit_answer(compiled, answer, values);
+    for place in 0..listed.len() {
+        let visit = visit_answer(compiled, listed, place, values);
         if let Visit::Conflict = visit {
             return Visit::Conflict;
         }
@@ -69,7 +81,7 @@ pub(crate) fn sweep_answers(compiled: &Compiled, listed: &[Interp], values: &mut
 /// Looks at all nogoods once, those of the sets found last.
 pub(crate) fn sweep_all(
     compiled: &Compiled,
-    listed: &[Interp],
+    listed: &SetSlice<'_>,
     rows: &[Lits],
     values: &mut Assign,
 ) -> Visit
@@ -87,7 +99,7 @@ pub(crate) fn sweep_all(
 /// The same, and last the nogoods in places.
 pub(crate) fn sweep_known(
     compiled: &Compiled,
-    listed: &[Interp],
+    listed: &SetSlice<'_>,
     rows: &[Lits],
     placed: &[Lits],
     values: &mut Assign,

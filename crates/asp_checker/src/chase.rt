@@ -14,9 +14,9 @@ use crate::answers::look_at_answer;
 use crate::bounds::{Bound, reaches_bound};
 use crate::hints::Hint;
 use crate::nogoods::{Look, look_at};
+use crate::set_list::SetSlice;
 use crate::watches::Watches;
 use crate::weights::is_broken;
-use asp_model::interp::Interp;
 use asp_vars::assign::Assign;
 use asp_vars::compiled::Compiled;
 use asp_vars::lit::Lit;
@@ -66,7 +66,7 @@ fn look(compiled: &Compiled, rows: &[Lits], place: usize, values: &mut Assign) -
 // Looks at the nogood of the set found at a place, if there is one, and sets the value that it implies.
 fn look_at_listed(
     compiled: &Compiled,
-    listed: &[Interp],
+    listed: &SetSlice<'_>,
     place: usize,
     values: &mut Assign,
 ) -> Found
@@ -78,7 +78,7 @@ fn look_at_listed(
     }
     set_implied(
         compiled,
-        look_at_answer(compiled, &listed[place], values),
+        look_at_answer(compiled, listed, place, values),
         values,
     )
 }
@@ -203,7 +203,7 @@ fn conflict_by(
 // Looks at what a hint names.
 fn follow(
     compiled: &Compiled,
-    listed: &[Interp],
+    listed: &SetSlice<'_>,
     rows: &[Lits],
     placed: &[Lits],
     bound: &Option<Bound>,
@@ -243,7 +243,7 @@ fn add(trail: &mut Vec<Lit>, found: Found) -> Result<(), AllocError>
 /// has the literals that came to hold.
 pub(crate) fn chase(
     compiled: &Compiled,
-    listed: &[Interp],
+    listed: &SetSlice<'_>,
     rows: &[Lits],
     placed: &[Lits],
     bound: &Option<Bound>,

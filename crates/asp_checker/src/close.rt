@@ -11,7 +11,7 @@ use crate::answers::sweep_known;
 use crate::blocks::{implied, is_blocked};
 use crate::bounds::Bound;
 use crate::nogoods::Visit;
-use asp_model::interp::Interp;
+use crate::set_list::SetSlice;
 use asp_vars::assign::Assign;
 use asp_vars::compiled::Compiled;
 use asp_vars::nogood::Lits;
@@ -38,7 +38,7 @@ fn look_further(compiled: &Compiled, bound: &Option<Bound>, values: &mut Assign)
 // Looks at all nogoods, and then at the weight bodies and the bound, and sets values that are implied.
 fn step(
     compiled: &Compiled,
-    listed: &[Interp],
+    listed: &SetSlice<'_>,
     rows: &[Lits],
     placed: &[Lits],
     bound: &Option<Bound>,
@@ -60,7 +60,7 @@ fn step(
 /// Adds the values that unit propagation gives, and says whether it leads to a conflict.
 pub fn close(
     compiled: &Compiled,
-    listed: &[Interp],
+    listed: &SetSlice<'_>,
     rows: &[Lits],
     placed: &[Lits],
     bound: &Option<Bound>,

@@ -15,8 +15,8 @@ use crate::chase::chase;
 use crate::close::close;
 use crate::root::{copied, undo};
 use crate::rows::Before;
+use crate::set_list::SetSlice;
 use crate::watches::Watches;
-use asp_model::interp::Interp;
 use asp_vars::assign::Assign;
 use asp_vars::compiled::Compiled;
 use asp_vars::lit::Lit;
@@ -61,7 +61,7 @@ fn assume_all(values: &mut Assign, trail: &mut Vec<Lit>, lits: &[Lit]) -> Result
 fn confirms_plainly(
     alloc: Global,
     compiled: &Compiled,
-    listed: &[Interp],
+    listed: &SetSlice<'_>,
     rows: &[Lits],
     placed: &[Lits],
     bound: &Option<Bound>,

@@ -12,6 +12,7 @@ use crate::judge::{Why, costs_alike, following};
 use crate::lines::are_atoms;
 use crate::propagator::{Propagator, Read};
 use crate::root::learn_bound;
+use crate::set_list::{SetList, SetSlice};
 use asp_model::cost::{Cost, cost_of};
 use asp_model::interp::Interp;
 use asp_proof::proof::Sought;
@@ -34,17 +35,16 @@ fn betters(cost: &Cost, other: &Cost) -> bool
 fn betters_last(
     alloc: Global,
     compiled: &Compiled,
-    before: &[Interp],
+    before: &SetList,
     set: &Interp,
 ) -> Result<bool, AllocError>
-    ensures yes { IfOk result (λ yes. yes ≡ true → IsCheaper compiled.now Sought.Best before.now set.now) }
-    ensures no { IfOk result (λ yes. yes ≡ false → IsCheaper compiled.now Sought.Best before.now set.now → ⊥) }
+    ensures yes { IfOk result (λ yes. yes ≡ true → IsCheaper compiled.now Sought.Best before.now.sets set.now) }
+    ensures no { IfOk result (λ yes. yes ≡ false → IsCheaper compiled.now Sought.Best before.now.sets set.now → ⊥) }
 {
-    let count = before.len();
-    if count == 0 {
+    if before.len() == 0 {
         return Ok(true);
     }
-    let last = &before[count - 1];
+    let last = before.last();
     let program = compiled.program();
     let cost = cost_of(alloc, program, set)?;
     let least = cost_of(alloc, program, last)?;
@@ -56,11 +56,11 @@ fn is_cheaper(
     alloc: Global,
     compiled: &Compiled,
     sought: Sought,
-    before: &[Interp],
+    before: &SetList,
     set: &Interp,
 ) -> Result<bool, AllocError>
-    ensures yes { IfOk result (λ yes. yes ≡ true → IsCheaper compiled.now sought before.now set.now) }
-    ensures no { IfOk result (λ yes. yes ≡ false → IsCheaper compiled.now sought before.now set.now → ⊥) }
+    ensures yes { IfOk result (λ yes. yes ≡ true → IsCheaper compiled.now sought before.now.sets set.now) }
+    ensures no { IfOk result (λ yes. yes ≡ false → IsCheaper compiled.now sought before.now.sets set.now → ⊥) }
 {
     match sought {
         Sought::All | Sought::Optima => Ok(true),
@@ -73,10 +73,10 @@ fn fault_of_found(
     alloc: Global,
     compiled: &Compiled,
     sought: Sought,
-    before: &[Interp],
+    before: &SetList,
     set: &Interp,
 ) -> Result<Option<Why>, AllocError>
-    ensures { IfOk result (λ o. MatchOption o (MayBeFound compiled.now sought before.now set.now) (HasFoundFault compiled.now sought before.now set.now)) }
+    ensures { IfOk result (λ o. MatchOption o (MayBeFound compiled.now sought before.now.sets set.now) (HasFoundFault compiled.now sought before.now.sets set.now)) }
 {
     let _set = set.as_slice();
     if !are_atoms(compiled, set) {
@@ -97,16 +97,16 @@ fn fault_of_found(
 fn tighten_first(
     alloc: Global,
     compiled: &Compiled,
-    before: &[Interp],
+    before: &SetList,
     set: &Interp,
     bound: &mut Option<Bound>,
 ) -> Result<(), AllocError>
     requires levels { HasLevels compiled.now bound.old }
-    requires cost { cost_of_bound bound.old ≡ bound_by compiled.now Sought.Optima before.now }
+    requires cost { cost_of_bound bound.old ≡ bound_by compiled.now Sought.Optima before.now.sets }
     ensures levels { OnOk result (HasLevels compiled.now bound.new) }
-    ensures cost { OnOk result (cost_of_bound bound.new ≡ bound_by compiled.now Sought.Optima (before.now ++ set.now ∷ [])) }
+    ensures cost { OnOk result (cost_of_bound bound.new ≡ bound_by compiled.now Sought.Optima (before.now.sets ++ set.now ∷ [])) }
 {
-    if !before.is_empty() {
+    if before.len() > 0 {
         return Ok(());
     }
     *bound = Bound::above(alloc, compiled, set)?;
@@ -118,14 +118,14 @@ fn tighten(
     alloc: Global,
     compiled: &Compiled,
     sought: Sought,
-    before: &[Interp],
+    before: &SetList,
     set: &Interp,
     bound: &mut Option<Bound>,
 ) -> Result<(), AllocError>
     requires levels { HasLevels compiled.now bound.old }
-    requires cost { cost_of_bound bound.old ≡ bound_by compiled.now sought before.now }
+    requires cost { cost_of_bound bound.old ≡ bound_by compiled.now sought before.now.sets }
     ensures levels { OnOk result (HasLevels compiled.now bound.new) }
-    ensures cost { OnOk result (cost_of_bound bound.new ≡ bound_by compiled.now sought (before.now ++ set.now ∷ [])) }
+    ensures cost { OnOk result (cost_of_bound bound.new ≡ bound_by compiled.now sought (before.now.sets ++ set.now ∷ [])) }
 {
     match sought {
         Sought::All => Ok(()),
@@ -139,12 +139,12 @@ fn tighten(
 }
 
 /// The sets that are to be avoided: those found, but not those that are to be bettered.
-pub(crate) fn avoided(sought: Sought, found: &[Interp]) -> &[Interp]
-    ensures { result.now ≡ avoided sought found.now }
+pub(crate) fn avoided<'a>(sought: Sought, found: &'a SetList) -> SetSlice<'a>
+    ensures { result ≡ avoided sought found.now.sets }
 {
     match sought {
-        Sought::All | Sought::Optima => found,
-        Sought::Best => &found[..0],
+        Sought::All | Sought::Optima => SetSlice::all(found),
+        Sought::Best => SetSlice::none(),
     }
 }
 
@@ -157,21 +157,27 @@ fn keep_found(
     set: Interp,
 ) -> Result<(), AllocError>
     requires ready { IsReady compiled.now sought known.old }
-    requires may { MayBeFound compiled.now sought known.old.found.items set }
+    requires may { MayBeFound compiled.now sought known.old.found.sets set }
     ensures ready { OnOk result (IsReady compiled.now sought known.new) }
-    ensures found { OnOk result (known.new.found.items ≡ known.old.found.items ++ set ∷ []) }
+    ensures found { OnOk result (known.new.found.sets ≡ known.old.found.sets ++ set ∷ []) }
     ensures rows { OnOk result (known.new.rows ≡ known.old.rows) }
 {
-    let before = known.found.as_slice();
-    tighten(alloc, compiled, sought, before, &set, &mut known.bound)?;
+    tighten(
+        alloc,
+        compiled,
+        sought,
+        &known.found,
+        &set,
+        &mut known.bound,
+    )?;
     known.watches.note(&set, known.found.len())?;
-    known.found.push(set)?;
-    let listed = avoided(sought, known.found.as_slice());
+    known.found.push(alloc, set)?;
+    let listed = avoided(sought, &known.found);
     let rows = known.rows.kept.as_slice();
     learn_bound(
         alloc,
         compiled,
-        listed,
+        &listed,
         rows,
         &known.bound,
         &mut known.watches,
@@ -191,9 +197,8 @@ pub(crate) fn take_found(
     ensures { IfOk result (IsLineTaken compiled.now sought known.old known.new (Line.Found change.now)) }
 {
     let alloc = known.watches.allocator();
-    let before = known.found.as_slice();
-    let set = following(alloc, before, change)?;
-    let fault = fault_of_found(alloc, compiled, sought, before, &set)?;
+    let set = following(alloc, &known.found, change)?;
+    let fault = fault_of_found(alloc, compiled, sought, &known.found, &set)?;
     match fault {
         Some(why) => Ok(Read::Wrong(why)),
         None => {

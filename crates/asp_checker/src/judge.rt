@@ -10,10 +10,11 @@ ghost use Rattle.asp_checker.specs.Judging.{IsInOrder, AreRightAnswers, IsRightA
 
 use crate::lines::are_atoms;
 use crate::members::{Order, is_stable_by};
+use crate::set_list::SetList;
 use asp_model::cost::{Cost, cost_of};
 use asp_model::holding::all_hold;
 use asp_model::interp::Interp;
-use asp_proof::changes::next_set;
+use asp_proof::changes::changed_set;
 use asp_proof::lines::answer;
 use asp_proof::proof::Sought;
 use asp_vars::compiled::Compiled;
@@ -70,20 +71,18 @@ fn comes_after(last: &Interp, set: &Interp) -> bool
 }
 
 // Whether the set comes after those before it.
-fn is_in_order(opt: bool, before: &[Interp], set: &Interp) -> bool
-    requires { AllPairs IsBefore before.now }
-    ensures yes { result ≡ true → IsInOrder opt before.now set.now }
-    ensures no { result ≡ false → IsInOrder opt before.now set.now → ⊥ }
+fn is_in_order(opt: bool, before: &SetList, set: &Interp) -> bool
+    requires { AllPairs IsBefore before.now.sets }
+    ensures yes { result ≡ true → IsInOrder opt before.now.sets set.now }
+    ensures no { result ≡ false → IsInOrder opt before.now.sets set.now → ⊥ }
 {
-    let count = before.len();
-    if count == 0 {
+    if before.len() == 0 {
         return true;
     }
     if opt {
         return false;
     }
-    let at = count - 1;
-    comes_after(&before[at], set)
+    comes_after(before.last(), set)
 }
 
 // Whether a set of the program's atoms is an answer.
@@ -128,17 +127,16 @@ fn is_same(cost: &Cost, other: &Cost) -> bool
 fn costs_as_first(
     alloc: Global,
     compiled: &Compiled,
-    before: &[Interp],
+    before: &SetList,
     set: &Interp,
 ) -> Result<bool, AllocError>
-    ensures yes { IfOk result (λ yes. yes ≡ true → CostsAlike compiled.now Sought.Optima before.now set.now) }
-    ensures no { IfOk result (λ yes. yes ≡ false → CostsAlike compiled.now Sought.Optima before.now set.now → ⊥) }
+    ensures yes { IfOk result (λ yes. yes ≡ true → CostsAlike compiled.now Sought.Optima before.now.sets set.now) }
+    ensures no { IfOk result (λ yes. yes ≡ false → CostsAlike compiled.now Sought.Optima before.now.sets set.now → ⊥) }
 {
-    let count = before.len();
-    if count == 0 {
+    if before.len() == 0 {
         return Ok(true);
     }
-    let first = &before[0];
+    let first = before.first();
     let program = compiled.program();
     let cost = cost_of(alloc, program, set)?;
     let least = cost_of(alloc, program, first)?;
@@ -150,11 +148,11 @@ pub(crate) fn costs_alike(
     alloc: Global,
     compiled: &Compiled,
     sought: Sought,
-    before: &[Interp],
+    before: &SetList,
     set: &Interp,
 ) -> Result<bool, AllocError>
-    ensures yes { IfOk result (λ yes. yes ≡ true → CostsAlike compiled.now sought before.now set.now) }
-    ensures no { IfOk result (λ yes. yes ≡ false → CostsAlike compiled.now sought before.now set.now → ⊥) }
+    ensures yes { IfOk result (λ yes. yes ≡ true → CostsAlike compiled.now sought before.now.sets set.now) }
+    ensures no { IfOk result (λ yes. yes ≡ false → CostsAlike compiled.now sought before.now.sets set.now → ⊥) }
 {
     match sought {
         Sought::All | Sought::Best => Ok(true),
@@ -167,12 +165,12 @@ fn fault_of_answer(
     alloc: Global,
     compiled: &Compiled,
     sought: Sought,
-    before: &[Interp],
+    before: &SetList,
     set: &Interp,
     order: &mut Order,
 ) -> Result<Option<Why>, AllocError>
-    requires { AreRightAnswers compiled.now sought before.now }
-    ensures { IfOk result (λ o. MatchOption o (IsRightAnswer compiled.now sought before.now set.now) (HasAnswerFault compiled.now sought before.now set.now)) }
+    requires { AreRightAnswers compiled.now sought before.now.sets }
+    ensures { IfOk result (λ o. MatchOption o (IsRightAnswer compiled.now sought before.now.sets set.now) (HasAnswerFault compiled.now sought before.now.sets set.now)) }
 {
     if !is_in_order(is_best(sought), before, set) {
         return Ok(Some(Why::Order));
@@ -202,16 +200,15 @@ pub enum Listed {
     Other,
 }
 
-/// The set that comes after these by this change. It has no room for more atoms.
+/// The set that comes after these by this change.
 pub(crate) fn following(
     alloc: Global,
-    before: &[Interp],
+    before: &SetList,
     change: &Interp,
 ) -> Result<Interp, AllocError>
-    ensures { IfOk result (λ set. set ≡ changed (last_of before.now) change.now) }
+    ensures { IfOk result (λ set. set ≡ changed (last_of before.now.sets) change.now) }
 {
-    let set = next_set(alloc, before, change)?;
-    set.copy()
+    changed_set(alloc, before.last().as_slice(), change.as_slice())
 }
 
 /// Reads a line that may be an answer's, by what it changes of the one before it, and judges the answer behind those before it.
@@ -219,23 +216,24 @@ pub(crate) fn read_answer(
     alloc: Global,
     compiled: &Compiled,
     sought: Sought,
-    answers: &mut Vec<Interp>,
+    answers: &mut SetList,
     order: &mut Order,
     bytes: &[u8],
 ) -> Result<Listed, AllocError>
-    requires { AreRightAnswers compiled.now sought answers.old.items }
-    ensures { IfOk result (IsAnswerRead compiled.now sought answers.old.items answers.new.items bytes.now) }
+    requires atoms { answers.old.atoms ≡ atoms_of compiled.now }
+    requires right { AreRightAnswers compiled.now sought answers.old.sets }
+    ensures read { IfOk result (IsAnswerRead compiled.now sought answers.old.sets answers.new.sets bytes.now) }
+    ensures atoms { answers.new.atoms ≡ answers.old.atoms }
 {
     let Some(change) = answer(alloc, bytes)? else {
         return Ok(Listed::Other);
     };
-    let before = answers.as_slice();
-    let set = following(alloc, before, &change)?;
-    let fault = fault_of_answer(alloc, compiled, sought, before, &set, order)?;
+    let set = following(alloc, answers, &change)?;
+    let fault = fault_of_answer(alloc, compiled, sought, answers, &set, order)?;
     match fault {
         Some(why) => Ok(Listed::Wrong(why)),
         None => {
-            answers.push(set)?;
+            answers.push(alloc, set)?;
             Ok(Listed::Right)
         }
     }

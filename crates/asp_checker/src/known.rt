@@ -16,6 +16,7 @@ use crate::loops::is_loop;
 use crate::propagator::{Propagator, Read};
 use crate::root::{first_root, learn};
 use crate::rows::{Before, Rows};
+use crate::set_list::SetList;
 use crate::watches::Watches;
 use asp_complete::completion::completion;
 use asp_model::interp::Interp;
@@ -59,7 +60,7 @@ pub(crate) fn first_known(alloc: Global, compiled: &Compiled) -> Result<Propagat
     let mut watches = Watches::new(alloc, compiled)?;
     let values = first_root(alloc, compiled, kept.as_slice(), &mut watches)?;
     Ok(Propagator {
-        found: Vec::new(alloc),
+        found: SetList::new(alloc, compiled)?,
         bound: None,
         rows: Rows {
             kept,
@@ -129,12 +130,12 @@ fn keep_for_good(
 {
     let alloc = known.watches.allocator();
     known.rows.kept.push(lits)?;
-    let listed = avoided(sought, known.found.as_slice());
+    let listed = avoided(sought, &known.found);
     let rows = known.rows.kept.as_slice();
     learn(
         alloc,
         compiled,
-        listed,
+        &listed,
         rows,
         &known.bound,
         &mut known.watches,
@@ -181,8 +182,9 @@ fn follows(
     ensures same { OnOk result (gathered_by known.new ≡ gathered_by known.old) }
 {
     let alloc = known.watches.allocator();
+    let listed = avoided(sought, &known.found);
     let before = Before {
-        listed: avoided(sought, known.found.as_slice()),
+        listed: &listed,
         kept: known.rows.kept.as_slice(),
         placed: known.rows.placed.as_slice(),
         bound: &known.bound,

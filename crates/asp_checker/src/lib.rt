@@ -27,6 +27,7 @@ mod rows;
 pub mod run;
 mod scales;
 mod seek;
+pub mod set_list;
 mod stream;
 pub mod sweep;
 pub mod watches;

@@ -1,41 +1,48 @@
 //! What was promised where sets were found: that they are listed, or the last of them, where one answer that none betters is sought.
-ghost use Rattle.std.specs.Prelude.{◌≡◌, true, false, Contains};
+ghost use Rattle.std.specs.Prelude.{◌≡◌, true, false, map, Contains};
 ghost use Rattle.std.specs.List.{AllByRecursion};
+ghost use Rattle.asp_model.specs.Sets.{Atoms};
+ghost use Rattle.asp_rows.specs.Listed.{AreRows, IsRowOf};
 ghost use Rattle.asp_checker.specs.Right.{promised};
 ghost use Rattle.asp_checker.specs.Judging.{AreSorted};
 
-use asp_model::interp::Interp;
+use crate::set_list::SetList;
 use asp_proof::proof::Sought;
+use asp_rows::row::Row;
 
-// Whether the set is among these, which are in order.
-fn is_listed(listed: &[Interp], set: &Interp) -> bool
-    requires { AreSorted listed.now }
-    ensures yes { result ≡ true → Contains listed.now set.now }
-    ensures no { result ≡ false → Contains listed.now set.now → ⊥ }
+// Whether a row's set is among those listed, which are in order.
+fn is_listed(listed: &SetList, row: &Row) -> bool
+    requires row { IsRowOf listed.now.atoms row.now }
+    requires order { AreSorted listed.now.sets }
+    ensures yes { result ≡ true → Contains listed.now.sets row.now.set }
+    ensures no { result ≡ false → Contains listed.now.sets row.now.set → ⊥ }
 {
-    match listed.binary_search(set) {
+    let _atoms = listed.atoms().as_slice();
+    match listed.rows().binary_search(row) {
         Ok(_) => true,
         Err(_) => false,
     }
 }
 
-// Whether each of the sets is among these, which are in order.
-fn are_listed(listed: &[Interp], sets: &[Interp]) -> bool
-    requires { AreSorted listed.now }
-    ensures yes { result ≡ true → AllByRecursion (Contains listed.now) sets.now }
-    ensures no { result ≡ false → AllByRecursion (Contains listed.now) sets.now → ⊥ }
+// Whether each row's set is among those listed, which are in order.
+fn are_listed(listed: &SetList, rows: &[Row]) -> bool
+    requires rows { AreRows listed.now.atoms rows.now }
+    requires order { AreSorted listed.now.sets }
+    ensures yes { result ≡ true → AllByRecursion (Contains listed.now.sets) (map (λ row. row.set) rows.now) }
+    ensures no { result ≡ false → AllByRecursion (Contains listed.now.sets) (map (λ row. row.set) rows.now) → ⊥ }
 {
-    for set in sets {
-        if !is_listed(listed, set) {
+    for row in rows {
+        if !is_listed(listed, row) {
             return false;
         }
     }
     true
 }
 
-// Of the sets found those that are to be listed.
-fn promised(sought: Sought, found: &[Interp]) -> &[Interp]
-    ensures { result.now ≡ promised sought found.now }
+// Of the rows of the sets found those that are to be listed.
+fn promised(sought: Sought, found: &[Row]) -> &[Row]
+    ensures sets { map (λ row. row.set) result.now ≡ promised sought (map (λ row. row.set) found.now) }
+    ensures rows { (atoms : Atoms) → AreRows atoms found.now → AreRows atoms result.now }
 {
     let count = found.len();
     match sought {
@@ -50,10 +57,11 @@ fn promised(sought: Sought, found: &[Interp]) -> &[Interp]
 }
 
 /// Whether what was promised is among these sets, which are in order.
-pub(crate) fn is_kept(sought: Sought, found: &[Interp], listed: &[Interp]) -> bool
-    requires { AreSorted listed.now }
-    ensures yes { result ≡ true → AllByRecursion (Contains listed.now) (promised sought found.now) }
-    ensures no { result ≡ false → AllByRecursion (Contains listed.now) (promised sought found.now) → ⊥ }
+pub(crate) fn is_kept(sought: Sought, found: &SetList, listed: &SetList) -> bool
+    requires atoms { found.now.atoms ≡ listed.now.atoms }
+    requires order { AreSorted listed.now.sets }
+    ensures yes { result ≡ true → AllByRecursion (Contains listed.now.sets) (promised sought found.now.sets) }
+    ensures no { result ≡ false → AllByRecursion (Contains listed.now.sets) (promised sought found.now.sets) → ⊥ }
 {
-    are_listed(listed, promised(sought, found))
+    are_listed(listed, promised(sought, found.rows()))
 }

@@ -4,15 +4,15 @@ ghost use Rattle.std.specs.Prelude.{◌≡◌};
 use crate::bounds::Bound;
 use crate::judge::Why;
 use crate::rows::Rows;
+use crate::set_list::SetList;
 use crate::watches::Watches;
-use asp_model::interp::Interp;
 use asp_vars::assign::Assign;
 
 /// What unit propagation works on.
 #[derive(Drop)]
 pub struct Propagator {
     /// The sets found, in their order.
-    pub(crate) found: Vec<Interp>,
+    pub(crate) found: SetList,
     /// The cost that is to be bettered.
     pub(crate) bound: Option<Bound>,
     /// The nogoods of the completion and of the lines.
@@ -25,8 +25,8 @@ pub struct Propagator {
 
 impl Propagator {
     /// The sets found. All else is dropped.
-    pub(crate) fn into_found(self) -> Vec<Interp>
-        ensures { result.items ≡ self.found.items }
+    pub(crate) fn into_found(self) -> SetList
+        ensures { result ≡ self.found }
     {
         let Propagator {
             found,

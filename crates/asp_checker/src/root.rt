@@ -10,8 +10,8 @@ ghost use Rattle.asp_checker.specs.Chasing.{IsRoot, AreTakenBack};
 
 use crate::bounds::Bound;
 use crate::chase::chase;
+use crate::set_list::SetSlice;
 use crate::watches::Watches;
-use asp_model::interp::Interp;
 use asp_vars::assign::Assign;
 use asp_vars::compiled::Compiled;
 use asp_vars::lit::{Lit, Var};
@@ -22,7 +22,7 @@ use std::alloc::{AllocError, Global};
 fn settle(
     alloc: Global,
     compiled: &Compiled,
-    listed: &[Interp],
+    listed: &SetSlice<'_>,
     rows: &[Lits],
     bound: &Option<Bound>,
     watches: &mut Watches,
@@ -60,7 +60,8 @@ pub(crate) fn first_root(
 {
     let mut values = Assign::new(alloc, compiled.vars())?;
     watches.add_all(&values, compiled.vars(), rows)?;
-    settle(alloc, compiled, &[], rows, &None, watches, &mut values)?;
+    let listed = SetSlice::none();
+    settle(alloc, compiled, &listed, rows, &None, watches, &mut values)?;
     Ok(values)
 }
 
@@ -68,7 +69,7 @@ pub(crate) fn first_root(
 pub(crate) fn learn(
     alloc: Global,
     compiled: &Compiled,
-    listed: &[Interp],
+    listed: &SetSlice<'_>,
     rows: &[Lits],
     bound: &Option<Bound>,
     watches: &mut Watches,
@@ -89,7 +90,7 @@ pub(crate) fn learn(
 pub(crate) fn learn_bound(
     alloc: Global,
     compiled: &Compiled,
-    listed: &[Interp],
+    listed: &SetSlice<'_>,
     rows: &[Lits],
     bound: &Option<Bound>,
     watches: &mut Watches,

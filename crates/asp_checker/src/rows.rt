@@ -1,7 +1,7 @@
 //! The nogoods that are known while a proof's lines are judged.
 
 use crate::bounds::Bound;
-use asp_model::interp::Interp;
+use crate::set_list::SetSlice;
 use asp_vars::nogood::Lits;
 
 /// The nogoods of the completion and of the lines.
@@ -17,7 +17,7 @@ pub struct Rows {
 #[derive(Clone, Copy)]
 pub struct Before<'a> {
     /// The sets found that are avoided.
-    pub listed: &'a [Interp],
+    pub listed: &'a SetSlice<'a>,
     /// The nogoods that are known for good.
     pub kept: &'a [Lits],
     /// The nogoods in places.

@@ -30,6 +30,9 @@ struct Scale {
     // The weights of the literals that hold, and of those that don't fail.
     low: i64,
     high: i64,
+    // The same of the literals that stay when all is taken back.
+    kept_low: i64,
+    kept_high: i64,
     // Whether it is to be looked at.
     is_touched: bool,
 }
@@ -44,6 +47,8 @@ pub(crate) struct Scales {
     starts: Vec<usize>,
     // The literals that were counted and may be taken back.
     counted: Vec<Lit>,
+    // How many of their parts were weighed.
+    weighed: usize,
     // The scales that are to be looked at.
     touched: Vec<u32>,
 }
@@ -65,6 +70,8 @@ fn empty_scale(compiled: &Compiled, body: usize, bound: i32) -> Scale
         most,
         low: 0,
         high,
+        kept_low: 0,
+        kept_high: high,
         is_touched: false,
     }
 }
@@ -104,6 +111,7 @@ impl Scales {
             parts: Vec::new(alloc),
             starts: Vec::new(alloc),
             counted: Vec::new(alloc),
+            weighed: 0,
             touched: Vec::new(alloc),
         };
         let mut parts = lists(alloc, 2 * (compiled.vars() as usize + 1))?;
@@ -168,26 +176,35 @@ impl Scales {
         Ok(())
     }
 
-    // Marks a scale that is to be looked at.
-    fn touch(&mut self, compiled: &Compiled, values: &Assign, at: u32) -> Result<(), AllocError>
-        requires { length values.now ≡ var_count compiled.now + 1 }
-    {
-        let Some(scale) = self.scales.get_mut(at as usize) else {
-            return Ok(());
-        };
-        if !scale.is_touched && speaks(scale, value_of(compiled, values, scale.held)) {
-            scale.is_touched = true;
-            self.touched.push(at)?;
-        }
-        Ok(())
-    }
-
-    // Adds a weight to the sum of the literals that hold, and takes one from that of those that don't fail.
+    // Adds a weight to the sum of a scale's literals that hold, and takes one from that of those that don't fail.
     fn weigh(&mut self, at: u32, more: i64, less: i64) {
         if let Some(scale) = self.scales.get_mut(at as usize) {
             scale.low = scale.low.saturating_add(more);
             scale.high = scale.high.saturating_sub(less);
         }
+    }
+
+    // The same. Where the scale says something then, it is marked, to be looked at.
+    fn touch(
+        &mut self,
+        compiled: &Compiled,
+        values: &Assign,
+        at: u32,
+        more: i64,
+        less: i64,
+    ) -> Result<(), AllocError>
+        requires { length values.now ≡ var_count compiled.now + 1 }
+    {
+        let Some(scale) = self.scales.get_mut(at as usize) else {
+            return Ok(());
+        };
+        scale.low = scale.low.saturating_add(more);
+        scale.high = scale.high.saturating_sub(less);
+        if !scale.is_touched && speaks(scale, value_of(compiled, values, scale.held)) {
+            scale.is_touched = true;
+            self.touched.push(at)?;
+        }
+        Ok(())
     }
 
     fn part(&self, place: usize) -> Part {
@@ -223,15 +240,16 @@ impl Scales {
             return Ok(());
         }
         self.counted.push(lit)?;
+        let own = end.saturating_sub(start);
+        let others = other_end.saturating_sub(other_start);
+        self.weighed = self.weighed.saturating_add(own).saturating_add(others);
         for place in start..end {
             let part = self.part(place);
-            self.weigh(part.scale, part.weight, 0);
-            self.touch(compiled, values, part.scale)?;
+            self.touch(compiled, values, part.scale, part.weight, 0)?;
         }
         for place in other_start..other_end {
             let part = self.part(place);
-            self.weigh(part.scale, 0, part.weight);
-            self.touch(compiled, values, part.scale)?;
+            self.touch(compiled, values, part.scale, 0, part.weight)?;
         }
         Ok(())
     }
@@ -250,18 +268,59 @@ impl Scales {
         }
     }
 
-    /// Takes back what was counted and doesn't hold any more. Nothing is to be looked at.
-    pub(crate) fn restart(&mut self, values: &Assign, vars: u32)
+    // Keeps what a literal counts.
+    fn keep(&mut self, lit: Lit) {
+        let (start, end) = self.places(lit);
+        for place in start..end {
+            let part = self.part(place);
+            if let Some(scale) = self.scales.get_mut(part.scale as usize) {
+                scale.kept_low = scale.kept_low.saturating_add(part.weight);
+            }
+        }
+        let (start, end) = self.places(lit.complement());
+        for place in start..end {
+            let part = self.part(place);
+            if let Some(scale) = self.scales.get_mut(part.scale as usize) {
+                scale.kept_high = scale.kept_high.saturating_sub(part.weight);
+            }
+        }
+    }
+
+    // Keeps what the counted literals count that hold, and takes back one by one what the others do, if that is wanted.
+    fn take_back(&mut self, values: &Assign, vars: u32, singly: bool)
         requires { length values.now ≡ vars + 1 }
     {
         for _ in 0..u64::MAX {
             let Some(lit) = self.counted.pop() else {
                 break;
             };
-            if !holds(values, vars, lit) {
+            if holds(values, vars, lit) {
+                self.keep(lit);
+            } else if singly {
                 self.discount(lit);
             }
         }
+    }
+
+    // Takes back all but what is kept.
+    fn reset(&mut self) {
+        for scale in self.scales.as_mut_slice() {
+            scale.low = scale.kept_low;
+            scale.high = scale.kept_high;
+        }
+    }
+
+    /// Takes back what was counted and doesn't hold any more, one by one or, where that is less, in all scales at once. Nothing is to be
+    /// looked at.
+    pub(crate) fn restart(&mut self, values: &Assign, vars: u32)
+        requires { length values.now ≡ vars + 1 }
+    {
+        let singly = self.weighed < self.scales.len();
+        self.take_back(values, vars, singly);
+        if !singly {
+            self.reset();
+        }
+        self.weighed = 0;
         for scale in &self.touched {
             if let Some(scale) = self.scales.get_mut(*scale as usize) {
                 scale.is_touched = false;

@@ -1,13 +1,13 @@
 //! Which of the sets found is to be looked at: one whose atoms have these values, but for one of them at most. This is advice alone, as the
 //! watches are.
-ghost use Rattle.std.specs.Prelude.{◌≡◌, ◌+◌, length};
+ghost use Rattle.std.specs.Prelude.{◌≡◌, ◌+◌, ◌≤◌, length};
 ghost use Rattle.asp_vars.specs.Numbering.{var_count};
 
 use asp_model::interp::Interp;
 use asp_model::program::Atom;
 use asp_vars::assign::Assign;
 use asp_vars::compiled::Compiled;
-use asp_vars::lit::Var;
+use asp_vars::lit::{Lit, Var};
 use std::alloc::{AllocError, Global};
 use std::collections::HashMap;
 
@@ -19,8 +19,6 @@ pub(crate) struct Seeker {
     // Two atoms that had no value when they were looked at last: as long as that is so, no set found says anything.
     one: Var,
     two: Var,
-    // The set that is sought.
-    wanted: Vec<Atom>,
 }
 
 fn is_open(compiled: &Compiled, values: &Assign, var: Var) -> bool
@@ -29,36 +27,56 @@ fn is_open(compiled: &Compiled, values: &Assign, var: Var) -> bool
     var > 0 && var <= compiled.vars() && values.value(var).is_none()
 }
 
-// The first atom's variable of these that has no value, but for one; 0 where there is none.
-fn next_open(compiled: &Compiled, values: &Assign, start: usize, end: usize, but: Var) -> Var
-    requires { length values.now ≡ var_count compiled.now + 1 }
+// The first variable of these that has no value, but for one; 0 where there is none.
+fn next_open(values: &Assign, start: Var, end: Var, but: Var) -> Var
+    requires { end ≤ length values.now }
 {
-    for at in start..end {
-        let var = u32::try_from(at).unwrap_or(0);
-        if var != but && is_open(compiled, values, var) {
+    for var in start..end {
+        if var != but && values.value(var).is_none() {
             return var;
         }
     }
     0
 }
 
-// The same of all atoms, from a variable on and then before it.
+// The same of all atoms' variables, from one on and then before it.
 fn some_open(compiled: &Compiled, values: &Assign, start: Var, but: Var) -> Var
     requires { length values.now ≡ var_count compiled.now + 1 }
 {
-    let start = start as usize;
-    match next_open(compiled, values, start, compiled.atom_count() + 1, but) {
-        0 => next_open(compiled, values, 1, start, but),
+    let end = compiled.atom_count() as u32 + 1;
+    match next_open(values, start.max(1), end, but) {
+        0 => next_open(values, 1, start.min(end), but),
         var => var,
     }
 }
 
-// A number by which sets are told apart, but for a few.
+// A number for an atom, all of whose bits depend on all of its own.
+fn mixed(atom: Atom) -> u64 {
+    let mut code = u64::from(atom).wrapping_mul(11_400_714_819_323_198_485);
+    code = (code ^ (code >> 30)).wrapping_mul(13_787_848_793_156_543_929);
+    code = (code ^ (code >> 27)).wrapping_mul(10_723_151_780_598_845_931);
+    code ^ (code >> 31)
+}
+
+// A number by which sets are told apart, but for a few: the sum of their atoms' numbers.
 fn code(set: &[Atom]) -> u64 {
-    let mut code: u64 = 14_695_981_039_346_656_037;
+    let mut code: u64 = 0;
     for atom in set {
-        code = (code ^ u64::from(*atom)).wrapping_mul(1_099_511_628_211);
-        code ^= code >> 29;
+        code = code.wrapping_add(mixed(*atom));
+    }
+    code
+}
+
+// The same of the set of the atoms that are true.
+fn code_of_true(compiled: &Compiled, values: &Assign) -> u64
+    requires { length values.now ≡ var_count compiled.now + 1 }
+{
+    let atoms = compiled.atoms().as_slice();
+    let mut code: u64 = 0;
+    for at in 0..compiled.atom_count() {
+        if values.holds(Lit::new(at as u32 + 1, true)) {
+            code = code.wrapping_add(mixed(atoms[at]));
+        }
     }
     code
 }
@@ -70,7 +88,6 @@ impl Seeker {
             places: HashMap::new(alloc),
             one: 0,
             two: 0,
-            wanted: Vec::new(alloc),
         }
     }
 
@@ -80,37 +97,29 @@ impl Seeker {
         Ok(())
     }
 
-    // Seeks the set of the atoms that are true, where the open one has this value.
-    fn seek(
-        &mut self,
-        compiled: &Compiled,
-        values: &Assign,
-        open: Var,
-        truth: bool,
-    ) -> Result<Option<usize>, AllocError>
+    // The place of a set of this code.
+    fn place(&self, code: u64) -> Option<usize> {
+        self.places.get(&code).copied()
+    }
+
+    // The place of the set of the atoms that are true, or of that with the open one too.
+    fn seek_open(&self, compiled: &Compiled, values: &Assign, open: Var) -> Option<usize>
         requires { length values.now ≡ var_count compiled.now + 1 }
     {
-        self.wanted.clear();
-        for (at, atom) in compiled.atoms().as_slice().iter().enumerate() {
-            let var = u32::try_from(at).unwrap_or(0).saturating_add(1);
-            let is_true = if var == open {
-                truth
-            } else {
-                var <= compiled.vars() && values.value(var) == Some(true)
-            };
-            if is_true {
-                self.wanted.push(*atom)?;
-            }
+        let code = code_of_true(compiled, values);
+        let at = (open as usize).saturating_sub(1);
+        let more = match compiled.atoms().as_slice().get(at) {
+            Some(atom) => mixed(*atom),
+            None => 0,
+        };
+        match self.place(code.wrapping_add(more)) {
+            Some(place) => Some(place),
+            None => self.place(code),
         }
-        Ok(self.places.get(&code(self.wanted.as_slice())).copied())
     }
 
     /// The place of a set found whose nogood may be hit, or imply a value.
-    pub(crate) fn near(
-        &mut self,
-        compiled: &Compiled,
-        values: &Assign,
-    ) -> Result<Option<usize>, AllocError>
+    pub(crate) fn near(&mut self, compiled: &Compiled, values: &Assign) -> Option<usize>
         requires { length values.now ≡ var_count compiled.now + 1 }
     {
         if !is_open(compiled, values, self.one) || self.one == self.two {
@@ -124,15 +133,10 @@ impl Seeker {
             is_open(compiled, values, one),
             is_open(compiled, values, two),
         ) {
-            (true, true) => Ok(None),
-            (false, false) => self.seek(compiled, values, 0, true),
-            (is_one, _) => {
-                let open = if is_one { one } else { two };
-                match self.seek(compiled, values, open, true)? {
-                    Some(place) => Ok(Some(place)),
-                    None => self.seek(compiled, values, open, false),
-                }
-            }
+            (true, true) => None,
+            (false, false) => self.place(code_of_true(compiled, values)),
+            (true, false) => self.seek_open(compiled, values, one),
+            (false, true) => self.seek_open(compiled, values, two),
         }
     }
 }

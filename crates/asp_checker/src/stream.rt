@@ -2,6 +2,7 @@
 ghost use Rattle.std.specs.Prelude.{◌≡◌, ℕ, ◌+◌, ◌++◌, ◌||◌, ◌^◌, ◌<◌, ◌≤◌, [], Bool, List, false, codes, length, map, IsErrOf, OnOk};
 ghost use Rattle.std.specs.List.{list_any};
 ghost use Rattle.asp_io.specs.Causes.{Rose};
+ghost use Rattle.asp_model.specs.Models.{atoms_of};
 ghost use Rattle.asp_model.specs.Sound.{IsSound};
 ghost use Rattle.asp_model.specs.declared.program.Program.{Program};
 ghost use Rattle.asp_vars.specs.Numbering.{literal_of};
@@ -23,8 +24,8 @@ use crate::lines::assumptions;
 use crate::members::Order;
 use crate::promise::is_kept;
 use crate::propagator::{Propagator, Read};
+use crate::set_list::SetList;
 use asp_io::Source;
-use asp_model::interp::Interp;
 use asp_proof::LineReader;
 use asp_proof::lines::{last, mode};
 use asp_proof::proof::Sought;
@@ -116,16 +117,18 @@ fn judge_answers<S: Source>(
     compiled: &Compiled,
     sought: Sought,
     count: usize,
-    answers: &mut Vec<Interp>,
+    answers: &mut SetList,
     reader: &mut LineReader,
     source: &mut S,
 ) -> Result<Option<Why>, CheckError>
     requires few { count ≤ 2 ^ 60 }
-    requires none { answers.old.items ≡ [] }
+    requires atoms { answers.old.atoms ≡ atoms_of compiled.now }
+    requires none { answers.old.sets ≡ [] }
     ensures says { (entries : List Line) (whole : Bool) (found : List (List ℕ)) → AreLinesOf compiled.now sought entries count whole found reader.old →
-        JudgesAnswers compiled.now sought entries count answers.new.items (S.left source.old) (S.left source.new)
+        JudgesAnswers compiled.now sought entries count answers.new.sets (S.left source.old) (S.left source.new)
         (front_of (proof_of sought entries []) ++ held reader.old) reader.new result }
-    ensures order { OnOk result (AreSorted answers.new.items) }
+    ensures order { OnOk result (AreSorted answers.new.sets) }
+    ensures atoms { answers.new.atoms ≡ answers.old.atoms }
     ensures cause { IsErrOf result read_fault → Rose (S.faults source.old) (S.faults source.new) }
     ensures quiet { ¬ IsErrOf result read_fault → S.faults source.new ≡ S.faults source.old }
 {
@@ -164,11 +167,12 @@ fn fault_of_end(
     part: bool,
     whole: bool,
     sought: Sought,
-    found: &[Interp],
-    answers: &[Interp],
+    found: &SetList,
+    answers: &SetList,
 ) -> Option<Why>
-    requires { AreSorted answers.now }
-    ensures { (p : Program) (q : Proof) → q.sought ≡ sought → q.answers ≡ answers.now → whole ≡ list_any (closes p) q.lines → found.now ≡ found_of p q.lines →
+    requires atoms { found.now.atoms ≡ answers.now.atoms }
+    requires order { AreSorted answers.now.sets }
+    ensures { (p : Program) (q : Proof) → q.sought ≡ sought → q.answers ≡ answers.now.sets → whole ≡ list_any (closes p) q.lines → found.now.sets ≡ found_of p q.lines →
         IsEndJudged p q part result }
 {
     if part {
@@ -217,25 +221,27 @@ fn judge_last<S: Source>(
 fn judge_end<S: Source>(
     sought: Sought,
     tally: Tally,
-    found: &[Interp],
-    answers: &[Interp],
+    found: &SetList,
+    answers: &SetList,
     reader: &mut LineReader,
     source: &mut S,
 ) -> Result<Judgement, CheckError>
     requires few { tally.count ≤ 2 ^ 60 }
-    requires order { AreSorted answers.now }
-    ensures says { (p : Program) (entries : List Line) → IsSound p → AreLinesBefore p sought entries tally.count tally.whole found.now →
-        AreAtEnd p sought entries answers.now reader.old →
-        Comes (S.left source.old) (front_of (proof_of sought entries answers.now) ++ held reader.old) (λ text. Judges p text result) }
+    requires atoms { found.now.atoms ≡ answers.now.atoms }
+    requires order { AreSorted answers.now.sets }
+    ensures says { (p : Program) (entries : List Line) → IsSound p → AreLinesBefore p sought entries tally.count tally.whole found.now.sets →
+        AreAtEnd p sought entries answers.now.sets reader.old →
+        Comes (S.left source.old) (front_of (proof_of sought entries answers.now.sets) ++ held reader.old) (λ text. Judges p text result) }
     ensures cause { IsErrOf result read_fault → Rose (S.faults source.old) (S.faults source.new) }
     ensures quiet { ¬ IsErrOf result read_fault → S.faults source.new ≡ S.faults source.old }
 {
-    let number = tally.count + answers.len() + 3;
+    let count = answers.len();
+    let number = tally.count + count + 3;
     let found_last = last(reader.line());
     match found_last {
         Some(part) => {
             let fault = fault_of_end(part, tally.whole, sought, found, answers);
-            judge_last(part, fault, answers.len(), number, reader, source)
+            judge_last(part, fault, count, number, reader, source)
         }
         None => Err(refused(number)),
     }
@@ -247,18 +253,19 @@ fn judge_list<S: Source>(
     compiled: &Compiled,
     sought: Sought,
     tally: Tally,
-    found: &[Interp],
+    found: &SetList,
     reader: &mut LineReader,
     source: &mut S,
 ) -> Result<Judgement, CheckError>
     requires sound { IsSound compiled.now }
     requires few { tally.count ≤ 2 ^ 60 }
-    ensures says { (entries : List Line) → AreLinesOf compiled.now sought entries tally.count tally.whole found.now reader.old →
+    requires atoms { found.now.atoms ≡ atoms_of compiled.now }
+    ensures says { (entries : List Line) → AreLinesOf compiled.now sought entries tally.count tally.whole found.now.sets reader.old →
         Comes (S.left source.old) (front_of (proof_of sought entries []) ++ held reader.old) (λ text. Judges compiled.now text result) }
     ensures cause { IsErrOf result read_fault → Rose (S.faults source.old) (S.faults source.new) }
     ensures quiet { ¬ IsErrOf result read_fault → S.faults source.new ≡ S.faults source.old }
 {
-    let mut answers = Vec::new(alloc);
+    let mut answers = SetList::new(alloc, compiled)?;
     let fault = judge_answers(
         alloc,
         compiled,
@@ -270,10 +277,7 @@ fn judge_list<S: Source>(
     )?;
     match fault {
         Some(why) => Ok(Judgement::No(why, tally.count + answers.len() + 3)),
-        None => {
-            let listed = answers.as_slice();
-            judge_end(sought, tally, found, listed, reader, source)
-        }
+        None => judge_end(sought, tally, found, &answers, reader, source),
     }
 }
 
@@ -305,10 +309,7 @@ fn judge_body<S: Source>(
     let found = known.into_found();
     match judged? {
         Some(why) => Ok(Judgement::No(why, tally.count + 3)),
-        None => {
-            let found = found.as_slice();
-            judge_list(alloc, compiled, sought, tally, found, reader, source)
-        }
+        None => judge_list(alloc, compiled, sought, tally, &found, reader, source),
     }
 }
 

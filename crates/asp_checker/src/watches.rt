@@ -11,6 +11,7 @@ use crate::named::Named;
 use crate::open::{another, another_from, first_open};
 use crate::scales::Scales;
 use crate::seek::Seeker;
+use crate::set_list::SetSlice;
 use asp_model::interp::Interp;
 use asp_vars::assign::Assign;
 use asp_vars::compiled::Compiled;
@@ -666,14 +667,14 @@ impl Watches {
     fn next_answer(
         &mut self,
         compiled: &Compiled,
-        listed: &[Interp],
+        listed: &SetSlice<'_>,
         values: &Assign,
         held: usize,
-    ) -> Result<Option<usize>, AllocError>
+    ) -> Option<usize>
         requires { length values.now ≡ var_count compiled.now + 1 }
     {
-        if listed.is_empty() || self.sought_at == Some(held) {
-            return Ok(None);
+        if listed.len() == 0 || self.sought_at == Some(held) {
+            return None;
         }
         self.sought_at = Some(held);
         self.seeker.near(compiled, values)
@@ -683,7 +684,7 @@ impl Watches {
     pub(crate) fn next(
         &mut self,
         compiled: &Compiled,
-        listed: &[Interp],
+        listed: &SetSlice<'_>,
         rows: &[Lits],
         placed: &[Lits],
         bound: &Option<Bound>,
@@ -716,7 +717,7 @@ impl Watches {
         if let Some(hint) = self.hints.pop() {
             return Ok(Some(hint));
         }
-        if let Some(place) = self.next_answer(compiled, listed, values, trail.len())? {
+        if let Some(place) = self.next_answer(compiled, listed, values, trail.len()) {
             return Ok(Some(Hint::Answer(place)));
         }
         match self.next_of_retired(rows, values, compiled.vars())? {

@@ -1,5 +1,6 @@
 use Rattle.std.proofs.Common.{sym, ap, subst, ◌∙◌}
 use Rattle.std.specs.List.{AllByRecursion}
+use Rattle.asp_rows.specs.Listed.{Listed}
 use Rattle.asp_vars.proofs.VarLaws.{completion_vars}
 use Rattle.asp_checker.specs.Lines.{AreOf, bound_by}
 use Rattle.asp_checker.proofs.JudgeLaws.{no_bound}
@@ -15,8 +16,9 @@ returns-clause-ready c =
     λ o. record {
       kept = subst (AllByRecursion (AreOf p)) (sym c.in_ok-kept.ensures) (completion_vars p);
       placed = rw c.new-3.ensures.items tt;
+      atoms = ap (λ (l : Listed). l.atoms) c.in_ok-new.ensures;
       levels = tt;
-      bound = no_bound p o ∙ ap (bound_by p o) (sym c.new-2.ensures.items);
-      root = root_first_known p o c.new-2.result.items c.as_slice.result.now c.in_ok-kept.kept.items c.in_ok-values.values c.new-2.ensures.items
+      bound = no_bound p o ∙ ap (λ (l : Listed). bound_by p o l.sets) (sym c.in_ok-new.ensures);
+      root = root_first_known p o c.in_ok-new.field-0.sets c.as_slice.result.now c.in_ok-kept.kept.items c.in_ok-values.values (ap (λ (l : Listed). l.sets) c.in_ok-new.ensures)
           c.as_slice.ensures.value c.in_ok-values.ensures;
     }

@@ -12,6 +12,7 @@ returns-clause-ready c =
       kept = ready.kept;
       placed = subst (AllByRecursion (AreOf p)) (sym c.in_ok-put.ensures)
           (put_each (AreOf p) c.args.known.now.rows.placed.items (c.args.place - 1) c.in_ok-own.own ready.placed (subst (AreOf p) (sym c.in_ok-own.ensures) c.requires.lits));
+      atoms = ready.atoms;
       levels = ready.levels;
       bound = ready.bound;
       root = ready.root;

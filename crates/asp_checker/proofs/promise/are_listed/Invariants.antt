@@ -1,7 +1,8 @@
-use Rattle.std.proofs.Common.{take}
+use Rattle.std.proofs.Common.{map, take}
 use Rattle.std.specs.Prelude.{Contains}
 use Rattle.std.specs.List.{AllByRecursion}
+use Rattle.asp_rows.specs.declared.row.Row.{Row}
 use Rattle.asp_checker.proofs.promise.are_listed.Given as goal
 
-abbrev pub invariant-loop-set : goal.invariant-loop-set
-invariant-loop-set l = AllByRecursion (Contains l.listed) (take l.set-index l.sets)
+abbrev pub invariant-loop-row : goal.invariant-loop-row
+invariant-loop-row l = AllByRecursion (Contains l.listed.sets) (map (λ (r : Row). r.set) (take l.row-index l.rows))

@@ -21,7 +21,7 @@ returns-then-not-whole c = λ p q o a w f. (c.if-part.false, sym w ∙ c.if-not-
 pub returns-then-is_kept : goal.returns-then-is_kept
 returns-then-is_kept c = λ p q o a w f e. record {
   whole = sym w ∙ c.if-not-whole.false;
-  kept = kept_as c.args.sought q.sought c.args.found.now _ c.args.answers.now q.answers o f a (c.if-is_kept.ensures.yes refl);
+  kept = kept_as c.args.sought q.sought c.args.found.now.sets _ c.args.answers.now.sets q.answers o f a (c.if-is_kept.ensures.yes refl);
 }
 
 pub returns : goal.returns
@@ -29,6 +29,6 @@ returns c = λ p q o a w f. (
   c.if-part.false,
   (
     sym w ∙ c.if-not-whole.false,
-    λ h. c.if-is_kept.ensures.no refl (kept_as q.sought c.args.sought _ c.args.found.now q.answers c.args.answers.now (sym o) (sym f) (sym a) h),
+    λ h. c.if-is_kept.ensures.no refl (kept_as q.sought c.args.sought _ c.args.found.now.sets q.answers c.args.answers.now.sets (sym o) (sym f) (sym a) h),
   ),
 )

@@ -1,8 +1,8 @@
-use Rattle.std.proofs.Common.{List, [], ◌++◌, sym, subst, ◌∙◌}
+use Rattle.std.proofs.Common.{[], ◌++◌, sym, ap, subst, ◌∙◌}
 use Rattle.std.proofs.lemmas.Result.{err_from_is_err_and}
 use Rattle.asp_proof.specs.Walk.{front_of, proof_of}
 use Rattle.asp_proof.proofs.StreamLaws.{comes_back}
-use Rattle.asp_model.specs.Sets.{Atoms}
+use Rattle.asp_rows.specs.Listed.{Listed}
 use Rattle.asp_checker.specs.Streams.{AreLinesOf}
 use Rattle.asp_checker.proofs.StreamLaws.{no_memory}
 use Rattle.asp_checker.proofs.stream.judge_body.Goals as goal
@@ -27,5 +27,9 @@ returns-clause-says g c =
     let h = rw c.in-None.is at c.in_ok-why.ensures.says in
     comes_back (g.S.Source.left c.args.source.now) (g.S.Source.left c.judge_lines-judged.new.source) _ _ _ h.moved
     (c.judge_list.ensures.says h.entries
-    (subst (λ (found : List Atoms). AreLinesOf p c.args.sought h.entries t.count t.whole found c.judge_lines-judged.new.reader)
-    (sym (c.as_slice-found.ensures.value ∙ c.into_found-found.ensures)) h.lines))
+    (subst (λ (found : Listed). AreLinesOf p c.args.sought h.entries t.count t.whole found.sets c.judge_lines-judged.new.reader) (sym c.into_found-found.ensures) h.lines))
+
+pub judge_list-requires-clause-atoms : goal.judge_list-requires-clause-atoms
+judge_list-requires-clause-atoms g c =
+    let h = rw c.in-None.is at c.in_ok-why.ensures.says in
+    ap (λ (found : Listed). found.atoms) c.into_found-found.ensures ∙ h.atoms

@@ -52,7 +52,7 @@ returns-in-Other-clause-says g c =
     so_far_at c.args.compiled.now c.args.sought c.lines.known c.lines.tally (g.S.Source.left c.args.source.now) (g.S.Source.left c.lines.source)
     (g.S.Source.left c.next_line.new.source) _ c.lines.reader c.next_line.new.reader c.lines.invariant.so_far n in
     all_read c.args.compiled.now c.args.sought c.lines.known c.read_line.new.known c.lines.tally (g.S.Source.left c.args.source.now)
-    (g.S.Source.left c.next_line.new.source) _ c.next_line.new.reader at n.0 h.0 h.1
+    (g.S.Source.left c.next_line.new.source) _ c.next_line.new.reader c.lines.invariant.ready.atoms at n.0 h.0 h.1
 
 pub lines-preserved : goal.lines-preserved
 lines-preserved g c =
