@@ -37,4 +37,5 @@ loop-row-preserved c =
     (subst (λ (r : Row). Contains L r.set) c.row-item.is (c.if-not-is_listed.ensures.yes refl), tt)))
 
 pub returns-clause-yes : goal.returns-clause-yes
-returns-clause-yes c = λ e. subst (λ (xs : List Row). AllByRecursion (Contains c.args.listed.now.sets) (map (λ (r : Row). r.set) xs)) (take_all c.loop-row.row-index c.args.rows.now c.loop-row-test.false) c.loop-row.invariant
+returns-clause-yes c = λ e. subst (λ (xs : List Row). AllByRecursion (Contains c.args.listed.now.sets) (map (λ (r : Row). r.set) xs))
+    (take_all c.loop-row.row-index c.args.rows.now c.loop-row-test.false) c.loop-row.invariant
