@@ -17,8 +17,8 @@ returns-clause-yes c =
     let one : c.in_ok-cost.cost ≡ cost p c.args.set.now = c.in_ok-cost.ensures ∙ ap (λ (q : Program). cost q c.args.set.now) c.program-program.ensures.program in
     let other : c.in_ok-least.least ≡ cost p T = c.in_ok-least.ensures ∙ ap (λ (q : Program). cost q T) c.program-program.ensures.program in
     λ e. later_cheaper p c.args.before.now.sets c.args.set.now T (length c.args.before.now.sets - 1) size
-      (last_is c.args.before.now.sets (length c.args.before.now.sets - 1) T size c.last-last.ensures)
-      (betters_as c.in_ok-cost.cost (cost p c.args.set.now) c.in_ok-least.least (cost p T) c.betters.result one other c.betters.ensures ∙ e)
+    (last_is c.args.before.now.sets (length c.args.before.now.sets - 1) T size c.last-last.ensures)
+    (betters_as c.in_ok-cost.cost (cost p c.args.set.now) c.in_ok-least.least (cost p T) c.betters.result one other c.betters.ensures ∙ e)
 
 pub returns-clause-no : goal.returns-clause-no
 returns-clause-no c =

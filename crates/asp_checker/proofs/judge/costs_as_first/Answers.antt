@@ -15,8 +15,8 @@ returns-clause-yes c =
     let one : c.in_ok-cost.cost ≡ cost p c.args.set.now = c.in_ok-cost.ensures ∙ ap (λ (q : Program). cost q c.args.set.now) c.program-program.ensures.program in
     let other : c.in_ok-least.least ≡ cost p T = c.in_ok-least.ensures ∙ ap (λ (q : Program). cost q T) c.program-program.ensures.program in
     λ e. later_alike p c.args.before.now.sets c.args.set.now T (omega (arith, c.len.ensures.count, c.if-len-eq0.false))
-      (first_is c.args.before.now.sets T (omega (arith, c.len.ensures.count, c.if-len-eq0.false)) c.first-first.ensures)
-      (sym one ∙ c.is_same.ensures.yes e ∙ other)
+    (first_is c.args.before.now.sets T (omega (arith, c.len.ensures.count, c.if-len-eq0.false)) c.first-first.ensures)
+    (sym one ∙ c.is_same.ensures.yes e ∙ other)
 
 pub returns-clause-no : goal.returns-clause-no
 returns-clause-no c =
@@ -25,5 +25,5 @@ returns-clause-no c =
     let one : c.in_ok-cost.cost ≡ cost p c.args.set.now = c.in_ok-cost.ensures ∙ ap (λ (q : Program). cost q c.args.set.now) c.program-program.ensures.program in
     let other : c.in_ok-least.least ≡ cost p T = c.in_ok-least.ensures ∙ ap (λ (q : Program). cost q T) c.program-program.ensures.program in
     λ e h. not_alike p c.args.before.now.sets c.args.set.now T (omega (arith, c.len.ensures.count, c.if-len-eq0.false))
-      (first_is c.args.before.now.sets T (omega (arith, c.len.ensures.count, c.if-len-eq0.false)) c.first-first.ensures)
-      (λ same. c.is_same.ensures.no e (one ∙ same ∙ sym other)) h
+    (first_is c.args.before.now.sets T (omega (arith, c.len.ensures.count, c.if-len-eq0.false)) c.first-first.ensures)
+    (λ same. c.is_same.ensures.no e (one ∙ same ∙ sym other)) h
