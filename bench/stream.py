@@ -1,11 +1,11 @@
 #!/usr/bin/env python3
 """Answers as they come: an enumeration with --stream, without it, and by clasp -n 0, each writing to a pipe that is read at once.
 
-usage: bench/stream.py [--program PROGRAM] [--texts FOLDER] [--markdown] [NAME..]
+usage: bench/stream.py [--program PROGRAM] [--workers N] [--texts FOLDER] [--markdown] [NAME..]
 
-For each side: the seconds by the clock until the first answer is out, all seconds of processors, and the greatest memory in MB. It
-asserts nothing but that the bytes with the option and without it are the same. What doesn't end in 120 seconds of a processor is
-shown with ">". NAME is a program of programs.py, or free-N: N free atoms."""
+For each side: the seconds by the clock until the first answer is out, all seconds of processors, or with several workers by the clock,
+and the greatest memory in MB. It asserts nothing but that the bytes with the option and without it are the same. What doesn't end in
+120 seconds of a processor for each worker is shown with ">". NAME is a program of programs.py, or free-N: N free atoms."""
 import argparse
 import hashlib
 import os
@@ -40,12 +40,11 @@ def text_of(name, folder):
     return path
 
 
-def limited():
-    resource.setrlimit(resource.RLIMIT_CPU, (LIMIT, LIMIT))
+def measured(words, path, workers):
+    """The seconds to the first answer, all of the processors or by the clock, the memory in MB, whether it ended, and a sum of the bytes."""
+    def limited():
+        resource.setrlimit(resource.RLIMIT_CPU, (LIMIT * workers, LIMIT * workers))
 
-
-def measured(words, path):
-    """The seconds to the first answer, all of the processors, the memory in MB, whether it ended, and a sum of the bytes."""
     with open(path, "rb") as text:
         begun = time.monotonic()
         run = subprocess.Popen(words, stdin=text, stdout=subprocess.PIPE, stderr=subprocess.DEVNULL, preexec_fn=limited)
@@ -57,14 +56,15 @@ def measured(words, path):
         total.update(piece)
     _, status, usage = os.wait4(run.pid, 0)
     ended = os.WIFEXITED(status)
-    return first, usage.ru_utime + usage.ru_stime, usage.ru_maxrss / 1024, ended, total.hexdigest()
+    seconds = usage.ru_utime + usage.ru_stime if workers == 1 else time.monotonic() - begun
+    return first, seconds, usage.ru_maxrss / 1024, ended, total.hexdigest()
 
 
-def row(name, program, folder):
-    path = text_of(name, folder)
-    sides = [measured([program, "--mode", "enum", "--stream"], path), measured([program, "--mode", "enum"], path)]
-    if shutil.which("clasp"):
-        sides.append(measured(["clasp", "-n", "0"], path))
+def row(name, program, folder, workers):
+    path, count = text_of(name, folder), str(workers)
+    held = [program, "--mode", "enum", "--workers", count]
+    commands = [[*held, "--stream"], held, *([["clasp", "-n", "0", "-t", count]] if shutil.which("clasp") else [])]
+    sides = [measured(words, path, workers) for words in commands]
     same = "yes" if sides[0][4] == sides[1][4] else "NO" if sides[0][3] and sides[1][3] else "-"
     cells = [f"{first:.2f} {'' if ended else '> '}{seconds:.2f} {memory:.0f}" if first is not None else f"- {'' if ended else '> '}{seconds:.2f} {memory:.0f}" for first, seconds, memory, ended, _ in sides]
     return [name, *" ".join(cells).replace("> ", ">").split(), same]
@@ -73,6 +73,7 @@ def row(name, program, folder):
 def main():
     parser = argparse.ArgumentParser(description=__doc__, formatter_class=argparse.RawDescriptionHelpFormatter)
     parser.add_argument("--program", default="build/aspenum")
+    parser.add_argument("--workers", type=int, default=1)
     parser.add_argument("--texts")
     parser.add_argument("--markdown", action="store_true")
     parser.add_argument("names", nargs="*")
@@ -84,7 +85,7 @@ def main():
         print("| " + " | ".join(head) + " |\n|" + "---|" * len(head) if given.markdown else " ".join(head))
         wrong = False
         for name in given.names or NAMES:
-            cells = row(name, os.path.abspath(given.program), folder)
+            cells = row(name, os.path.abspath(given.program), folder, given.workers)
             wrong |= cells[-1] == "NO"
             print("| " + " | ".join(cells) + " |" if given.markdown else " ".join(f"{it:>10}" for it in cells), flush=True)
     sys.exit(1 if wrong else 0)

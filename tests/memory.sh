@@ -138,6 +138,7 @@ free 14 > "$room/many"
 squeeze '1024 answers, as they come' "$room/free" --mode enum --stream
 squeeze 'the first 500 of 1024 answers' "$room/free" --mode enum --stream --models 500
 squeeze '16384 answers, as they come' "$room/many" --mode enum --stream
+squeeze '16384 answers, as they come, workers: 4' "$room/many" --mode enum --stream --workers 4
 squeeze '16384 optima, as they come' "$room/many" --mode opt --opt-all --stream
 for workers in 1 4 16 64; do
     squeeze "an optimum, workers: $workers" examples/independent_set.aspif --workers "$workers"

@@ -7,6 +7,7 @@ Of 2^40 answers the first 1,000 are read, and the pipe is closed: they are the r
 Programs with few answers and many have the same bytes and status with the option and without, also where the budget is spent.
 With --models N the first N answers are written, and no others: of 2^40 in less than ten seconds, of a program with few answers exactly
 the head of the whole list, and where the budget is spent before N at most of those that were found.
+Where no budget is given all this holds of four workers, too.
 All this holds of optima too, with --opt-all: of programs whose answers all cost the same, and of some where one in four does."""
 import os
 import subprocess
@@ -40,6 +41,7 @@ def priced_line(count, number):
 
 
 ENUM = ("--mode", "enum")
+BY_FOUR = ("--mode", "enum", "--workers", "4")
 OPTIMA = ("--mode", "opt", "--opt-all")
 
 
@@ -148,10 +150,14 @@ def mode_faults(mode, program, texts, cost, exponent):
 
 def faults():
     yield from mode_faults(ENUM, free, line, "", 0)
+    yield from mode_faults(BY_FOUR, free, line, "", 0)
     yield from mode_faults(OPTIMA, priced, priced_line, "Optimization: 1\n", 1)
     text = random_sat(60, 4.0, 5).decode()
     yield from budget_faults(text, ENUM)
     yield from budget_faults(text, OPTIMA)
+    for seed in range(3):
+        if not same(random_sat(24, 2.5, seed).decode(), *BY_FOUR):
+            yield f"{' '.join(BY_FOUR)}: other bytes of random clauses, seed {seed}"
     if not same("asp 1 0 0\n1 0 1 1 0 1 -1\n2 0 1 1 1\n0\n", *OPTIMA):
         yield "other bytes of a program without an optimum"
 

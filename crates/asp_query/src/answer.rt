@@ -9,7 +9,7 @@ ghost use Rattle.asp_unsat.specs.Cores.{blamed_by};
 ghost use Rattle.asp_query.specs.Kept.{IsBegun, IsFree, IsFresh, IsOver, IsQueryReport, IsWorkedThrough};
 ghost use Rattle.asp_query.specs.Turns.{ClosesAll, IsAsking};
 
-use crate::leaf::work_off;
+use crate::leaf::{Limits, work_off};
 use asp_book::book::Book;
 use asp_counts::counts::Counts;
 use asp_counts::watch::Watch;
@@ -31,7 +31,7 @@ fn work_off_all<P: Propagator, W: Watch>(
     literals: &[i32],
     search: &mut Search<'_, P>,
     fuel: &mut Fuel,
-    floor: u64,
+    limits: Limits,
     counts: &mut Counts,
     watch: &mut W,
 ) -> Result<bool, AllocError>
@@ -46,7 +46,7 @@ fn work_off_all<P: Propagator, W: Watch>(
         match book.take(0)? {
             None => return Ok(true),
             Some(leaf) => {
-                if !work_off(book, literals, leaf, search, fuel, floor, counts, watch)? {
+                if !work_off(book, literals, leaf, search, fuel, limits, counts, watch)? {
                     return Ok(false);
                 }
             }
@@ -54,12 +54,12 @@ fn work_off_all<P: Propagator, W: Watch>(
     }
 }
 
-// Works the board off with all units of the pool, but gives up when it took more of them than so many.
+// Works the board off with all units of the pool, but gives up beyond its limits.
 fn search_all<P: Propagator, W: Watch>(
     book: &mut Book,
     literals: &[i32],
     search: &mut Search<'_, P>,
-    most: u64,
+    limits: Limits,
     counts: &mut Counts,
     watch: &mut W,
 ) -> Result<bool, AllocError>
@@ -71,8 +71,7 @@ fn search_all<P: Propagator, W: Watch>(
 {
     let _lawful = book.journal();
     let mut fuel = book.lease(0, u64::MAX)?;
-    let floor = fuel.left().saturating_sub(most);
-    let done = work_off_all(book, literals, search, &mut fuel, floor, counts, watch)?;
+    let done = work_off_all(book, literals, search, &mut fuel, limits, counts, watch)?;
     if done {
         book.back(0, fuel);
     }
@@ -134,14 +133,14 @@ fn report(
 }
 
 /// What is found of a query, whose book has just begun, by a search that knows no answer. None where nothing can be said of it by this
-/// search, or it takes more than so many units.
+/// search, or it goes beyond its limits.
 pub(crate) fn answer<P: Propagator, W: Watch>(
     alloc: Global,
     compiled: &Compiled,
     book: Book,
     literals: &[i32],
     search: &mut Search<'_, P>,
-    most: u64,
+    limits: Limits,
     counts: &mut Counts,
     watch: &mut W,
 ) -> Result<Option<Report>, AllocError>
@@ -154,7 +153,7 @@ pub(crate) fn answer<P: Propagator, W: Watch>(
     ensures heard { W.IsAfter watch.old watch.new }
 {
     let mut book = book;
-    match search_all(&mut book, literals, search, most, counts, watch) {
+    match search_all(&mut book, literals, search, limits, counts, watch) {
         Ok(true) => {
             let report = report(alloc, compiled, book, literals)?;
             Ok(Some(report))

@@ -4,6 +4,7 @@ ghost use Rattle.asp_core.specs.Boards.{IsQuery, wanted};
 ghost use Rattle.asp_query.specs.Kept.{IsBegun, IsFree, IsFresh, IsQueryReport, all_stand, query_of};
 
 use crate::answer::answer;
+use crate::leaf::Limits;
 use asp_book::book::Book;
 use asp_core::goal::Goal;
 use asp_core::state::State;
@@ -132,14 +133,15 @@ impl<'a> KeptSearch<'a> {
     /// All answers of the program that have the query's literals, with so many units, or where there are none a core: literals of the
     /// program's assumptions and the query that no stable model has together. None where nothing can be said of the query by the search
     /// that is kept: an atom of the query doesn't stand in the program, a set was found that isn't the query's and which no clause rules
-    /// out, a conflict was met for which no unit was left, or more units were spent than a query takes at most. Then the query is to be
-    /// searched from scratch.
+    /// out, a conflict was met for which no unit was left, more units were spent than a query takes at most, or more answers were found
+    /// than there is room for. Then the query is to be searched from scratch, or in parts.
     ///
     /// Want of memory is the one error. What it does is added to the counts, and told after each step.
     pub fn ask<W: Watch>(
         &mut self,
         query: &[i32],
         budget: u64,
+        room: usize,
         counts: &mut Counts,
         watch: &mut W,
     ) -> Result<Option<Report>, AllocError>
@@ -153,8 +155,12 @@ impl<'a> KeptSearch<'a> {
         }
         let wanted = wanted_of(self.alloc, self.compiled, query)?;
         let book = book_of(self.alloc, self.compiled, query, budget)?;
+        let limits = Limits {
+            units: budget.saturating_sub(self.most),
+            answers: counts.answers.saturating_add(room as u64),
+        };
         match self.begun() {
-            Ok(search) => self.search(search, book, wanted.as_slice(), counts, watch),
+            Ok(search) => self.search(search, book, wanted.as_slice(), limits, counts, watch),
             Err(error) => {
                 mem::drop(book);
                 Err(error)
@@ -202,6 +208,7 @@ impl<'a> KeptSearch<'a> {
         search: Search<'a, Propagators<'a>>,
         book: Book,
         literals: &[i32],
+        limits: Limits,
         counts: &mut Counts,
         watch: &mut W,
     ) -> Result<Option<Report>, AllocError>
@@ -219,7 +226,7 @@ impl<'a> KeptSearch<'a> {
             book,
             literals,
             &mut search,
-            self.most,
+            limits,
             counts,
             watch,
         ) {

@@ -29,6 +29,20 @@ use asp_vars::lit::Lit;
 use std::alloc::AllocError;
 use std::mem;
 
+/// Where a search gives a query up. No contract speaks of this.
+#[derive(Clone, Copy)]
+pub(crate) struct Limits {
+    /// When fewer units are left.
+    pub units: u64,
+    /// When more answers are counted.
+    pub answers: u64,
+}
+
+// Whether the search goes on.
+fn is_within(fuel: &Fuel, counts: &Counts, limits: Limits) -> bool {
+    fuel.left() >= limits.units && counts.answers <= limits.answers
+}
+
 /// How a step left the query.
 #[derive(Clone, Copy)]
 pub(crate) enum Turn {
@@ -104,15 +118,14 @@ fn advance<P: Propagator>(
     }
 }
 
-// Steps until nothing else is to be found, or nothing can be said of the query, or fewer units are left than these. After each the counts
-// are told.
+// Steps until nothing else is to be found, or nothing can be said of the query, or a limit is passed. After each the counts are told.
 fn run<P: Propagator, W: Watch>(
     book: &mut Book,
     literals: &[i32],
     cube: &[Lit],
     search: &mut Search<'_, P>,
     fuel: &mut Fuel,
-    floor: u64,
+    limits: Limits,
     counts: &mut Counts,
     watch: &mut W,
 ) -> Result<Left, AllocError>
@@ -122,7 +135,7 @@ fn run<P: Propagator, W: Watch>(
     ensures heard { W.IsAfter watch.old watch.new }
 {
     'steps: loop {
-        if fuel.left() < floor {
+        if !is_within(fuel, counts, limits) {
             return Ok(Left::Lost);
         }
         search.propagate()?;
@@ -154,7 +167,7 @@ pub(crate) fn work_off<P: Propagator, W: Watch>(
     leaf: Leaf,
     search: &mut Search<'_, P>,
     fuel: &mut Fuel,
-    floor: u64,
+    limits: Limits,
     counts: &mut Counts,
     watch: &mut W,
 ) -> Result<bool, AllocError>
@@ -173,7 +186,7 @@ pub(crate) fn work_off<P: Propagator, W: Watch>(
         cube.as_slice(),
         search,
         fuel,
-        floor,
+        limits,
         counts,
         watch,
     )? {

@@ -54,7 +54,7 @@ fn ask_kept<S, W: Watch>(
         None => Ok(None),
         Some(search) => {
             let mut search = search;
-            let said = search.ask(asking.literals, asking.units, counts, watch);
+            let said = search.ask(asking.literals, asking.units, usize::MAX, counts, watch);
             *kept = Some(search);
             said
         }

@@ -25,7 +25,7 @@ fn empty(alloc: Global) -> Seq<i32>
 }
 
 // The leaf of the whole program, or none where propagation shows that there is no answer.
-fn first_leaf<P: Propagator>(
+pub(crate) fn first_leaf<P: Propagator>(
     alloc: Global,
     compiled: &Compiled,
     state: &mut SearchState<P>,

@@ -3,8 +3,9 @@
 
 pub mod cubes;
 mod divide;
+pub mod divider;
 pub mod laws;
-mod leaf;
+pub mod leaf;
 mod open;
 mod probe;
 mod rounds;

@@ -117,7 +117,8 @@ pub(crate) fn divide_all<P: Propagator>(
     requires leaves { AreLeaves compiled.now first.items }
     requires few { length first.items ≤ parts }
     requires kept { IsProber compiled.now state.old }
-    ensures { IfOk result (λ leaves. IsParted compiled.now first.items leaves.items parts) }
+    ensures kept { IsProber compiled.now state.new }
+    ensures parted { IfOk result (λ leaves. IsParted compiled.now first.items leaves.items parts) }
 {
     let divisions = parts.saturating_mul(4).saturating_add(64);
     let mut round = Round {

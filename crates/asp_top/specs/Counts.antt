@@ -1,5 +1,5 @@
 -- Numbers with their names.
-use Rattle.std.specs.Prelude.{ℕ, Bool, if◌then◌else◌, List, [], ◌∷◌, ◌++◌, codes, decimal}
+use Rattle.std.specs.Prelude.{ℕ, max, Bool, if◌then◌else◌, List, [], ◌∷◌, ◌++◌, codes, decimal}
 use Rattle.asp_crew_laws.specs.declared.report.Report.{Report}
 use Rattle.asp_counts.specs.declared.counts.Counts.{Counts}
 use Rattle.asp_counts.specs.declared.tallies.WorkerCounts.{WorkerCounts}
@@ -44,10 +44,10 @@ item_text i = label_of i.what ++ decimal i.number
 abbrev count_of : What → ℕ → Item
 count_of what number = record { what = what; number = number }
 
--- of a report: the units that were burnt, for each of which a nogood was learnt, the leaves of the tree of paths, and the nogoods
--- that workers shared
-abbrev pub report_items : Report → List Item
-report_items r = count_of Spent r.spent ∷ count_of Leaves r.leaves ∷ count_of Log r.log ∷ []
+-- of a report: the units that were burnt, for each of which a nogood was learnt, or the conflicts that the searches counted where these
+-- are more, as those of a stream that burns none; the leaves of the tree of paths; and the nogoods that workers shared
+abbrev pub report_items : Report → Counts → List Item
+report_items r c = count_of Spent (max r.spent c.conflicts) ∷ count_of Leaves r.leaves ∷ count_of Log r.log ∷ []
 
 -- what the searches did together
 abbrev pub search_items : Counts → List Item

@@ -59,7 +59,7 @@ program_text t = items_text (program_items t) ++ loops_text t.loops
 
 -- the counts of a run, a line each
 abbrev pub stats_of : Tally → Report → List ℕ
-stats_of t r = items_text (report_items r) ++ (items_text (search_items t.search) ++ (workers_text t.workers ++ (program_text t ++ codes "\n")))
+stats_of t r = items_text (report_items r t.search) ++ (items_text (search_items t.search) ++ (workers_text t.workers ++ (program_text t ++ codes "\n")))
 
 abbrev pub counts_of : Tally → Option Report → List ℕ
 counts_of t None = []
@@ -122,28 +122,32 @@ is_idle_stream given mode = given.stream && not (is_streamed given mode)
 abbrev pub stream_text : Options → Mode → List ℕ
 stream_text given mode = if is_idle_stream given mode then codes "aspenum: --stream has no effect: no list of answers is written as lines\n" else []
 
--- a row of slots where one thread searched
+-- a row of slots where one thread searched, or several that share no nogoods
 abbrev pub is_idle_row : Options → Bool
 is_idle_row given = ((given.workers == 1) || given.stream) && is_row given.log
 
 abbrev pub row_text : Options → List ℕ
-row_text given = if is_idle_row given then codes "aspenum: --log has no effect: one thread searches\n" else []
+row_text given = if is_idle_row given then codes "aspenum: --log has no effect: no nogoods are shared\n" else []
+
+-- whether a list of answers is told by as many searches as there are workers: where no budget is given, since these burn no unit
+abbrev pub is_in_parts : Options → Mode → Bool
+is_in_parts given mode = is_streamed given mode && (not (is_optimum mode) && (given.budget == 9223372036854775807))
 
 -- several workers where one thread searched
-abbrev pub is_idle_crew : Options → Bool
-is_idle_crew given = given.stream && not (given.workers == 1)
+abbrev pub is_idle_crew : Options → Mode → Bool
+is_idle_crew given mode = given.stream && (not (given.workers == 1) && not (is_in_parts given mode))
 
-abbrev pub crew_text : Options → List ℕ
-crew_text given = if is_idle_crew given then codes "aspenum: --workers has no effect: --stream searches with one thread\n" else []
+abbrev pub crew_text : Options → Mode → List ℕ
+crew_text given mode = if is_idle_crew given mode then codes "aspenum: --workers has no effect: --stream searches with one thread\n" else []
 
-abbrev pub threads_text : Options → List ℕ
-threads_text given = row_text given ++ crew_text given
+abbrev pub threads_text : Options → Mode → List ℕ
+threads_text given mode = row_text given ++ crew_text given mode
 
 abbrev pub sought_text : Options → Mode → List ℕ
 sought_text given mode = asked_text given mode ++ stream_text given mode
 
 abbrev pub idle_text : Options → Mode → List ℕ
-idle_text given mode = sought_text given mode ++ threads_text given
+idle_text given mode = sought_text given mode ++ threads_text given mode
 
 -- the lines for options that had no effect on what was sought
 abbrev pub idle_of : Options → Option Report → List ℕ

@@ -178,12 +178,12 @@ pub fn put_items<N: Sink>(
     Ok(())
 }
 
-/// What a report counts, in the order of its lines.
-pub fn report_items(report: &Report) -> [Item; 3]
-    ensures { result ≡ report_items report.now }
+/// What a report counts, and the conflicts of the searches where it counts fewer, in the order of its lines.
+pub fn report_items(report: &Report, counts: &Counts) -> [Item; 3]
+    ensures { result ≡ report_items report.now counts.now }
 {
     [
-        Item::of(What::Spent, report.spent),
+        Item::of(What::Spent, report.spent.max(counts.conflicts)),
         Item::of(What::Leaves, report.leaves as u64),
         Item::of(What::Log, report.log as u64),
     ]

@@ -2,13 +2,14 @@
 ghost use Rattle.std.specs.Prelude.{◌≡◌, ◌++◌, codes, decimal};
 ghost use Rattle.asp_buffer.specs.Out.{Puts, out};
 ghost use Rattle.asp_top.specs.Counts.{loop_items, program_items, report_items, search_items};
-ghost use Rattle.asp_top.specs.Notes.{asked_text, counts_if, counts_of, crew_text, idle_of, idle_text, is_answered, is_idle_crew, is_idle_limit, is_idle_request, is_idle_row, is_idle_stream, is_list, is_optimum, is_streamed, items_text, later_notes, limit_text, lists_lines, loops_text, note_of, notes_of, optima_text, program_text, row_text, sought_text, stats_of, stream_text, threads_text, worker_text, workers_text};
+ghost use Rattle.asp_top.specs.Notes.{asked_text, counts_if, counts_of, crew_text, idle_of, idle_text, is_answered, is_idle_crew, is_idle_limit, is_idle_request, is_idle_row, is_idle_stream, is_in_parts, is_list, is_optimum, is_streamed, items_text, later_notes, limit_text, lists_lines, loops_text, note_of, notes_of, optima_text, program_text, row_text, sought_text, stats_of, stream_text, threads_text, worker_text, workers_text};
 ghost use Rattle.asp_faults.specs.Writing.{IsNoted, Writes};
 
 use crate::counts::{
     Tally, loop_items, program_items, put_items, report_items, search_items, worker_items,
 };
 use crate::status::{Outcome, Status};
+use crate::teller::UNLIMITED;
 use crate::usage::write_usage;
 use asp_buffer::{Waiting, flush, put};
 use asp_cli::{Form, Options};
@@ -97,11 +98,16 @@ fn is_answered(status: Status) -> bool
     }
 }
 
-fn put_report<N: Sink>(notes: &mut N, waiting: &mut Waiting, report: &Report) -> Result<(), Failed>
+fn put_report<N: Sink>(
+    notes: &mut N,
+    waiting: &mut Waiting,
+    report: &Report,
+    counts: &Counts,
+) -> Result<(), Failed>
     ensures { Puts (out (N.held notes.old) (N.faults notes.old) waiting.old)
-        (out (N.held notes.new) (N.faults notes.new) waiting.new) result (items_text (report_items report.now)) }
+        (out (N.held notes.new) (N.faults notes.new) waiting.new) result (items_text (report_items report.now counts.now)) }
 {
-    let items = report_items(report);
+    let items = report_items(report, counts);
     put_items(notes, waiting, &items)
 }
 
@@ -174,7 +180,7 @@ fn put_counts<N: Sink>(
     ensures { Puts (out (N.held notes.old) (N.faults notes.old) waiting.old)
         (out (N.held notes.new) (N.faults notes.new) waiting.new) result (stats_of tally.now report.now) }
 {
-    put_report(notes, waiting, report)?;
+    put_report(notes, waiting, report, &tally.search)?;
     put_search(notes, waiting, &tally.search)?;
     put_workers(notes, waiting, tally.workers.as_slice())?;
     put_program(notes, waiting, tally)?;
@@ -322,7 +328,7 @@ fn write_stream<N: Sink>(notes: &mut N, options: &Options, mode: Mode) -> Result
     }
 }
 
-// A row of slots where one thread searched.
+// A row of slots where one thread searched, or several that share no nogoods.
 fn is_idle_row(options: &Options) -> bool
     ensures { result ≡ is_idle_row options.now }
 {
@@ -336,25 +342,32 @@ fn write_row<N: Sink>(notes: &mut N, options: &Options) -> Result<(), Failed>
     if is_idle_row(options) {
         write(
             notes,
-            b"aspenum: --log has no effect: one thread searches\n",
+            b"aspenum: --log has no effect: no nogoods are shared\n",
         )
     } else {
         write(notes, b"")
     }
 }
 
-// Several workers where one thread searched.
-fn is_idle_crew(options: &Options) -> bool
-    ensures { result ≡ is_idle_crew options.now }
+// Whether a list of answers is told by as many searches as there are workers: where no budget is given, since these burn no unit.
+fn is_in_parts(options: &Options, mode: Mode) -> bool
+    ensures { result ≡ is_in_parts options.now mode }
 {
-    options.stream && options.workers != 1
+    is_streamed(options, mode) && !is_optimum(mode) && options.budget == UNLIMITED
 }
 
-fn write_crew<N: Sink>(notes: &mut N, options: &Options) -> Result<(), Failed>
-    ensures { Writes (N.held notes.old) (N.held notes.new) (N.faults notes.old) (N.faults notes.new)
-        result (crew_text options.now) }
+// Several workers where one thread searched.
+fn is_idle_crew(options: &Options, mode: Mode) -> bool
+    ensures { result ≡ is_idle_crew options.now mode }
 {
-    if is_idle_crew(options) {
+    options.stream && options.workers != 1 && !is_in_parts(options, mode)
+}
+
+fn write_crew<N: Sink>(notes: &mut N, options: &Options, mode: Mode) -> Result<(), Failed>
+    ensures { Writes (N.held notes.old) (N.held notes.new) (N.faults notes.old) (N.faults notes.new)
+        result (crew_text options.now mode) }
+{
+    if is_idle_crew(options, mode) {
         write(
             notes,
             b"aspenum: --workers has no effect: --stream searches with one thread\n",
@@ -364,12 +377,12 @@ fn write_crew<N: Sink>(notes: &mut N, options: &Options) -> Result<(), Failed>
     }
 }
 
-fn write_threads<N: Sink>(notes: &mut N, options: &Options) -> Result<(), Failed>
+fn write_threads<N: Sink>(notes: &mut N, options: &Options, mode: Mode) -> Result<(), Failed>
     ensures { Writes (N.held notes.old) (N.held notes.new) (N.faults notes.old) (N.faults notes.new)
-        result (threads_text options.now) }
+        result (threads_text options.now mode) }
 {
     write_row(notes, options)?;
-    write_crew(notes, options)
+    write_crew(notes, options, mode)
 }
 
 fn write_asked<N: Sink>(notes: &mut N, options: &Options, mode: Mode) -> Result<(), Failed>
@@ -394,7 +407,7 @@ fn write_idle<N: Sink>(notes: &mut N, options: &Options, mode: Mode) -> Result<(
         result (idle_text options.now mode) }
 {
     write_sought(notes, options, mode)?;
-    write_threads(notes, options)
+    write_threads(notes, options, mode)
 }
 
 fn write_idle_of<N: Sink>(

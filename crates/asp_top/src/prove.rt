@@ -21,6 +21,7 @@ use crate::search::{plan_of, solve_by_crew};
 use crate::solve::status_for;
 use crate::status::{Outcome, Status};
 use crate::stream::solve_or_stream;
+use crate::teller::Teller;
 use asp_buffer::Waiting;
 use asp_cli::Options;
 use asp_counts::counts::Counts;
@@ -232,7 +233,8 @@ fn prove_by_crew<R: Threads + Wait + Sync, K: Sink, G: Gate + Sync, W: Watch + D
 
 /// One search solves it, or two where all optima are asked for. Where that was asked for its proof is written while it goes on, or a
 /// list of answers while it is found.
-pub fn solve_or_prove<K: Sink, W: Watch>(
+pub fn solve_or_prove<T: Teller, K: Sink, W: Watch>(
+    teller: &T,
     alloc: Global,
     options: &Options,
     prepared: &Prepared,
@@ -240,7 +242,8 @@ pub fn solve_or_prove<K: Sink, W: Watch>(
     tally: &mut Tally,
     watch: &mut W,
 ) -> Outcome
-    requires { IsApart options.now }
+    requires teller { T.able teller.now }
+    requires apart { IsApart options.now }
     ensures solves { (p : Program) → prepared.now ≡ prepared_of options.now p → SolvesAs options.now.proof options.now p (K.held sink.old) (K.held sink.new) (K.faults sink.old) (K.faults sink.new) result }
     ensures flushed { TellsFaults (K.faults sink.old) (K.faults sink.new) result.status }
     ensures sent { IsSentOn result.status (K.is_sent sink.new) }
@@ -251,7 +254,7 @@ pub fn solve_or_prove<K: Sink, W: Watch>(
     if options.proof {
         prove(alloc, options, prepared, sink, tally, watch)
     } else {
-        solve_or_stream(alloc, options, prepared, sink, tally, watch)
+        solve_or_stream(teller, alloc, options, prepared, sink, tally, watch)
     }
 }
 

@@ -27,6 +27,7 @@ use crate::progress::{Progress, end};
 use crate::prove::{solve_or_prove, solve_or_prove_by_crew};
 use crate::series::run_series;
 use crate::status::{Outcome, Status};
+use crate::teller::Teller;
 use crate::usage::note_misuse;
 use asp_cli::{CliError, Options, WordFault, page_back, page_front, usage, version};
 use asp_counts::watch::Watch;
@@ -75,7 +76,8 @@ fn write_version<K: Sink>(sink: &mut K) -> Result<(), Failed>
 }
 
 // Divides the program where parts are asked for, and else solves it by one search.
-fn divide_or_solve<K: Sink, W: Watch>(
+fn divide_or_solve<T: Teller, K: Sink, W: Watch>(
+    teller: &T,
     alloc: Global,
     options: &Options,
     prepared: &Prepared,
@@ -83,6 +85,7 @@ fn divide_or_solve<K: Sink, W: Watch>(
     tally: &mut Tally,
     watch: &mut W,
 ) -> Outcome
+    requires teller { T.able teller.now }
     requires parts { IsPartCount options.now.split }
     requires apart { IsApart options.now }
     ensures does { (p : Program) → prepared.now ≡ prepared_of options.now p → Does options.now p (K.held sink.old) (K.held sink.new) (K.faults sink.old) (K.faults sink.new) result }
@@ -93,13 +96,14 @@ fn divide_or_solve<K: Sink, W: Watch>(
     ensures heard { W.IsAfter watch.old watch.new }
 {
     match options.split {
-        None => solve_or_prove(alloc, options, prepared, sink, tally, watch),
+        None => solve_or_prove(teller, alloc, options, prepared, sink, tally, watch),
         Some(most) => divide(alloc, &prepared.compiled, most, sink),
     }
 }
 
 // The same, where better answers are told.
-fn announced<'a, K: Sink, N: Sink>(
+fn announced<'a, T: Teller, K: Sink, N: Sink>(
+    teller: &T,
     alloc: Global,
     options: &Options,
     prepared: &Prepared,
@@ -107,6 +111,7 @@ fn announced<'a, K: Sink, N: Sink>(
     tally: &mut Tally,
     progress: Progress<'a, N>,
 ) -> (Outcome, Progress<'a, N>)
+    requires teller { T.able teller.now }
     requires parts { IsPartCount options.now.split }
     requires apart { IsApart options.now }
     ensures does { (p : Program) → prepared.now ≡ prepared_of options.now p → Does options.now p (K.held sink.old) (K.held sink.new) (K.faults sink.old) (K.faults sink.new) result.0 }
@@ -124,7 +129,15 @@ fn announced<'a, K: Sink, N: Sink>(
         compiled: &prepared.compiled,
         alloc,
     };
-    let outcome = divide_or_solve(alloc, options, prepared, sink, tally, &mut announcer);
+    let outcome = divide_or_solve(
+        teller,
+        alloc,
+        options,
+        prepared,
+        sink,
+        tally,
+        &mut announcer,
+    );
     let Announcer {
         progress,
         compiled: _,
@@ -134,7 +147,8 @@ fn announced<'a, K: Sink, N: Sink>(
 }
 
 // The outcome of a run after the words, whose program is divided, or solved by one search. Who tells of it comes back.
-fn outcome_alone<'a, S: Source, K: Sink, N: Sink>(
+fn outcome_alone<'a, T: Teller, S: Source, K: Sink, N: Sink>(
+    teller: &T,
     alloc: Global,
     options: &Options,
     source: &mut S,
@@ -142,6 +156,7 @@ fn outcome_alone<'a, S: Source, K: Sink, N: Sink>(
     tally: &mut Tally,
     mut progress: Progress<'a, N>,
 ) -> (Outcome, Progress<'a, N>)
+    requires teller { T.able teller.now }
     requires ring { IsRing options.now.make }
     requires parts { IsPartCount options.now.split }
     requires apart { IsApart options.now }
@@ -160,7 +175,7 @@ fn outcome_alone<'a, S: Source, K: Sink, N: Sink>(
     match prepare(alloc, options, source) {
         Ok(prepared) => {
             progress.weigh(options, &prepared.compiled);
-            let done = announced(alloc, options, &prepared, sink, tally, progress);
+            let done = announced(teller, alloc, options, &prepared, sink, tally, progress);
             mem::drop(prepared);
             done
         }
@@ -169,7 +184,7 @@ fn outcome_alone<'a, S: Source, K: Sink, N: Sink>(
 }
 
 // The outcome of a run after the words that starts no workers, with queries or without.
-fn outcome<'a, V: Solver, S: Source, K: Sink, N: Sink>(
+fn outcome<'a, V: Solver + Teller, S: Source, K: Sink, N: Sink>(
     alloc: Global,
     solver: &V,
     options: &Options,
@@ -179,6 +194,7 @@ fn outcome<'a, V: Solver, S: Source, K: Sink, N: Sink>(
     mut progress: Progress<'a, N>,
 ) -> (Outcome, Progress<'a, N>)
     requires solver { V.may solver.now }
+    requires teller { V.able solver.now }
     requires ring { IsRing options.now.make }
     requires parts { IsPartCount options.now.split }
     requires apart { IsApart options.now }
@@ -200,7 +216,7 @@ fn outcome<'a, V: Solver, S: Source, K: Sink, N: Sink>(
         let outcome = run_series(alloc, solver, options, source, sink, &mut progress);
         (outcome, progress)
     } else {
-        outcome_alone(alloc, options, source, sink, tally, progress)
+        outcome_alone(solver, alloc, options, source, sink, tally, progress)
     }
 }
 
@@ -285,7 +301,7 @@ fn outcome_by_crew<'a, R: Threads + Wait + Sync, S: Source, K: Sink, N: Sink, G:
 }
 
 // A run after the words with one search; queries that are searched from scratch are the solver's.
-fn run_with<V: Solver, S: Source, K: Sink, N: Sink>(
+fn run_with<V: Solver + Teller, S: Source, K: Sink, N: Sink>(
     alloc: Global,
     solver: &V,
     options: &Options,
@@ -294,6 +310,7 @@ fn run_with<V: Solver, S: Source, K: Sink, N: Sink>(
     notes: &mut N,
 ) -> Outcome
     requires solver { V.may solver.now }
+    requires teller { V.able solver.now }
     requires ring { IsRing options.now.make }
     requires parts { IsPartCount options.now.split }
     requires apart { IsApart options.now }

@@ -22,6 +22,7 @@ use crate::notes::is_streamed;
 use crate::search::solve;
 use crate::solve::status_by;
 use crate::status::{Outcome, Status};
+use crate::teller::Teller;
 use asp_cli::{Form, Options};
 use asp_counts::counts::Counts;
 use asp_counts::watch::Watch;
@@ -35,7 +36,7 @@ use asp_prepare::asked::ask_of;
 use asp_prepare::layout::Layout;
 use asp_prepare::prepared::Prepared;
 use asp_rows::rows::Rows;
-use asp_stream::{End as StreamEnd, Told, into_joined, into_report, stream_alone, stream_ties};
+use asp_stream::{End as StreamEnd, Told, into_joined, into_report, stream_ties};
 use asp_vars::compiled::Compiled;
 use asp_vars::fuel::Fuel;
 use std::alloc::{AllocError, Global};
@@ -227,7 +228,8 @@ fn hand_back<K: Sink>(_sink: &mut K)
 {}
 
 // One search tells all answers; after a first one that found what optima cost, with the units that it left, all optima.
-fn tell<W: Watch, R: Reader>(
+fn tell<T: Teller, W: Watch, R: Reader>(
+    teller: &T,
     alloc: Global,
     compiled: &Compiled,
     budget: u64,
@@ -236,6 +238,7 @@ fn tell<W: Watch, R: Reader>(
     watch: &mut W,
     reader: &mut R,
 ) -> Result<Told, AllocError>
+    requires teller { T.able teller.now }
     requires first { IsFirstOf compiled.now budget first.now }
     requires program { R.program reader.old ≡ compiled.now }
     requires all { R.all reader.old ≡ whole_list (mode_after first.now) compiled.now }
@@ -247,7 +250,7 @@ fn tell<W: Watch, R: Reader>(
     ensures heard { W.IsAfter watch.old watch.new }
 {
     match first {
-        None => stream_alone(alloc, compiled, budget, counts, watch, reader),
+        None => teller.tell(alloc, compiled, budget, counts, watch, reader),
         Some(first) => match &first.results.best {
             None => unreachable!(),
             Some((best, _)) => {
@@ -260,7 +263,8 @@ fn tell<W: Watch, R: Reader>(
 
 // One search finds all answers, or after a first search that found an optimum all optima; or the first so many. Each is written as soon
 // as no smaller one can come.
-fn stream<K: Sink, W: Watch>(
+fn stream<T: Teller, K: Sink, W: Watch>(
+    teller: &T,
     alloc: Global,
     options: &Options,
     compiled: &Compiled,
@@ -269,7 +273,8 @@ fn stream<K: Sink, W: Watch>(
     counts: &mut Counts,
     watch: &mut W,
 ) -> Outcome
-    requires { IsFirstOf compiled.now options.now.budget first }
+    requires teller { T.able teller.now }
+    requires first { IsFirstOf compiled.now options.now.budget first }
     ensures streams { Streams compiled.now (mode_after first) options.now.budget options.now.models (K.held sink.old) (K.held sink.new) (K.faults sink.old) (K.faults sink.new) result }
     ensures sent { IsSentOn result.status (K.is_sent sink.new) }
     ensures closed { TellsClosed result.status (K.is_closed sink.new) }
@@ -284,6 +289,7 @@ fn stream<K: Sink, W: Watch>(
         options.models as usize,
     );
     let told = tell(
+        teller,
         alloc,
         compiled,
         options.budget,
@@ -332,7 +338,8 @@ fn as_lines() -> Layout
 }
 
 // A first search finds what optima cost, and if it does a second one tells them. Else what the first one found is written.
-fn stream_optima<K: Sink, W: Watch>(
+fn stream_optima<T: Teller, K: Sink, W: Watch>(
+    teller: &T,
     alloc: Global,
     options: &Options,
     compiled: &Compiled,
@@ -340,6 +347,7 @@ fn stream_optima<K: Sink, W: Watch>(
     counts: &mut Counts,
     watch: &mut W,
 ) -> Outcome
+    requires teller { T.able teller.now }
     ensures streams { Streams compiled.now Opt options.now.budget options.now.models (K.held sink.old) (K.held sink.new) (K.faults sink.old) (K.faults sink.new) result }
     ensures sent { IsSentOn result.status (K.is_sent sink.new) }
     ensures closed { TellsClosed result.status (K.is_closed sink.new) }
@@ -354,7 +362,16 @@ fn stream_optima<K: Sink, W: Watch>(
     match solve_alone(alloc, compiled, ask, options.budget, counts, watch, None) {
         Ok(first) => {
             if has_optimum(&first) {
-                stream(alloc, options, compiled, Some(first), sink, counts, watch)
+                stream(
+                    teller,
+                    alloc,
+                    options,
+                    compiled,
+                    Some(first),
+                    sink,
+                    counts,
+                    watch,
+                )
             } else {
                 deliver(alloc, sink, as_lines(), compiled.program(), first)
             }
@@ -364,7 +381,8 @@ fn stream_optima<K: Sink, W: Watch>(
 }
 
 // Which list is written while it is found: that of answers, or of optima.
-fn stream_one<K: Sink, W: Watch>(
+fn stream_one<T: Teller, K: Sink, W: Watch>(
+    teller: &T,
     alloc: Global,
     options: &Options,
     compiled: &Compiled,
@@ -373,21 +391,23 @@ fn stream_one<K: Sink, W: Watch>(
     counts: &mut Counts,
     watch: &mut W,
 ) -> Outcome
-    requires { is_list true mode ≡ true }
+    requires teller { T.able teller.now }
+    requires listed { is_list true mode ≡ true }
     ensures streams { Streams compiled.now mode options.now.budget options.now.models (K.held sink.old) (K.held sink.new) (K.faults sink.old) (K.faults sink.new) result }
     ensures sent { IsSentOn result.status (K.is_sent sink.new) }
     ensures closed { TellsClosed result.status (K.is_closed sink.new) }
     ensures heard { W.IsAfter watch.old watch.new }
 {
     match mode {
-        Mode::Enum => stream(alloc, options, compiled, None, sink, counts, watch),
-        Mode::Opt => stream_optima(alloc, options, compiled, sink, counts, watch),
+        Mode::Enum => stream(teller, alloc, options, compiled, None, sink, counts, watch),
+        Mode::Opt => stream_optima(teller, alloc, options, compiled, sink, counts, watch),
         Mode::Consequences(_) => unreachable!(),
     }
 }
 
 // The list is written while it is found, and what was done is counted.
-fn stream_list<K: Sink, W: Watch>(
+fn stream_list<T: Teller, K: Sink, W: Watch>(
+    teller: &T,
     alloc: Global,
     options: &Options,
     compiled: &Compiled,
@@ -396,7 +416,8 @@ fn stream_list<K: Sink, W: Watch>(
     tally: &mut Tally,
     watch: &mut W,
 ) -> Outcome
-    requires { is_list true mode ≡ true }
+    requires teller { T.able teller.now }
+    requires listed { is_list true mode ≡ true }
     ensures streams { Streams compiled.now mode options.now.budget options.now.models (K.held sink.old) (K.held sink.new) (K.faults sink.old) (K.faults sink.new) result }
     ensures sent { IsSentOn result.status (K.is_sent sink.new) }
     ensures closed { TellsClosed result.status (K.is_closed sink.new) }
@@ -404,7 +425,16 @@ fn stream_list<K: Sink, W: Watch>(
     ensures heard { W.IsAfter watch.old watch.new }
 {
     let mut counts = Counts::new();
-    let outcome = stream_one(alloc, options, compiled, mode, sink, &mut counts, watch);
+    let outcome = stream_one(
+        teller,
+        alloc,
+        options,
+        compiled,
+        mode,
+        sink,
+        &mut counts,
+        watch,
+    );
     let loops = loops(alloc, compiled, options.stats);
     *tally = Tally::of(compiled, loops, counts, Vec::new(alloc));
     outcome
@@ -412,7 +442,8 @@ fn stream_list<K: Sink, W: Watch>(
 
 /// One search solves it, or two where all optima are asked for. Where that was asked for, a list of answers or of optima is written while
 /// it is found.
-pub fn solve_or_stream<K: Sink, W: Watch>(
+pub fn solve_or_stream<T: Teller, K: Sink, W: Watch>(
+    teller: &T,
     alloc: Global,
     options: &Options,
     prepared: &Prepared,
@@ -420,7 +451,8 @@ pub fn solve_or_stream<K: Sink, W: Watch>(
     tally: &mut Tally,
     watch: &mut W,
 ) -> Outcome
-    requires { IsApart options.now }
+    requires teller { T.able teller.now }
+    requires apart { IsApart options.now }
     ensures solves { (p : Program) → prepared.now ≡ prepared_of options.now p → SolvesBy (streams options.now p) options.now p (K.held sink.old) (K.held sink.new) (K.faults sink.old) (K.faults sink.new) result }
     ensures flushed { TellsFaults (K.faults sink.old) (K.faults sink.new) result.status }
     ensures sent { IsSentOn result.status (K.is_sent sink.new) }
@@ -431,6 +463,7 @@ pub fn solve_or_stream<K: Sink, W: Watch>(
     let ask = ask_of(options, prepared.compiled.program());
     if is_streamed(options, ask.mode) {
         stream_list(
+            teller,
             alloc,
             options,
             &prepared.compiled,

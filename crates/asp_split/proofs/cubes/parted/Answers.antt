@@ -10,14 +10,14 @@ use Rattle.asp_split.proofs.cubes.parted.Goals as goal
 pub returns-clause-answers : goal.returns-clause-answers
 returns-clause-answers g c =
     let p = c.args.compiled.now in
-    let d = c.in_ok-leaves.ensures in
+    let d = c.in_ok-leaves.ensures.parted in
     let is = cubes_of-answers p c.in_ok-leaves.leaves.items d.leaves (d.sets ∙ c.in_ok-first.ensures.first.sets) in
     IfOk-weaker c.cubes_of.result _ _ (λ cubes e. subst (λ (qs : List (List ℤ)). answers_of_parts p qs ≡ answers p) (sym e) is) c.cubes_of.ensures
 
 pub returns-clause-stand : goal.returns-clause-stand
 returns-clause-stand g c =
     let p = c.args.compiled.now in
-    let d = c.in_ok-leaves.ensures in
+    let d = c.in_ok-leaves.ensures.parted in
     IfOk-weaker c.cubes_of.result _ _
     (λ cubes e. subst (λ (qs : List (List ℤ)). AllByRecursion (AreStanding p) qs) (sym e) (cubes_of-stand p c.in_ok-leaves.leaves.items d.leaves)) c.cubes_of.ensures
 
@@ -27,6 +27,6 @@ returns-clause-some g c =
 
 pub returns-clause-few : goal.returns-clause-few
 returns-clause-few g c =
-    let d = c.in_ok-leaves.ensures in
+    let d = c.in_ok-leaves.ensures.parted in
     IfOk-weaker c.cubes_of.result _ _
     (λ cubes e. subst (λ (qs : List (List ℤ)). length qs ≤ c.args.parts) (sym e) (cubes_of-few c.in_ok-leaves.leaves.items c.args.parts c.requires.some d.few)) c.cubes_of.ensures

@@ -16,25 +16,25 @@ abbrev rest : Tally → List ℕ
 rest t = items_text (search_items t.search) ++ more t
 
 pub returns-in_err-put_report : goal.returns-in_err-put_report
-returns-in_err-put_report g c = puts_fails _ _ _ _ _ (items_text (report_items c.args.report.now)) (rest c.args.tally.now) c.in_err-put_report.ensures c.from_residual.ensures.1
+returns-in_err-put_report g c = puts_fails _ _ _ _ _ (items_text (report_items c.args.report.now c.args.tally.now.search)) (rest c.args.tally.now) c.in_err-put_report.ensures c.from_residual.ensures.1
 
 pub returns-in_err-put_search : goal.returns-in_err-put_search
 returns-in_err-put_search g c =
     let t : Tally = c.args.tally.now in
-    puts_then _ _ _ _ _ (items_text (report_items c.args.report.now)) (rest t) c.in_ok-put_report.ensures
+    puts_then _ _ _ _ _ (items_text (report_items c.args.report.now t.search)) (rest t) c.in_ok-put_report.ensures
     (puts_fails _ _ _ _ _ (items_text (search_items t.search)) (more t) c.in_err-put_search.ensures c.from_residual-in_err-put_search.ensures.1)
 
 pub returns-in_err-put_workers : goal.returns-in_err-put_workers
 returns-in_err-put_workers g c =
     let t : Tally = c.args.tally.now in
-    puts_then _ _ _ _ _ (items_text (report_items c.args.report.now)) (rest t) c.in_ok-put_report.ensures
+    puts_then _ _ _ _ _ (items_text (report_items c.args.report.now t.search)) (rest t) c.in_ok-put_report.ensures
     (puts_then _ _ _ _ _ (items_text (search_items t.search)) (more t) c.in_ok-put_search.ensures
     (puts_fails _ _ _ _ _ (workers_text t.workers) (ends t) (rw c.as_slice.ensures.value at c.in_err-put_workers.ensures) c.from_residual-in_err-put_workers.ensures.1))
 
 pub returns-in_err-put_program : goal.returns-in_err-put_program
 returns-in_err-put_program g c =
     let t : Tally = c.args.tally.now in
-    puts_then _ _ _ _ _ (items_text (report_items c.args.report.now)) (rest t) c.in_ok-put_report.ensures
+    puts_then _ _ _ _ _ (items_text (report_items c.args.report.now t.search)) (rest t) c.in_ok-put_report.ensures
     (puts_then _ _ _ _ _ (items_text (search_items t.search)) (more t) c.in_ok-put_search.ensures
     (puts_then _ _ _ _ _ (workers_text t.workers) (ends t) (rw c.as_slice.ensures.value at c.in_ok-put_workers.ensures)
     (puts_fails _ _ _ _ _ (program_text t) (10 ∷ []) c.in_err-put_program.ensures c.from_residual-in_err-put_program.ensures.1)))
@@ -42,7 +42,7 @@ returns-in_err-put_program g c =
 pub returns : goal.returns
 returns g c =
     let t : Tally = c.args.tally.now in
-    puts_then _ _ _ _ _ (items_text (report_items c.args.report.now)) (rest t) c.in_ok-put_report.ensures
+    puts_then _ _ _ _ _ (items_text (report_items c.args.report.now t.search)) (rest t) c.in_ok-put_report.ensures
     (puts_then _ _ _ _ _ (items_text (search_items t.search)) (more t) c.in_ok-put_search.ensures
     (puts_then _ _ _ _ _ (workers_text t.workers) (ends t) (rw c.as_slice.ensures.value at c.in_ok-put_workers.ensures)
     (puts_then _ _ _ _ _ (program_text t) (10 ∷ []) c.in_ok-put_program.ensures c.put.ensures)))

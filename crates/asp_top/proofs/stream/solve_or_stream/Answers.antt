@@ -2,8 +2,8 @@ use Rattle.std.proofs.Common.{◌∙◌}
 use Rattle.asp_top.proofs.EndLaws.{solves-at-once, solves-streamed, streamed-as, streamed-list, streams-told}
 use Rattle.asp_top.proofs.stream.solve_or_stream.Goals as goal
 
-pub stream_list-requires : goal.stream_list-requires
-stream_list-requires g c = streamed-list c.args.options.now c.ask_of-ask.result.mode c.is_streamed.result c.is_streamed.ensures c.if-is_streamed.true
+pub stream_list-requires-clause-listed : goal.stream_list-requires-clause-listed
+stream_list-requires-clause-listed g c = streamed-list c.args.options.now c.ask_of-ask.result.mode c.is_streamed.result c.is_streamed.ensures c.if-is_streamed.true
 
 pub returns-then-is_streamed-clause-solves : goal.returns-then-is_streamed-clause-solves
 returns-then-is_streamed-clause-solves g c = λ p is.

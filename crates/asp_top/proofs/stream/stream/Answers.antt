@@ -12,11 +12,11 @@ tell-told-requires-clause-all g c = ap (λ (l : Heard). l.all) c.new-outlet.ensu
     ∙ list-is c.is_some.result c.program.result.now c.args.compiled.now c.args.first c.is_some.ensures c.program.ensures.program
 
 pub end_run-outcome-requires-clause-mode : goal.end_run-outcome-requires-clause-mode
-end_run-outcome-requires-clause-mode g c = mode-of-first c.args.compiled.now c.args.options.now.budget c.args.first c.requires
+end_run-outcome-requires-clause-mode g c = mode-of-first c.args.compiled.now c.args.options.now.budget c.args.first c.requires.first
 
 pub end_run-outcome-requires-clause-rest : goal.end_run-outcome-requires-clause-rest
 end_run-outcome-requires-clause-rest g c =
-    rest-after c.tell-told.result c.args.compiled.now _ c.args.options.now.budget c.args.first _ _ c.requires c.tell-told.ensures.front.program c.tell-told.ensures.told
+    rest-after c.tell-told.result c.args.compiled.now _ c.args.options.now.budget c.args.first _ _ c.requires.first c.tell-told.ensures.front.program c.tell-told.ensures.told
 
 pub returns-clause-streams : goal.returns-clause-streams
 returns-clause-streams g c =
@@ -38,7 +38,7 @@ returns-clause-streams g c =
     let limited = told.after.4 (limited-start begun.models begun.outlet.listing.sets begun.left begun.short none c.new-outlet.ensures.left) in
     let models : reader.models ≡ c.args.options.now.models = told.after.2 ∙ c.new-outlet.ensures.models in
     let inner = streams-of c.tell-told.result p reader.outlet.listing.program reader.outlet.listing.all first units reader.models reader.outlet.listing.sets reader.left reader.outlet.failed
-    reader.short h (g.K.Sink.held ended.new.outlet.outlet.sink.now) w (g.K.Sink.faults ended.new.outlet.outlet.sink.now) ended.result c.requires told.front.program list front limited
+    reader.short h (g.K.Sink.held ended.new.outlet.outlet.sink.now) w (g.K.Sink.faults ended.new.outlet.outlet.sink.now) ended.result c.requires.first told.front.program list front limited
     told.told told.some (ended.ensures.ends (moment [] h w false) refl refl after) in
     streams-moved g.K.Sink.held g.K.Sink.faults p (mode_after first) units c.args.options.now.models h w _ c.hand_back.new._sink ended.result
     (search (rules, ended.ensures.same, told.after.0, c.new-outlet.ensures.same))

@@ -5,8 +5,8 @@ use Rattle.asp_top.proofs.AfterLaws.{delivers-by, first-alone, first-found}
 use Rattle.asp_top.proofs.EndLaws.{cut-unwritten}
 use Rattle.asp_top.proofs.stream.stream_optima.Goals as goal
 
-pub stream-requires : goal.stream-requires
-stream-requires g c = first-found c.args.compiled.now c.args.options.now.budget c.in-Ok.first c.in-Ok.ensures.report (sym c.has_optimum.ensures ∙ c.if-has_optimum.true)
+pub stream-requires-clause-first : goal.stream-requires-clause-first
+stream-requires-clause-first g c = first-found c.args.compiled.now c.args.options.now.budget c.in-Ok.first c.in-Ok.ensures.report (sym c.has_optimum.ensures ∙ c.if-has_optimum.true)
 
 pub returns-else-has_optimum-clause-streams : goal.returns-else-has_optimum-clause-streams
 returns-else-has_optimum-clause-streams g c =

@@ -3,14 +3,14 @@ use Rattle.asp_top.proofs.AfterLaws.{best-is, best-there, first-is, list-none, l
 use Rattle.asp_top.proofs.stream.tell.Goals as goal
 
 -- ---- all answers
-pub stream_alone-requires-clause-all : goal.stream_alone-requires-clause-all
-stream_alone-requires-clause-all g c = c.requires.all ∙ list-none c.args.first.now c.args.compiled.now c.in-None.is
+pub tell-requires-clause-all : goal.tell-requires-clause-all
+tell-requires-clause-all g c = c.requires.all ∙ list-none c.args.first.now c.args.compiled.now c.in-None.is
 
 pub returns-in-None-clause-told : goal.returns-in-None-clause-told
-returns-in-None-clause-told g c = told-none c.stream_alone.result c.args.first.now c.args.compiled.now c.args.budget _ _ c.in-None.is c.stream_alone.ensures.told
+returns-in-None-clause-told g c = told-none c.tell.result c.args.first.now c.args.compiled.now c.args.budget _ _ c.in-None.is c.tell.ensures.told
 
 pub returns-in-None-clause-some : goal.returns-in-None-clause-some
-returns-in-None-clause-some g c = some-none c.stream_alone.result c.args.first.now _ c.in-None.is
+returns-in-None-clause-some g c = some-none c.tell.result c.args.first.now _ c.in-None.is
 
 -- ---- all optima
 pub unreachable-requires : goal.unreachable-requires

@@ -1,0 +1,6 @@
+mod CourseLaws
+mod EndLaws
+mod FoundLaws
+mod PartLaws
+mod RoundLaws
+mod RunLaws
