@@ -76,7 +76,8 @@ refuse 'an example' examples/colouring.aspif --proof
 refuse 'an optimum' examples/independent_set.aspif --opt-all
 printf 'asp 1 0 0\n1 1 9 1 2 3 4 5 6 7 8 9 0 0\n0\n' > "$room/free"
 refuse '512 answers, as they come' "$room/free" --mode enum --stream
-refuse '512 answers, as they come' "$room/free" --mode enum --stream --workers 4
+printf 'asp 1 0 0\n1 1 10 1 2 3 4 5 6 7 8 9 10 0 0\n0\n' > "$room/more"
+refuse '1024 answers, as they come' "$room/more" --mode enum --stream --workers 4
 refuse 'the first 100 of 512 answers' "$room/free" --mode enum --stream --models 100
 refuse '512 optima, as they come' "$room/free" --mode opt --opt-all --stream
 refuse 'the first 100 of 512 optima' "$room/free" --mode opt --opt-all --stream --models 100

@@ -32,6 +32,9 @@ const PIECES: usize = 8;
 /// So many times fewer answers are sought of a part where the ones before had too many.
 const FALLING: usize = 16;
 
+/// A program has at most so many variables: each part costs a propagation of them.
+const MOST_VARIABLES: u32 = 16_384;
+
 /// So many conflicts may the first search meet that tries the program.
 pub(crate) const TRIED_UNITS: u64 = 512;
 
@@ -75,6 +78,8 @@ pub(crate) struct Limit {
     width: usize,
     /// By so much less wide are the next parts where one has too many answers.
     step: usize,
+    /// By so much wider are they where one takes little.
+    rise: usize,
 }
 
 impl Limit {
@@ -83,11 +88,13 @@ impl Limit {
         Limit {
             width: usize::MAX,
             step: 1,
+            rise: 1,
         }
     }
 
     /// A part that is so wide was given up. Where too many answers were found of one after another, the limit falls faster each time.
     pub fn lose(&mut self, width: usize, crowded: bool) {
+        self.rise = 1;
         let step = if crowded { self.step } else { 1 };
         self.width = self.width.min(width.saturating_sub(step));
         if crowded {
@@ -95,12 +102,16 @@ impl Limit {
         }
     }
 
-    /// A part was searched to its end, with so many answers and conflicts. Where it took little, wider ones are searched.
+    /// A part was searched to its end, with so many answers and conflicts. Where it took little, wider ones are searched, and the more
+    /// of them did the wider.
     pub fn find(&mut self, allowance: Allowance, answers: u64, conflicts: u64) {
         self.step = 1;
         let little = answers < allowance.room as u64 / 32 && conflicts < allowance.units / 32;
         if little {
-            self.width = self.width.saturating_add(1);
+            self.width = self.width.saturating_add(self.rise);
+            self.rise = self.rise.saturating_mul(2);
+        } else {
+            self.rise = 1;
         }
     }
 
@@ -207,4 +218,9 @@ pub(crate) fn units_of(allowance: Allowance, tries: u32) -> u64 {
 /// Whether answers come fast enough for several searches, which share no nogoods: so many were found by the first search that tried.
 pub(crate) fn is_rich(answers: u64) -> bool {
     answers >= TRIED_ANSWERS
+}
+
+/// Whether a program has few enough variables for several searches.
+pub(crate) fn is_small(variables: u32) -> bool {
+    variables <= MOST_VARIABLES
 }

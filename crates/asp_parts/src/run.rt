@@ -12,7 +12,7 @@ ghost use Rattle.asp_parts.specs.Rounds.{AreWorkers, IsBench};
 
 use crate::course::{Course, ripen, tell_all};
 use crate::end::told;
-use crate::pace::{Limit, Pace, TRIED_ROOM, TRIED_UNITS, first_pieces, is_rich};
+use crate::pace::{Limit, Pace, TRIED_ROOM, TRIED_UNITS, first_pieces, is_rich, is_small};
 use crate::part::Part;
 use crate::round::{Crew, round};
 use crate::worker::{Bench, Worker, put_all};
@@ -294,8 +294,11 @@ fn go_through<T: Threads + Wait + Sync, W: Watch, R: Reader>(
     unreachable!()
 }
 
-// Whether several searches are of use: where all answers are found at once, or hardly one is, one search does as well.
+// Whether several searches are of use: where the program is large, all answers are found at once, or hardly one is, one search does as well.
 fn is_of_use(alloc: Global, compiled: &Compiled, counts: &mut Counts) -> Result<bool, AllocError> {
+    if !is_small(compiled.vars()) {
+        return Ok(false);
+    }
     let before = *counts;
     let mut search = KeptSearch::new(alloc, compiled, u64::MAX);
     let whole: [i32; 0] = [];
